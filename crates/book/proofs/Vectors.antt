@@ -1,0 +1,34 @@
+-- Theorems about the definitions, by computation: the starred line of document 01 on checks, and that the small shop is
+-- accepted with its three rules. Assumes nothing.
+use Prim.Native.Nat.{ℕ}
+use mathlib.Core.Path.{_≡_, refl}
+use mathlib.Core.List.{List, [], _∷_, _++_}
+use lib.ListN.{replicate}
+use Rattle.book.specs.Lists.{all, any, upTo, from}
+use Rattle.book.specs.Sets.{has}
+use Rattle.book.specs.Hierarchies.{upwardIn, upward, under, leaf, covers, properDescendant, ownedBy, support}
+use Rattle.book.specs.Hierarchies.{parentHolds}
+use Rattle.book.specs.Head.{isUser, isDataLeaf, supportOf, supports}
+use Rattle.book.specs.Rule.{inLeafSet}
+use Rattle.book.specs.Blocks.{weighted, checkSum, checkHolds}
+use Rattle.book.specs.Refusals.{between, zeros, lengthHolds, kindHolds, usersCounted, dataCounted, columnsCounted}
+use Rattle.book.specs.Refusals.{functionsCounted, ruleCounts, referenceEnd, ruleZeros, ruleCounted, usersOrdered}
+use Rattle.book.specs.Refusals.{dataOrdered, labelHolds, labelsHold, functionsHold, userNumbersHold}
+use Rattle.book.specs.Refusals.{referenceHolds, numbersHold, leafSetsApart, referencesApart, maskAllows, maskHolds}
+use Rattle.book.specs.Refusals.{masksHold, ruleTests, contentTests, passTests, lengthTests, firstFailing}
+use Rattle.book.specs.Answers.{refuse, atBlocks, checkAnswer, withCheck, sealBytes}
+use Rattle.book.specs.Shop.{padded, block, users, categories, columns, functions, rule, rule0, rule1, rule2, shop}
+use Rattle.book.specs.declared.Checked.{Checked}
+use Rattle.book.specs.declared.Checked.the-variants.{Accepted}
+
+-- "* A block of kind 4, all else zero, has check 4; a block with only byte 509 set, to 255, has 64,529."
+pub starred-checks :
+    _≡_ {A = List ℕ}
+    (checkSum (4 ∷ replicate 511 0) ∷ checkSum (replicate 509 0 ++ (255 ∷ 0 ∷ 0 ∷ [])) ∷ [])
+    (4 ∷ 64529 ∷ [])
+unfolding checkSum weighted
+starred-checks = refl
+
+pub shop-accepted : _≡_ {A = Checked} (checkAnswer shop) (Accepted 3)
+unfolding all any upTo from has upwardIn upward under leaf covers properDescendant ownedBy support parentHolds isUser isDataLeaf supportOf supports inLeafSet weighted checkSum checkHolds between zeros lengthHolds kindHolds usersCounted dataCounted columnsCounted functionsCounted ruleCounts referenceEnd ruleZeros ruleCounted usersOrdered dataOrdered labelHolds labelsHold functionsHold userNumbersHold referenceHolds numbersHold leafSetsApart referencesApart maskAllows maskHolds masksHold ruleTests contentTests passTests lengthTests firstFailing refuse atBlocks checkAnswer withCheck sealBytes padded block users categories columns functions rule rule0 rule1 rule2 shop
+shop-accepted = refl

@@ -1,0 +1,104 @@
+use borrow.Author.Needs.{needs}
+use Prim.Native.Nat.{ℕ, _<_}
+use borrow.Fn.Kinds.{In}
+use borrow.Fn.PlainCycle.{Measures, is, falls, and}
+use Rattle.book.proofs.categories.support.Reads as support
+use Rattle.book.proofs.categories.support.Kinds as support-kinds
+use Rattle.book.proofs.categories.+support.Lts-support as support-lts
+use Rattle.book.proofs.fields.own_operations.Reads as own-operations-reads
+use Rattle.book.proofs.fields.parent.Reads as parent-reads
+use Rattle.book.proofs.categories.+support.{statement}
+use Rattle.book.proofs.categories.+support.Tie.{close}
+
+abbrev μ-support : Measures 1 support-kinds.ps ℕ
+μ-support κs a = ?
+
+abbrev support-at : ℕ → In 1 support-kinds.ps
+support-at t = and 1 support-kinds.ps (is 1 support-kinds.ps μ-support t) support.Pre
+
+abbrev support-below : ℕ → In 1 support-kinds.ps
+support-below t = and 1 support-kinds.ps (falls 1 support-kinds.ps _<_ μ-support t) support.Pre
+
+-- src/categories.rt:82:9
+support-own-operations-requires : (t : ℕ) → support-lts.Need-own-operations-requires (
+  own-operations-reads.Asked,
+  own-operations-reads.Learnt,
+  parent-reads.Asked,
+  parent-reads.Learnt,
+  support-below t,
+  support.Post,
+) (support-at t) support.Post
+support-own-operations-requires t c κs = search needs
+
+-- src/categories.rt:83:9
+support-parent-requires : (t : ℕ) → support-lts.Need-parent-requires (
+  own-operations-reads.Asked,
+  own-operations-reads.Learnt,
+  parent-reads.Asked,
+  parent-reads.Learnt,
+  support-below t,
+  support.Post,
+) (support-at t) support.Post
+support-parent-requires t c κs = search needs
+
+-- src/categories.rt:85:36
+support-cast-support : (t : ℕ) → support-lts.Need-cast-support (
+  own-operations-reads.Asked,
+  own-operations-reads.Learnt,
+  parent-reads.Asked,
+  parent-reads.Learnt,
+  support-below t,
+  support.Post,
+) (support-at t) support.Post
+support-cast-support t c = search needs
+
+-- src/categories.rt:85:22
+support-support-requires : (t : ℕ) → support-lts.Need-support-requires (
+  own-operations-reads.Asked,
+  own-operations-reads.Learnt,
+  parent-reads.Asked,
+  parent-reads.Learnt,
+  support-below t,
+  support.Post,
+) (support-at t) support.Post
+support-support-requires t c κs = search needs
+
+-- src/categories.rt:85:9
+support-returns : (t : ℕ) → support-lts.Need-returns (
+  own-operations-reads.Asked,
+  own-operations-reads.Learnt,
+  parent-reads.Asked,
+  parent-reads.Learnt,
+  support-below t,
+  support.Post,
+) (support-at t) support.Post
+support-returns t c = search needs
+
+-- src/categories.rt:79:1
+support-returns-2 : (t : ℕ) → support-lts.Need-returns-2 (
+  own-operations-reads.Asked,
+  own-operations-reads.Learnt,
+  parent-reads.Asked,
+  parent-reads.Learnt,
+  support-below t,
+  support.Post,
+) (support-at t) support.Post
+support-returns-2 t c = search needs
+
+pub +support-spec : {M : Type 1} → statement M
++support-spec = close μ-support λ t. support-lts.spec (
+  own-operations-reads.Asked,
+  own-operations-reads.Learnt,
+  parent-reads.Asked,
+  parent-reads.Learnt,
+  support-below t,
+  support.Post,
+)
+    (support-at t)
+    support.Post
+    (support-own-operations-requires t)
+    (support-parent-requires t)
+    (support-cast-support t)
+    (support-support-requires t)
+    (support-returns t)
+    (support-returns-2 t)

@@ -1,0 +1,66 @@
+use borrow.Author.Needs.{needs}
+use Rattle.book.proofs.contents.exclusion_counts_hold.Statement.{statement}
+use Rattle.book.proofs.contents.exclusion_counts_hold.Tie as tie
+use Rattle.book.proofs.contents.exclusion_counts_hold.Reads as reads
+use Rattle.book.proofs.contents.exclusion_counts_hold.Lts as lts
+use Rattle.book.proofs.contents.within.Reads as within-reads
+use Rattle.book.proofs.fields.exclusion_count.Reads as exclusion-count-reads
+use Rattle.book.proofs.fields.reference_count.Reads as reference-count-reads
+
+abbrev Inv-loop : tie.InvT-loop
+Inv-loop rule n ok₀ i₀ ok i = ?
+
+abbrev μ-loop : tie.MeasureT-loop
+μ-loop rule n ok₀ i₀ ok i = ?
+
+-- src/contents.rt:186:9
+reference-count-requires : tie.Need-reference-count-requires Inv-loop μ-loop
+reference-count-requires c κs = search needs
+
+-- src/contents.rt:188:5
+loop-holds : tie.Need-loop-holds Inv-loop μ-loop
+loop-holds c = search needs
+
+-- src/contents.rt:189:54
+cast-exclusion-count : tie.Need-cast-exclusion-count Inv-loop μ-loop
+cast-exclusion-count c = search needs
+
+-- src/contents.rt:189:32
+exclusion-count-requires : tie.Need-exclusion-count-requires Inv-loop μ-loop
+exclusion-count-requires c κs = search needs
+
+-- src/contents.rt:189:19
+within-requires : tie.Need-within-requires Inv-loop μ-loop
+within-requires c κs = search needs
+
+-- src/contents.rt:188:9
+add-i : tie.Need-add-i Inv-loop μ-loop
+add-i c = search needs
+
+-- src/contents.rt:188:5
+loop-less : tie.Need-loop-less Inv-loop μ-loop
+loop-less c = search needs
+
+-- src/contents.rt:188:5
+loop-again : tie.Need-loop-again Inv-loop μ-loop
+loop-again c = search needs
+
+-- src/contents.rt:183:1
+returns : tie.Need-returns Inv-loop μ-loop
+returns c = search needs
+
+pub exclusion-counts-hold-spec : {M : Type 1} → statement M
+exclusion-counts-hold-spec =
+    tie.close
+    (tie.spec
+    Inv-loop
+    μ-loop
+    reference-count-requires
+    loop-holds
+    cast-exclusion-count
+    exclusion-count-requires
+    within-requires
+    add-i
+    loop-less
+    loop-again
+    returns)

@@ -1,0 +1,9 @@
+pub mod Lists
+pub mod Sets
+pub mod Hierarchies
+pub mod Head
+pub mod Rule
+pub mod Blocks
+pub mod Refusals
+pub mod Answers
+pub mod Shop

@@ -1,0 +1,21 @@
+-- Quantifiers over finite lists of numbers, which compute. Assumes nothing.
+use Prim.Native.Nat.{ℕ, zero, suc}
+use mathlib.Core.Bool.{Bool, true, false, _&&_, _||_}
+use mathlib.Core.List.{List, [], _∷_}
+
+-- the n numbers from i up
+unfoldable pub from : ℕ → ℕ → List ℕ
+from i zero = []
+from i (suc n) = i ∷ from (suc i) n
+
+-- the numbers below n, lowest first
+unfoldable pub upTo : ℕ → List ℕ
+upTo n = from 0 n
+
+unfoldable pub all : (ℕ → Bool) → List ℕ → Bool
+all f [] = true
+all f (x ∷ xs) = f x && all f xs
+
+unfoldable pub any : (ℕ → Bool) → List ℕ → Bool
+any f [] = false
+any f (x ∷ xs) = f x || any f xs

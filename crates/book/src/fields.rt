@@ -1,0 +1,131 @@
+// The fields of the head blocks and of a rule block, read at any index. `head` is the first four
+// blocks of a book, `rule` one rule block; both may have any length. The numbers of a book are
+// bytes, so an index is a u8.
+use crate::Hierarchy;
+use crate::bytes::byte_at;
+use crate::bytes::part;
+ghost use mathlib.Core.Path.{_≡_};
+ghost use Prim.Native.Nat.{_≤_, _<_};
+ghost use Rattle.book.specs.Head.{columnCount, countIn, functionCount, label, operation, ownOperations, parentIn};
+ghost use Rattle.book.specs.Rule.{action, dataCategory, excludedUserCount, excludedUsers, exclusionCount, exclusions};
+ghost use Rattle.book.specs.Rule.{referenceCount, restrictionCount, restrictionMask, userCategory};
+
+pub fn count(head: &[u8], which: Hierarchy) -> usize
+    ensures { λ r. ⌜ (r ≡ countIn which (now (head .entry))) × (r ≤ 255) ⌝ }
+{
+    match which {
+        Hierarchy::Users => byte_at(head, 1),
+        Hierarchy::Data => byte_at(head, 513),
+    }
+}
+
+pub fn parent(head: &[u8], which: Hierarchy, i: u8) -> usize
+    ensures { λ r. ⌜ (r ≡ parentIn which (now (head .entry)) i) × (r ≤ 255) ⌝ }
+{
+    let at = i as usize;
+    match which {
+        Hierarchy::Users => byte_at(head, 2 + at),
+        Hierarchy::Data => byte_at(head, 514 + 3 * at),
+    }
+}
+
+// The mask of the operations that a data category owns.
+pub fn own_operations(head: &[u8], i: u8) -> u64
+    ensures { λ r. ⌜ (r ≡ ownOperations (now (head .entry)) i) × (r < 65536) ⌝ }
+{
+    let at = i as usize;
+    (256 * byte_at(head, 515 + 3 * at) + byte_at(head, 516 + 3 * at)) as u64
+}
+
+pub fn column_count(head: &[u8]) -> usize
+    ensures { λ r. ⌜ (r ≡ columnCount (now (head .entry))) × (r ≤ 255) ⌝ }
+{
+    byte_at(head, 1025)
+}
+
+pub fn label(head: &[u8], i: u8) -> usize
+    ensures { λ r. ⌜ (r ≡ label (now (head .entry)) i) × (r ≤ 255) ⌝ }
+{
+    let at = i as usize;
+    byte_at(head, 1026 + at)
+}
+
+pub fn function_count(head: &[u8]) -> usize
+    ensures { λ r. ⌜ (r ≡ functionCount (now (head .entry))) × (r ≤ 255) ⌝ }
+{
+    byte_at(head, 1537)
+}
+
+pub fn operation(head: &[u8], i: u8) -> usize
+    ensures { λ r. ⌜ (r ≡ operation (now (head .entry)) i) × (r ≤ 255) ⌝ }
+{
+    let at = i as usize;
+    byte_at(head, 1538 + at)
+}
+
+pub fn reference_count(rule: &[u8]) -> usize
+    ensures { λ r. ⌜ (r ≡ referenceCount (now (rule .entry))) × (r ≤ 255) ⌝ }
+{
+    byte_at(rule, 1)
+}
+
+pub fn user_category(rule: &[u8]) -> usize
+    ensures { λ r. ⌜ (r ≡ userCategory (now (rule .entry))) × (r ≤ 255) ⌝ }
+{
+    byte_at(rule, 2)
+}
+
+pub fn excluded_user_count(rule: &[u8]) -> usize
+    ensures { λ r. ⌜ (r ≡ excludedUserCount (now (rule .entry))) × (r ≤ 255) ⌝ }
+{
+    byte_at(rule, 3)
+}
+
+pub fn excluded_users(rule: &[u8]) -> &[u8]
+    ensures { λ r. ⌜ now r ≡ excludedUsers (now (rule .entry)) ⌝ }
+{
+    part(rule, 4, excluded_user_count(rule))
+}
+
+pub fn restriction_count(rule: &[u8]) -> usize
+    ensures { λ r. ⌜ (r ≡ restrictionCount (now (rule .entry))) × (r ≤ 255) ⌝ }
+{
+    byte_at(rule, 8)
+}
+
+pub fn data_category(rule: &[u8], i: u8) -> usize
+    ensures { λ r. ⌜ (r ≡ dataCategory (now (rule .entry)) i) × (r ≤ 255) ⌝ }
+{
+    let at = i as usize;
+    byte_at(rule, 16 + 16 * at)
+}
+
+pub fn action(rule: &[u8], i: u8) -> usize
+    ensures { λ r. ⌜ (r ≡ action (now (rule .entry)) i) × (r ≤ 255) ⌝ }
+{
+    let at = i as usize;
+    byte_at(rule, 17 + 16 * at)
+}
+
+pub fn exclusion_count(rule: &[u8], i: u8) -> usize
+    ensures { λ r. ⌜ (r ≡ exclusionCount (now (rule .entry)) i) × (r ≤ 255) ⌝ }
+{
+    let at = i as usize;
+    byte_at(rule, 18 + 16 * at)
+}
+
+pub fn exclusions(rule: &[u8], i: u8) -> &[u8]
+    ensures { λ r. ⌜ now r ≡ exclusions (now (rule .entry)) i ⌝ }
+{
+    let at = i as usize;
+    part(rule, 19 + 16 * at, exclusion_count(rule, i))
+}
+
+// The mask of restriction j for reference i.
+pub fn restriction_mask(rule: &[u8], j: u8, i: u8) -> u64
+    ensures { λ r. ⌜ (r ≡ restrictionMask (now (rule .entry)) j i) × (r < 65536) ⌝ }
+{
+    let row = j as usize;
+    let at = i as usize;
+    (256 * byte_at(rule, 64 + 6 * row + 2 * at) + byte_at(rule, 65 + 6 * row + 2 * at)) as u64
+}

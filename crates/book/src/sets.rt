@@ -1,0 +1,48 @@
+// Sets of numbers below 64, as words: number i is a member when bit i is set.
+ghost use mathlib.Core.Path.{_≡_};
+ghost use mathlib.Core.Bool.{_&&_};
+ghost use mathlib.Core.List.{List};
+ghost use Prim.Native.Nat.{ℕ};
+ghost use lib.Dec.{eqb, ltb};
+ghost use Rattle.book.specs.Lists.{any};
+ghost use Rattle.book.specs.Sets.{has};
+
+pub fn contains(set: u64, i: usize) -> bool
+    ensures { λ r. ⌜ r ≡ has set i ⌝ }
+{
+    if 64 <= i {
+        return false;
+    }
+    (set >> i) % 2 == 1
+}
+
+// The set of i alone; empty where a word has no place for i.
+pub fn single(i: usize) -> u64
+    ensures { λ r. ⌜ ((j : ℕ) → has r j ≡ (ltb j 64 && eqb j i)) ⌝ }
+{
+    if 64 <= i {
+        return 0;
+    }
+    1u64 << i
+}
+
+// The numbers below n.
+pub fn below(n: usize) -> u64
+    ensures { λ r. ⌜ ((j : ℕ) → has r j ≡ (ltb j 64 && ltb j n)) ⌝ }
+{
+    if 64 <= n {
+        return 0xffff_ffff_ffff_ffff;
+    }
+    (1u64 << n) - 1
+}
+
+// The bytes of a list that are below 64.
+pub fn set_of(list: &[u8]) -> u64
+    ensures { λ r. ⌜ ((j : ℕ) → has r j ≡ (ltb j 64 && any (eqb j) (now (list .entry)))) ⌝ }
+{
+    let mut set = 0u64;
+    for i in 0..list.len() {
+        set = set | single(list[i] as usize);
+    }
+    set
+}
