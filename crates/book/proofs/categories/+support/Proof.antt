@@ -28,7 +28,7 @@ support-own-operations-requires : (t : ℕ) → support-lts.Need-own-operations-
   support-below t,
   support.Post,
 ) (support-at t) support.Post
-support-own-operations-requires t c κs = search needs
+support-own-operations-requires t c κs = ?
 
 -- src/categories.rt:83:9
 support-parent-requires : (t : ℕ) → support-lts.Need-parent-requires (
@@ -39,7 +39,7 @@ support-parent-requires : (t : ℕ) → support-lts.Need-parent-requires (
   support-below t,
   support.Post,
 ) (support-at t) support.Post
-support-parent-requires t c κs = search needs
+support-parent-requires t c κs = ?
 
 -- src/categories.rt:85:36
 support-cast-support : (t : ℕ) → support-lts.Need-cast-support (
@@ -50,7 +50,7 @@ support-cast-support : (t : ℕ) → support-lts.Need-cast-support (
   support-below t,
   support.Post,
 ) (support-at t) support.Post
-support-cast-support t c = search needs
+support-cast-support t c = ?
 
 -- src/categories.rt:85:22
 support-support-requires : (t : ℕ) → support-lts.Need-support-requires (
@@ -61,7 +61,7 @@ support-support-requires : (t : ℕ) → support-lts.Need-support-requires (
   support-below t,
   support.Post,
 ) (support-at t) support.Post
-support-support-requires t c κs = search needs
+support-support-requires t c κs = ?
 
 -- src/categories.rt:85:9
 support-returns : (t : ℕ) → support-lts.Need-returns (
@@ -72,7 +72,7 @@ support-returns : (t : ℕ) → support-lts.Need-returns (
   support-below t,
   support.Post,
 ) (support-at t) support.Post
-support-returns t c = search needs
+support-returns t c = ?
 
 -- src/categories.rt:79:1
 support-returns-2 : (t : ℕ) → support-lts.Need-returns-2 (
@@ -83,7 +83,7 @@ support-returns-2 : (t : ℕ) → support-lts.Need-returns-2 (
   support-below t,
   support.Post,
 ) (support-at t) support.Post
-support-returns-2 t c = search needs
+support-returns-2 t c = ?
 
 pub +support-spec : {M : Type 1} → statement M
 +support-spec = close μ-support λ t. support-lts.spec (

@@ -14,35 +14,35 @@ abbrev μ-loop : tie.MeasureT-loop
 
 -- src/categories.rt:40:5
 loop-holds : tie.Need-loop-holds Inv-loop μ-loop
-loop-holds c = search needs
+loop-holds c = ?
 
 -- src/categories.rt:41:37
 cast-parent : tie.Need-cast-parent Inv-loop μ-loop
-cast-parent c = search needs
+cast-parent c = ?
 
 -- src/categories.rt:41:13
 parent-requires : tie.Need-parent-requires Inv-loop μ-loop
-parent-requires c κs = search needs
+parent-requires c κs = ?
 
 -- src/categories.rt:42:9
 with-child-requires : tie.Need-with-child-requires Inv-loop μ-loop
-with-child-requires c κs = search needs
+with-child-requires c κs = ?
 
 -- src/categories.rt:40:9
 add-i : tie.Need-add-i Inv-loop μ-loop
-add-i c = search needs
+add-i c = ?
 
 -- src/categories.rt:40:5
 loop-less : tie.Need-loop-less Inv-loop μ-loop
-loop-less c = search needs
+loop-less c = ?
 
 -- src/categories.rt:40:5
 loop-again : tie.Need-loop-again Inv-loop μ-loop
-loop-again c = search needs
+loop-again c = ?
 
 -- src/categories.rt:36:1
 returns : tie.Need-returns Inv-loop μ-loop
-returns c = search needs
+returns c = ?
 
 pub descendants-spec : {M : Type 1} → statement M
 descendants-spec =

@@ -16,43 +16,43 @@ abbrev μ-loop : tie.MeasureT-loop
 
 -- src/categories.rt:69:9
 count-requires : tie.Need-count-requires Inv-loop μ-loop
-count-requires c κs = search needs
+count-requires c κs = ?
 
 -- src/categories.rt:71:5
 loop-holds : tie.Need-loop-holds Inv-loop μ-loop
-loop-holds c = search needs
+loop-holds c = ?
 
 -- src/categories.rt:72:37
 cast-parent : tie.Need-cast-parent Inv-loop μ-loop
-cast-parent c = search needs
+cast-parent c = ?
 
 -- src/categories.rt:72:13
 parent-requires : tie.Need-parent-requires Inv-loop μ-loop
-parent-requires c κs = search needs
+parent-requires c κs = ?
 
 -- src/categories.rt:73:9
 with-parent-requires : tie.Need-with-parent-requires Inv-loop μ-loop
-with-parent-requires c κs = search needs
+with-parent-requires c κs = ?
 
 -- src/categories.rt:71:9
 add-i : tie.Need-add-i Inv-loop μ-loop
-add-i c = search needs
+add-i c = ?
 
 -- src/categories.rt:71:5
 loop-less : tie.Need-loop-less Inv-loop μ-loop
-loop-less c = search needs
+loop-less c = ?
 
 -- src/categories.rt:71:5
 loop-again : tie.Need-loop-again Inv-loop μ-loop
-loop-again c = search needs
+loop-again c = ?
 
 -- src/categories.rt:75:5
 below-requires : tie.Need-below-requires Inv-loop μ-loop
-below-requires c κs = search needs
+below-requires c κs = ?
 
 -- src/categories.rt:66:1
 returns : tie.Need-returns Inv-loop μ-loop
-returns c = search needs
+returns c = ?
 
 pub leaves-spec : {M : Type 1} → statement M
 leaves-spec =

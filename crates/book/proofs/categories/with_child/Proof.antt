@@ -8,23 +8,23 @@ use Rattle.book.proofs.sets.single.Reads as single-reads
 
 -- src/categories.rt:27:9
 returns : tie.Need-returns
-returns c = search needs
+returns c = ?
 
 -- src/categories.rt:29:8
 contains-requires : tie.Need-contains-requires
-contains-requires c κs = search needs
+contains-requires c κs = ?
 
 -- src/categories.rt:30:22
 single-requires : tie.Need-single-requires
-single-requires c κs = search needs
+single-requires c κs = ?
 
 -- src/categories.rt:30:9
 returns-2 : tie.Need-returns-2
-returns-2 c = search needs
+returns-2 c = ?
 
 -- src/categories.rt:23:1
 returns-3 : tie.Need-returns-3
-returns-3 c = search needs
+returns-3 c = ?
 
 pub with-child-spec : {M : Type 1} → statement M
 with-child-spec =

@@ -13,43 +13,43 @@ abbrev μ-loop : tie.MeasureT-loop
 
 -- src/categories.rt:95:5
 loop-holds : tie.Need-loop-holds Inv-loop μ-loop
-loop-holds c = search needs
+loop-holds c = ?
 
 -- src/categories.rt:96:12
 contains-requires : tie.Need-contains-requires Inv-loop μ-loop
-contains-requires c κs = search needs
+contains-requires c κs = ?
 
 -- src/categories.rt:97:23
 mul-next : tie.Need-mul-next Inv-loop μ-loop
-mul-next c = search needs
+mul-next c = ?
 
 -- src/categories.rt:97:23
 array-read-next : tie.Need-array-read-next Inv-loop μ-loop
-array-read-next c = search needs
+array-read-next c = ?
 
 -- src/categories.rt:97:13
 mul-next-2 : tie.Need-mul-next-2 Inv-loop μ-loop
-mul-next-2 c = search needs
+mul-next-2 c = ?
 
 -- src/categories.rt:97:13
 array-write-next : tie.Need-array-write-next Inv-loop μ-loop
-array-write-next c = search needs
+array-write-next c = ?
 
 -- src/categories.rt:95:9
 add-k : tie.Need-add-k Inv-loop μ-loop
-add-k c = search needs
+add-k c = ?
 
 -- src/categories.rt:95:5
 loop-less : tie.Need-loop-less Inv-loop μ-loop
-loop-less c = search needs
+loop-less c = ?
 
 -- src/categories.rt:95:5
 loop-again : tie.Need-loop-again Inv-loop μ-loop
-loop-again c = search needs
+loop-again c = ?
 
 -- src/categories.rt:91:1
 returns : tie.Need-returns Inv-loop μ-loop
-returns c = search needs
+returns c = ?
 
 pub with-leaf-spec : {M : Type 1} → statement M
 with-leaf-spec =

@@ -7,15 +7,15 @@ use Rattle.book.proofs.sets.single.Reads as single-reads
 
 -- src/categories.rt:61:9
 returns : tie.Need-returns
-returns c = search needs
+returns c = ?
 
 -- src/categories.rt:63:11
 single-requires : tie.Need-single-requires
-single-requires c κs = search needs
+single-requires c κs = ?
 
 -- src/categories.rt:57:1
 returns-2 : tie.Need-returns-2
-returns-2 c = search needs
+returns-2 c = ?
 
 pub with-parent-spec : {M : Type 1} → statement M
 with-parent-spec = tie.close (tie.spec returns single-requires returns-2)

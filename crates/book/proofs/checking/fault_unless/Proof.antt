@@ -6,11 +6,11 @@ use Rattle.book.proofs.checking.fault_unless.Lts as lts
 
 -- src/checking.rt:56:9
 returns : tie.Need-returns
-returns c = search needs
+returns c = ?
 
 -- src/checking.rt:52:1
 returns-2 : tie.Need-returns-2
-returns-2 c = search needs
+returns-2 c = ?
 
 pub fault-unless-spec : {M : Type 1} → statement M
 fault-unless-spec = tie.close (tie.spec returns returns-2)

@@ -6,7 +6,7 @@ use Rattle.book.proofs.checking.length_holds.Lts as lts
 
 -- src/checking.rt:87:1
 returns : tie.Need-returns
-returns c = search needs
+returns c = ?
 
 pub length-holds-spec : {M : Type 1} → statement M
 length-holds-spec = tie.close (tie.spec returns)

@@ -6,19 +6,19 @@ use Rattle.book.proofs.checking.or_else.Lts as lts
 
 -- src/checking.rt:38:33
 enum-told : tie.Need-enum-told
-enum-told c = search needs
+enum-told c = ?
 
 -- src/checking.rt:39:26
 enum-known-first : tie.Need-enum-known-first
-enum-known-first c = search needs
+enum-known-first c = ?
 
 -- src/checking.rt:34:1
 returns : tie.Need-returns
-returns c = search needs
+returns c = ?
 
 -- src/checking.rt:34:1
 returns-2 : tie.Need-returns-2
-returns-2 c = search needs
+returns-2 c = ?
 
 pub or-else-spec : {M : Type 1} → statement M
 or-else-spec = tie.close (tie.spec enum-told enum-known-first returns returns-2)

@@ -15,39 +15,39 @@ abbrev μ-loop : tie.MeasureT-loop
 
 -- src/contents.rt:186:9
 reference-count-requires : tie.Need-reference-count-requires Inv-loop μ-loop
-reference-count-requires c κs = search needs
+reference-count-requires c κs = ?
 
 -- src/contents.rt:188:5
 loop-holds : tie.Need-loop-holds Inv-loop μ-loop
-loop-holds c = search needs
+loop-holds c = ?
 
 -- src/contents.rt:189:54
 cast-exclusion-count : tie.Need-cast-exclusion-count Inv-loop μ-loop
-cast-exclusion-count c = search needs
+cast-exclusion-count c = ?
 
 -- src/contents.rt:189:32
 exclusion-count-requires : tie.Need-exclusion-count-requires Inv-loop μ-loop
-exclusion-count-requires c κs = search needs
+exclusion-count-requires c κs = ?
 
 -- src/contents.rt:189:19
 within-requires : tie.Need-within-requires Inv-loop μ-loop
-within-requires c κs = search needs
+within-requires c κs = ?
 
 -- src/contents.rt:188:9
 add-i : tie.Need-add-i Inv-loop μ-loop
-add-i c = search needs
+add-i c = ?
 
 -- src/contents.rt:188:5
 loop-less : tie.Need-loop-less Inv-loop μ-loop
-loop-less c = search needs
+loop-less c = ?
 
 -- src/contents.rt:188:5
 loop-again : tie.Need-loop-again Inv-loop μ-loop
-loop-again c = search needs
+loop-again c = ?
 
 -- src/contents.rt:183:1
 returns : tie.Need-returns Inv-loop μ-loop
-returns c = search needs
+returns c = ?
 
 pub exclusion-counts-hold-spec : {M : Type 1} → statement M
 exclusion-counts-hold-spec =

@@ -7,11 +7,11 @@ use Rattle.book.proofs.sets.contains.Reads as contains-reads
 
 -- src/contents.rt:245:27
 contains-requires : tie.Need-contains-requires
-contains-requires c κs = search needs
+contains-requires c κs = ?
 
 -- src/contents.rt:242:1
 returns : tie.Need-returns
-returns c = search needs
+returns c = ?
 
 pub is-proper-spec : {M : Type 1} → statement M
 is-proper-spec = tie.close (tie.spec contains-requires returns)

@@ -7,11 +7,11 @@ use Rattle.book.proofs.sets.contains.Reads as contains-reads
 
 -- src/contents.rt:131:18
 contains-requires : tie.Need-contains-requires
-contains-requires c κs = search needs
+contains-requires c κs = ?
 
 -- src/contents.rt:128:1
 returns : tie.Need-returns
-returns c = search needs
+returns c = ?
 
 pub label-holds-spec : {M : Type 1} → statement M
 label-holds-spec = tie.close (tie.spec contains-requires returns)

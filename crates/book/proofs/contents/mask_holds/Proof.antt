@@ -7,11 +7,11 @@ use Rattle.book.proofs.fields.restriction_mask.Reads as restriction-mas
 
 -- src/contents.rt:309:5
 restriction-mask-requires : tie.Need-restriction-mask-requires
-restriction-mask-requires c κs = search needs
+restriction-mask-requires c κs = ?
 
 -- src/contents.rt:306:1
 returns : tie.Need-returns
-returns c = search needs
+returns c = ?
 
 pub mask-holds-spec : {M : Type 1} → statement M
 mask-holds-spec = tie.close (tie.spec restriction-mask-requires returns)

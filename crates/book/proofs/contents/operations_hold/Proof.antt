@@ -14,35 +14,35 @@ abbrev μ-loop : tie.MeasureT-loop
 
 -- src/contents.rt:162:9
 function-count-requires : tie.Need-function-count-requires Inv-loop μ-loop
-function-count-requires c κs = search needs
+function-count-requires c κs = ?
 
 -- src/contents.rt:164:5
 loop-holds : tie.Need-loop-holds Inv-loop μ-loop
-loop-holds c = search needs
+loop-holds c = ?
 
 -- src/contents.rt:165:36
 cast-operation : tie.Need-cast-operation Inv-loop μ-loop
-cast-operation c = search needs
+cast-operation c = ?
 
 -- src/contents.rt:165:20
 operation-requires : tie.Need-operation-requires Inv-loop μ-loop
-operation-requires c κs = search needs
+operation-requires c κs = ?
 
 -- src/contents.rt:164:9
 add-i : tie.Need-add-i Inv-loop μ-loop
-add-i c = search needs
+add-i c = ?
 
 -- src/contents.rt:164:5
 loop-less : tie.Need-loop-less Inv-loop μ-loop
-loop-less c = search needs
+loop-less c = ?
 
 -- src/contents.rt:164:5
 loop-again : tie.Need-loop-again Inv-loop μ-loop
-loop-again c = search needs
+loop-again c = ?
 
 -- src/contents.rt:159:1
 returns : tie.Need-returns Inv-loop μ-loop
-returns c = search needs
+returns c = ?
 
 pub operations-hold-spec : {M : Type 1} → statement M
 operations-hold-spec =

@@ -14,35 +14,35 @@ abbrev μ-loop : tie.MeasureT-loop
 
 -- src/contents.rt:93:9
 count-requires : tie.Need-count-requires Inv-loop μ-loop
-count-requires c κs = search needs
+count-requires c κs = ?
 
 -- src/contents.rt:95:5
 loop-holds : tie.Need-loop-holds Inv-loop μ-loop
-loop-holds c = search needs
+loop-holds c = ?
 
 -- src/contents.rt:96:41
 cast-own-operations : tie.Need-cast-own-operations Inv-loop μ-loop
-cast-own-operations c = search needs
+cast-own-operations c = ?
 
 -- src/contents.rt:96:20
 own-operations-requires : tie.Need-own-operations-requires Inv-loop μ-loop
-own-operations-requires c κs = search needs
+own-operations-requires c κs = ?
 
 -- src/contents.rt:95:9
 add-i : tie.Need-add-i Inv-loop μ-loop
-add-i c = search needs
+add-i c = ?
 
 -- src/contents.rt:95:5
 loop-less : tie.Need-loop-less Inv-loop μ-loop
-loop-less c = search needs
+loop-less c = ?
 
 -- src/contents.rt:95:5
 loop-again : tie.Need-loop-again Inv-loop μ-loop
-loop-again c = search needs
+loop-again c = ?
 
 -- src/contents.rt:90:1
 returns : tie.Need-returns Inv-loop μ-loop
-returns c = search needs
+returns c = ?
 
 pub owns-hold-spec : {M : Type 1} → statement M
 owns-hold-spec =

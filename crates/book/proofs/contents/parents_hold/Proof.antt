@@ -14,35 +14,35 @@ abbrev μ-loop : tie.MeasureT-loop
 
 -- src/contents.rt:81:9
 count-requires : tie.Need-count-requires Inv-loop μ-loop
-count-requires c κs = search needs
+count-requires c κs = ?
 
 -- src/contents.rt:83:5
 loop-holds : tie.Need-loop-holds Inv-loop μ-loop
-loop-holds c = search needs
+loop-holds c = ?
 
 -- src/contents.rt:84:45
 cast-parent-holds : tie.Need-cast-parent-holds Inv-loop μ-loop
-cast-parent-holds c = search needs
+cast-parent-holds c = ?
 
 -- src/contents.rt:84:19
 parent-holds-requires : tie.Need-parent-holds-requires Inv-loop μ-loop
-parent-holds-requires c κs = search needs
+parent-holds-requires c κs = ?
 
 -- src/contents.rt:83:9
 add-i : tie.Need-add-i Inv-loop μ-loop
-add-i c = search needs
+add-i c = ?
 
 -- src/contents.rt:83:5
 loop-less : tie.Need-loop-less Inv-loop μ-loop
-loop-less c = search needs
+loop-less c = ?
 
 -- src/contents.rt:83:5
 loop-again : tie.Need-loop-again Inv-loop μ-loop
-loop-again c = search needs
+loop-again c = ?
 
 -- src/contents.rt:78:1
 returns : tie.Need-returns Inv-loop μ-loop
-returns c = search needs
+returns c = ?
 
 pub parents-hold-spec : {M : Type 1} → statement M
 parents-hold-spec =

@@ -8,39 +8,39 @@ use Rattle.book.proofs.fields.reference_count.Reads as reference-count-
 
 -- src/contents.rt:207:13
 reference-count-requires : tie.Need-reference-count-requires
-reference-count-requires c κs = search needs
+reference-count-requires c κs = ?
 
 -- src/contents.rt:208:21
 mul-result : tie.Need-mul-result
-mul-result c = search needs
+mul-result c = ?
 
 -- src/contents.rt:208:16
 add-result : tie.Need-add-result
-add-result c = search needs
+add-result c = ?
 
 -- src/contents.rt:208:31
 exclusion-count-requires : tie.Need-exclusion-count-requires
-exclusion-count-requires c κs = search needs
+exclusion-count-requires c κs = ?
 
 -- src/contents.rt:208:16
 add-result-2 : tie.Need-add-result-2
-add-result-2 c = search needs
+add-result-2 c = ?
 
 -- src/contents.rt:208:9
 returns : tie.Need-returns
-returns c = search needs
+returns c = ?
 
 -- src/contents.rt:210:10
 mul-result-2 : tie.Need-mul-result-2
-mul-result-2 c = search needs
+mul-result-2 c = ?
 
 -- src/contents.rt:210:5
 add-result-3 : tie.Need-add-result-3
-add-result-3 c = search needs
+add-result-3 c = ?
 
 -- src/contents.rt:203:1
 returns-2 : tie.Need-returns-2
-returns-2 c = search needs
+returns-2 c = ?
 
 pub reference-end-spec : {M : Type 1} → statement M
 reference-end-spec =

@@ -6,7 +6,7 @@ use Rattle.book.proofs.contents.within.Lts as lts
 
 -- src/contents.rt:50:1
 returns : tie.Need-returns
-returns c = search needs
+returns c = ?
 
 pub within-spec : {M : Type 1} → statement M
 within-spec = tie.close (tie.spec returns)

@@ -5,31 +5,15 @@ use Rattle.book.proofs.fields.count.Reads as reads
 use Rattle.book.proofs.fields.count.Lts as lts
 use Rattle.book.proofs.bytes.byte_at.Reads as byte-at-reads
 
--- src/fields.rt:17:29
-enum-told : tie.Need-enum-told
-enum-told c = search needs
-
--- src/fields.rt:17:29
-byte-at-requires : tie.Need-byte-at-requires
-byte-at-requires c κs = search needs
-
--- src/fields.rt:18:28
-enum-told-2 : tie.Need-enum-told-2
-enum-told-2 c = search needs
-
--- src/fields.rt:18:28
-byte-at-requires-2 : tie.Need-byte-at-requires-2
-byte-at-requires-2 c κs = search needs
-
 -- src/fields.rt:13:1
 returns : tie.Need-returns
-returns c = search needs
+returns c = rw (c .before .enum-told .given .1) (c .byte-at .ensures)
 
 -- src/fields.rt:13:1
 returns-2 : tie.Need-returns-2
-returns-2 c = search needs
+returns-2 c = rw (c .before .enum-told2 .given .1) (c .byte-at2 .ensures)
 
 pub count-spec : {M : Type 1} → statement M
 count-spec =
     tie.close
-    (tie.spec enum-told byte-at-requires enum-told-2 byte-at-requires-2 returns returns-2)
+    (tie.spec (λ c. search needs) (λ c κs. search needs) (λ c. search needs) (λ c κs. search needs) returns returns-2)

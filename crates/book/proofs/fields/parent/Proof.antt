@@ -5,52 +5,24 @@ use Rattle.book.proofs.fields.parent.Reads as reads
 use Rattle.book.proofs.fields.parent.Lts as lts
 use Rattle.book.proofs.bytes.byte_at.Reads as byte-at-reads
 
--- src/fields.rt:27:43
-enum-told : tie.Need-enum-told
-enum-told c = search needs
-
--- src/fields.rt:27:43
-add-byte-at : tie.Need-add-byte-at
-add-byte-at c = search needs
-
--- src/fields.rt:27:29
-byte-at-requires : tie.Need-byte-at-requires
-byte-at-requires c κs = search needs
-
--- src/fields.rt:28:48
-enum-told-2 : tie.Need-enum-told-2
-enum-told-2 c = search needs
-
--- src/fields.rt:28:48
-mul-byte-at : tie.Need-mul-byte-at
-mul-byte-at c = search needs
-
--- src/fields.rt:28:42
-add-byte-at-2 : tie.Need-add-byte-at-2
-add-byte-at-2 c = search needs
-
--- src/fields.rt:28:28
-byte-at-requires-2 : tie.Need-byte-at-requires-2
-byte-at-requires-2 c κs = search needs
-
 -- src/fields.rt:22:1
 returns : tie.Need-returns
-returns c = search needs
+returns c = rw (c .before .enum-told .given .1) (c .byte-at .ensures)
 
 -- src/fields.rt:22:1
 returns-2 : tie.Need-returns-2
-returns-2 c = search needs
+returns-2 c = rw (c .before .enum-told2 .given .1) (c .byte-at2 .ensures)
 
 pub parent-spec : {M : Type 1} → statement M
 parent-spec =
     tie.close
     (tie.spec
-    enum-told
-    add-byte-at
-    byte-at-requires
-    enum-told-2
-    mul-byte-at
-    add-byte-at-2
-    byte-at-requires-2
+    (λ c. search needs)
+    (λ c. search needs)
+    (λ c κs. search needs)
+    (λ c. search needs)
+    (λ c. search needs)
+    (λ c. search needs)
+    (λ c κs. search needs)
     returns
     returns-2)

@@ -13,35 +13,35 @@ abbrev μ-loop : tie.MeasureT-loop
 
 -- src/sets.rt:44:5
 loop-holds : tie.Need-loop-holds Inv-loop μ-loop
-loop-holds c = search needs
+loop-holds c = ?
 
 -- src/sets.rt:45:28
 shared-slice-read-single : tie.Need-shared-slice-read-single Inv-loop μ-loop
-shared-slice-read-single c = search needs
+shared-slice-read-single c = ?
 
 -- src/sets.rt:45:28
 cast-single : tie.Need-cast-single Inv-loop μ-loop
-cast-single c = search needs
+cast-single c = ?
 
 -- src/sets.rt:45:21
 single-requires : tie.Need-single-requires Inv-loop μ-loop
-single-requires c κs = search needs
+single-requires c κs = ?
 
 -- src/sets.rt:44:9
 add-i : tie.Need-add-i Inv-loop μ-loop
-add-i c = search needs
+add-i c = ?
 
 -- src/sets.rt:44:5
 loop-less : tie.Need-loop-less Inv-loop μ-loop
-loop-less c = search needs
+loop-less c = ?
 
 -- src/sets.rt:44:5
 loop-again : tie.Need-loop-again Inv-loop μ-loop
-loop-again c = search needs
+loop-again c = ?
 
 -- src/sets.rt:40:1
 returns : tie.Need-returns Inv-loop μ-loop
-returns c = search needs
+returns c = ?
 
 pub set-of-spec : {M : Type 1} → statement M
 set-of-spec =

@@ -1,0 +1,164 @@
+-- Laws of lists and of the quantifiers over them. Assumes nothing.
+use Prim.Native.Nat.{ℕ, zero, suc, _+_, _-_, _≤_, _<_}
+use native.Mathlib.Nat.{zero-add, add-zero, eq-or-lt-of-le}
+use native.Mathlib.Numerals.{add-one}
+use native.Mathlib.Omega.{arith}
+use mathlib.Core.Path.{_≡_, refl, sym, ap, _∙_}
+use mathlib.Core.Logic.{⊎-elim}
+use mathlib.Core.Bool.{Bool, true, false, _&&_, _||_, not, false≢true}
+use mathlib.Core.List.{List, [], _∷_, _++_}
+use lib.ListN.{length, getD, take, drop, length-drop, drop-of-length-le}
+use lib.Seq.{take-all, take-nil, take-suc}
+use Rattle.book.specs.Lists.{from, upTo, all, any}
+
+-- Parts of a list
+
+module _ (s : List ℕ) (start count : ℕ) where
+  pub part-past : length s ≤ start → _≡_ {A = List ℕ} [] (take count (drop start s))
+  part-past h = rw (drop-of-length-le s h) (sym (take-nil count))
+
+  pub part-rest : length s - start ≤ count → take (length s - start) (drop start s) ≡ take count (drop start s)
+  part-rest h =
+      let l : length (drop start s) ≡ length s - start = length-drop start s in
+      take-all (length s - start) (drop start s) (omega arith) ∙ sym (take-all count (drop start s) (omega arith))
+
+  pub part-whole : take (start + count - start) (drop start s) ≡ take count (drop start s)
+  part-whole =
+      let e : start + count - start ≡ count = omega arith in
+      rw e
+
+-- Connectives
+
+pub and-true : (a b : Bool) → a ≡ true → b ≡ true → (a && b) ≡ true
+and-true a b p q = rw (p, q)
+
+pub and-left : (a b : Bool) → (a && b) ≡ true → a ≡ true
+and-left true b p = refl
+and-left false b p = p
+
+pub and-right : (a b : Bool) → (a && b) ≡ true → b ≡ true
+and-right true b p = p
+and-right false b p = absurd (false≢true p)
+
+pub and-assoc : (a b c : Bool) → (a && b && c) ≡ (a && (b && c))
+and-assoc true b c = refl
+and-assoc false b c = refl
+
+pub or-assoc : (a b c : Bool) → (a || b || c) ≡ (a || (b || c))
+or-assoc true b c = refl
+or-assoc false b c = refl
+
+pub and-end : (a : Bool) → (a && true) ≡ a
+and-end true = refl
+and-end false = refl
+
+pub or-end : (a : Bool) → (a || false) ≡ a
+or-end true = refl
+or-end false = refl
+
+-- two tests are equal where each passes with the other
+pub same-test : (a b : Bool) → (a ≡ true → b ≡ true) → (b ≡ true → a ≡ true) → a ≡ b
+same-test true b p q = sym (p refl)
+same-test false true p q = q refl
+same-test false false p q = refl
+
+-- Quantifiers: one element more at the end
+
+module _ (f : ℕ → Bool) where
+  pub all-append : (s t : List ℕ) → all f (s ++ t) ≡ (all f s && all f t)
+  unfolding all
+  all-append [] t = refl
+  all-append (x ∷ s) t = rw (all-append s t) (sym (and-assoc (f x) (all f s) (all f t)))
+
+  pub any-append : (s t : List ℕ) → any f (s ++ t) ≡ (any f s || any f t)
+  unfolding any
+  any-append [] t = refl
+  any-append (x ∷ s) t = rw (any-append s t) (sym (or-assoc (f x) (any f s) (any f t)))
+
+  pub all-one : (x : ℕ) → all f (x ∷ []) ≡ f x
+  unfolding all
+  all-one x = and-end (f x)
+
+  pub any-one : (x : ℕ) → any f (x ∷ []) ≡ f x
+  unfolding any
+  any-one x = or-end (f x)
+
+pub from-more : (i n : ℕ) → from i (suc n) ≡ from i n ++ ((i + n) ∷ [])
+unfolding from
+from-more i zero = rw add-zero
+from-more i (suc n) =
+    let e : suc i + n ≡ i + suc n = omega arith in
+    rw (← e) (ap (λ (l : List ℕ). i ∷ l) (from-more (suc i) n))
+
+pub upTo-more : (n : ℕ) → upTo (suc n) ≡ upTo n ++ (n ∷ [])
+unfolding upTo
+upTo-more n = from-more 0 n ∙ ap (λ (m : ℕ). from 0 n ++ (m ∷ [])) (zero-add n)
+
+module _ (f : ℕ → Bool) where
+  -- over the numbers below i + 1
+  pub all-more : (i : ℕ) → all f (upTo (i + 1)) ≡ (all f (upTo i) && f i)
+  all-more i = rw (add-one, upTo-more, all-append, all-one)
+
+  pub any-more : (i : ℕ) → any f (upTo (i + 1)) ≡ (any f (upTo i) || f i)
+  any-more i = rw (add-one, upTo-more, any-append, any-one)
+
+  pub all-none : all f (upTo 0) ≡ true
+  unfolding upTo from all
+  all-none = refl
+
+  pub any-none : any f (upTo 0) ≡ false
+  unfolding upTo from any
+  any-none = refl
+
+  -- over the first i + 1 elements of a list
+  pub all-take : (l : List ℕ) (i : ℕ) → i < length l → all f (take (i + 1) l) ≡ (all f (take i l) && f (getD l i 0))
+  all-take l i h = rw (add-one, take-suc l i 0 h, all-append, all-one)
+
+  pub any-take : (l : List ℕ) (i : ℕ) → i < length l → any f (take (i + 1) l) ≡ (any f (take i l) || f (getD l i 0))
+  any-take l i h = rw (add-one, take-suc l i 0 h, any-append, any-one)
+
+-- Quantifiers: what they say of each element
+
+module _ (f : ℕ → Bool) where
+  pub all-from : (i n : ℕ) → all f (from i n) ≡ true → (j : ℕ) → i ≤ j → j < i + n → f j ≡ true
+  unfolding all from
+  all-from i zero h j lo hi = absurd (omega arith)
+  all-from i (suc n) h j lo hi =
+      ⊎-elim
+      (λ (e : i ≡ j). rw e at (and-left (f i) (all f (from (suc i) n)) h))
+      (λ (l : i < j). all-from (suc i) n (and-right (f i) (all f (from (suc i) n)) h) j l (omega arith))
+      (eq-or-lt-of-le lo)
+
+  pub from-all : (i n : ℕ) → ((j : ℕ) → i ≤ j → j < i + n → f j ≡ true) → all f (from i n) ≡ true
+  unfolding all from
+  from-all i zero h = refl
+  from-all i (suc n) h =
+      and-true (f i) (all f (from (suc i) n)) (h i (omega arith) (omega arith))
+      (from-all (suc i) n (λ j lo hi. h j (omega arith) (omega arith)))
+
+  -- each number below n passes
+  pub all-at : (n : ℕ) → all f (upTo n) ≡ true → (j : ℕ) → j < n → f j ≡ true
+  unfolding upTo
+  all-at n h j l = all-from 0 n h j (omega arith) (omega arith)
+
+  pub at-all : (n : ℕ) → ((j : ℕ) → j < n → f j ≡ true) → all f (upTo n) ≡ true
+  unfolding upTo
+  at-all n h = from-all 0 n (λ j lo hi. h j (omega arith))
+
+-- tests that agree below n have equal quantifiers
+pub all-cong : (f g : ℕ → Bool) (n : ℕ) → ((j : ℕ) → j < n → f j ≡ g j) → all f (upTo n) ≡ all g (upTo n)
+all-cong f g n e =
+    same-test (all f (upTo n)) (all g (upTo n))
+    (λ h. at-all g n (λ j l. sym (e j l) ∙ all-at f n h j l))
+    (λ h. at-all f n (λ j l. e j l ∙ all-at g n h j l))
+
+-- tests that agree everywhere have equal quantifiers over any list
+pub all-same : (f g : ℕ → Bool) → ((x : ℕ) → f x ≡ g x) → (l : List ℕ) → all f l ≡ all g l
+unfolding all
+all-same f g e [] = refl
+all-same f g e (x ∷ l) = rw (e x, all-same f g e l)
+
+pub any-same : (f g : ℕ → Bool) → ((x : ℕ) → f x ≡ g x) → (l : List ℕ) → any f l ≡ any g l
+unfolding any
+any-same f g e [] = refl
+any-same f g e (x ∷ l) = rw (e x, any-same f g e l)
