@@ -9,6 +9,8 @@ use mathlib.Core.Bool.{Bool, true, false, _&&_, _||_, not, false≢true}
 use mathlib.Core.List.{List, [], _∷_, _++_}
 use lib.ListN.{length, getD, take, drop, length-drop, drop-of-length-le}
 use lib.Seq.{take-all, take-nil, take-suc}
+use lib.Dec.{eqb, ltb}
+use borrow.Author.Tests.{ltb-true, lt-ltb, eqb-true, eq-eqb}
 use Rattle.book.specs.Lists.{from, upTo, all, any}
 
 -- Parts of a list
@@ -56,11 +58,53 @@ pub or-end : (a : Bool) → (a || false) ≡ a
 or-end true = refl
 or-end false = refl
 
+pub and-false : (a : Bool) → (a && false) ≡ false
+and-false true = refl
+and-false false = refl
+
+pub or-true : (a : Bool) → (a || true) ≡ true
+or-true true = refl
+or-true false = refl
+
+pub and-or : (a b c : Bool) → (a && (b || c)) ≡ (a && b || a && c)
+and-or true b c = refl
+and-or false b c = refl
+
+-- a test that the other one makes pass can go
+pub and-first : (a b : Bool) → (a ≡ true → b ≡ true) → (a && b) ≡ a
+and-first true b h = h refl
+and-first false b h = refl
+
+pub and-second : (a b : Bool) → (b ≡ true → a ≡ true) → (a && b) ≡ b
+and-second true b h = refl
+and-second false true h = h refl
+and-second false false h = refl
+
+-- two tests that never pass together
+pub and-never : (a b : Bool) → (a ≡ true → b ≡ false) → (a && b) ≡ false
+and-never true b h = h refl
+and-never false b h = refl
+
 -- two tests are equal where each passes with the other
 pub same-test : (a b : Bool) → (a ≡ true → b ≡ true) → (b ≡ true → a ≡ true) → a ≡ b
 same-test true b p q = sym (p refl)
 same-test false true p q = q refl
 same-test false false p q = refl
+
+-- Numbers
+
+pub eqb-sym : (a b : ℕ) → eqb a b ≡ eqb b a
+eqb-sym a b =
+    same-test (eqb a b) (eqb b a)
+    (λ h. eq-eqb b a (sym (eqb-true a b h)))
+    (λ h. eq-eqb a b (sym (eqb-true b a h)))
+
+-- a bound one higher changes the test at one number only
+pub ltb-more : (j k : ℕ) → (j ≡ k → ⊥) → ltb j (k + 1) ≡ ltb j k
+ltb-more j k n =
+    same-test (ltb j (k + 1)) (ltb j k)
+    (λ e. lt-ltb j k (omega (arith, ltb-true j (k + 1) e)))
+    (λ e. lt-ltb j (k + 1) (omega (arith, ltb-true j k e)))
 
 -- Quantifiers: one element more at the end
 

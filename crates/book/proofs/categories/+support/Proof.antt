@@ -1,3 +1,6 @@
+-- The category number falls at each call; the laws `support-lower` and `support-top` are the two cases. Assumes nothing.
+use lib.Bits.{or-lt}
+use Rattle.book.proofs.Support.{support-lower, support-top}
 use borrow.Author.Needs.{needs}
 use Prim.Native.Nat.{ℕ, _<_}
 use borrow.Fn.Kinds.{In}
@@ -11,7 +14,7 @@ use Rattle.book.proofs.categories.+support.{statement}
 use Rattle.book.proofs.categories.+support.Tie.{close}
 
 abbrev μ-support : Measures 1 support-kinds.ps ℕ
-μ-support κs a = ?
+μ-support κs a = a .1 .0
 
 abbrev support-at : ℕ → In 1 support-kinds.ps
 support-at t = and 1 support-kinds.ps (is 1 support-kinds.ps μ-support t) support.Pre
@@ -28,7 +31,7 @@ support-own-operations-requires : (t : ℕ) → support-lts.Need-own-operations-
   support-below t,
   support.Post,
 ) (support-at t) support.Post
-support-own-operations-requires t c κs = ?
+support-own-operations-requires t c κs = search needs
 
 -- src/categories.rt:83:9
 support-parent-requires : (t : ℕ) → support-lts.Need-parent-requires (
@@ -39,7 +42,7 @@ support-parent-requires : (t : ℕ) → support-lts.Need-parent-requires (
   support-below t,
   support.Post,
 ) (support-at t) support.Post
-support-parent-requires t c κs = ?
+support-parent-requires t c κs = search needs
 
 -- src/categories.rt:85:36
 support-cast-support : (t : ℕ) → support-lts.Need-cast-support (
@@ -50,7 +53,7 @@ support-cast-support : (t : ℕ) → support-lts.Need-cast-support (
   support-below t,
   support.Post,
 ) (support-at t) support.Post
-support-cast-support t c = ?
+support-cast-support t c = search needs
 
 -- src/categories.rt:85:22
 support-support-requires : (t : ℕ) → support-lts.Need-support-requires (
@@ -61,7 +64,7 @@ support-support-requires : (t : ℕ) → support-lts.Need-support-requires (
   support-below t,
   support.Post,
 ) (support-at t) support.Post
-support-support-requires t c κs = ?
+support-support-requires t c κs = search needs
 
 -- src/categories.rt:85:9
 support-returns : (t : ℕ) → support-lts.Need-returns (
@@ -72,7 +75,13 @@ support-returns : (t : ℕ) → support-lts.Need-returns (
   support-below t,
   support.Post,
 ) (support-at t) support.Post
-support-returns t c = ?
+support-returns t c =
+    let a = c .before .before .before .before .before .args in
+    let own = c .before .before .before .own-operations in
+    let p = c .before .before .parent in
+    (support-lower (a .head .now) (a .d) (own .result) (p .result) (own .ensures .0) (p .ensures .0) (c .support .result)
+    (c .before .if1 .taken) (c .support .ensures .0),
+    or-lt 16 (own .result) (c .support .result) (own .ensures .1) (c .support .ensures .1))
 
 -- src/categories.rt:79:1
 support-returns-2 : (t : ℕ) → support-lts.Need-returns-2 (
@@ -83,7 +92,12 @@ support-returns-2 : (t : ℕ) → support-lts.Need-returns-2 (
   support-below t,
   support.Post,
 ) (support-at t) support.Post
-support-returns-2 t c = ?
+support-returns-2 t c =
+    let a = c .before .before .before .before .args in
+    let own = c .before .before .own-operations in
+    let p = c .before .parent in
+    (support-top (a .head .now) (a .d) (own .result) (p .result) (own .ensures .0) (p .ensures .0) (c .if1 .left),
+    own .ensures .1)
 
 pub +support-spec : {M : Type 1} → statement M
 +support-spec = close μ-support λ t. support-lts.spec (

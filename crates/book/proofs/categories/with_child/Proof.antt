@@ -1,31 +1,29 @@
+-- `with_child` meets its contract: in each branch the test that was made decides the added part. Assumes nothing.
+use mathlib.Core.Path.{_≡_}
+use mathlib.Core.Bool.{true, false}
 use borrow.Author.Needs.{needs}
+use borrow.Author.Tests.{lt-ltb, le-ltb}
+use Rattle.book.specs.Sets.{has}
+use Rattle.book.proofs.Lists.{and-end, and-false, or-end}
+use Rattle.book.proofs.Members.{has-or}
 use Rattle.book.proofs.categories.with_child.Statement.{statement}
 use Rattle.book.proofs.categories.with_child.Tie as tie
-use Rattle.book.proofs.categories.with_child.Reads as reads
-use Rattle.book.proofs.categories.with_child.Lts as lts
-use Rattle.book.proofs.sets.contains.Reads as contains-reads
-use Rattle.book.proofs.sets.single.Reads as single-reads
 
--- src/categories.rt:27:9
 returns : tie.Need-returns
-returns c = ?
+returns c j = simp (le-ltb (c .before .args .p) (c .before .args .i) (search needs), and-false, or-end)
 
--- src/categories.rt:29:8
-contains-requires : tie.Need-contains-requires
-contains-requires c κs = ?
-
--- src/categories.rt:30:22
-single-requires : tie.Need-single-requires
-single-requires c κs = ?
-
--- src/categories.rt:30:9
 returns-2 : tie.Need-returns-2
-returns-2 c = ?
+returns-2 c j =
+    let args = c .before .before .before .before .args in
+    let member : has (args .set) (args .p) ≡ true = cc in
+    rw (has-or, c .single .ensures j, lt-ltb (args .p) (args .i) (search needs), member, and-end)
 
--- src/categories.rt:23:1
 returns-3 : tie.Need-returns-3
-returns-3 c = ?
+returns-3 c j =
+    let args = c .before .before .before .args in
+    let other : has (args .set) (args .p) ≡ false = cc in
+    simp (other, and-false, or-end)
 
 pub with-child-spec : {M : Type 1} → statement M
 with-child-spec =
-    tie.close (tie.spec returns contains-requires single-requires returns-2 returns-3)
+    tie.close (tie.spec returns (λ c κs. search needs) (λ c κs. search needs) returns-2 returns-3)

@@ -1,55 +1,45 @@
+-- `with_leaf` meets its contract. The loop's invariant: the leaf is added to the words of the mask below k. Assumes nothing.
+use Prim.Native.Nat.{_≤_, _-_}
+use mathlib.Core.Path.{_≡_}
 use borrow.Author.Needs.{needs}
+use borrow.Author.Tests.{lt-ltb}
+use native.Mathlib.Omega.{arith}
+use mathlib.Core.Logic.{⊎-elim}
+use lib.ListN.{length, length-set}
+use Rattle.book.proofs.Members.{Added, added-none, added-here, added-not}
 use Rattle.book.proofs.categories.with_leaf.Statement.{statement}
 use Rattle.book.proofs.categories.with_leaf.Tie as tie
-use Rattle.book.proofs.categories.with_leaf.Reads as reads
-use Rattle.book.proofs.categories.with_leaf.Lts as lts
-use Rattle.book.proofs.sets.contains.Reads as contains-reads
 
 abbrev Inv-loop : tie.InvT-loop
-Inv-loop leaf mask words next₀ k₀ next k = ?
+Inv-loop leaf mask words next₀ k₀ next k = (k ≤ 16) × (length next ≡ 16) × Added words leaf mask next k
 
 abbrev μ-loop : tie.MeasureT-loop
-μ-loop leaf mask words next₀ k₀ next k = ?
+μ-loop leaf mask words next₀ k₀ next k = 16 - k
 
--- src/categories.rt:95:5
 loop-holds : tie.Need-loop-holds Inv-loop μ-loop
-loop-holds c = ?
+loop-holds c = (search needs, search needs, added-none (c .args .t1) (c .args .leaf) (c .args .mask))
 
--- src/categories.rt:96:12
-contains-requires : tie.Need-contains-requires Inv-loop μ-loop
-contains-requires c κs = ?
-
--- src/categories.rt:97:23
-mul-next : tie.Need-mul-next Inv-loop μ-loop
-mul-next c = ?
-
--- src/categories.rt:97:23
-array-read-next : tie.Need-array-read-next Inv-loop μ-loop
-array-read-next c = ?
-
--- src/categories.rt:97:13
-mul-next-2 : tie.Need-mul-next-2 Inv-loop μ-loop
-mul-next-2 c = ?
-
--- src/categories.rt:97:13
-array-write-next : tie.Need-array-write-next Inv-loop μ-loop
-array-write-next c = ?
-
--- src/categories.rt:95:9
-add-k : tie.Need-add-k Inv-loop μ-loop
-add-k c = ?
-
--- src/categories.rt:95:5
-loop-less : tie.Need-loop-less Inv-loop μ-loop
-loop-less c = ?
-
--- src/categories.rt:95:5
 loop-again : tie.Need-loop-again Inv-loop μ-loop
-loop-again c = ?
+loop-again c =
+    let at = c .before .before .before .loop in
+    let args = c .before .before .before .before .args in
+    ⊎-elim
+    (λ w.
+    rw (w .1) (
+      search needs,
+      simp length-set (at .inv .1),
+      added-here (args .t1) (args .leaf) (args .mask) (at .next) (at .k) (search needs) (cc) (at .inv .2),
+    ))
+    (λ w.
+    rw (w .1) (
+      search needs,
+      at .inv .1,
+      added-not (args .t1) (args .leaf) (args .mask) (at .next) (at .k) (cc) (at .inv .2),
+    ))
+    (c .if1 .came)
 
--- src/categories.rt:91:1
 returns : tie.Need-returns Inv-loop μ-loop
-returns c = ?
+returns c k l = rw (lt-ltb k (c .before .loop .k) (omega arith)) at (c .before .loop .inv .2 k)
 
 pub with-leaf-spec : {M : Type 1} → statement M
 with-leaf-spec =
@@ -58,12 +48,12 @@ with-leaf-spec =
     Inv-loop
     μ-loop
     loop-holds
-    contains-requires
-    mul-next
-    array-read-next
-    mul-next-2
-    array-write-next
-    add-k
-    loop-less
+    (λ c κs. search needs)
+    (λ c. search needs)
+    (λ c. search needs)
+    (λ c. search needs)
+    (λ c. search needs)
+    (λ c. search needs)
+    (λ c. search needs)
     loop-again
     returns)

@@ -1,24 +1,19 @@
+-- `below` meets its contract: a power of two less one has the members below its exponent. Assumes nothing.
 use borrow.Author.Needs.{needs}
+use native.Mathlib.Omega.{arith}
+use lib.Pow.{pow-pos}
+use Rattle.book.proofs.Members.{single-shift, below-in, below-out}
 use Rattle.book.proofs.sets.below.Statement.{statement}
 use Rattle.book.proofs.sets.below.Tie as tie
-use Rattle.book.proofs.sets.below.Reads as reads
-use Rattle.book.proofs.sets.below.Lts as lts
 
--- src/sets.rt:34:9
 returns : tie.Need-returns
-returns c = ?
+returns c j = below-out 64 (c .before .args .n) j (search needs)
 
--- src/sets.rt:36:6
-shl-result : tie.Need-shl-result
-shl-result c = ?
-
--- src/sets.rt:36:5
 sub-result : tie.Need-sub-result
-sub-result c = ?
+sub-result c = omega (arith, single-shift 64 (c .before .args .n) (search needs), pow-pos (c .before .args .n))
 
--- src/sets.rt:30:1
 returns-2 : tie.Need-returns-2
-returns-2 c = ?
+returns-2 c j = rw (single-shift 64 (c .before .args .n) (search needs)) (below-in 64 (c .before .args .n) j (search needs))
 
 pub below-spec : {M : Type 1} → statement M
-below-spec = tie.close (tie.spec returns shl-result sub-result returns-2)
+below-spec = tie.close (tie.spec returns (λ c. search needs) sub-result returns-2)

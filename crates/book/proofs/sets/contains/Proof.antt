@@ -1,20 +1,17 @@
+-- `contains` meets its contract: a word of 64 bits has no member from 64 on, and below that the code is the definition. Assumes nothing.
 use borrow.Author.Needs.{needs}
+use mathlib.Core.Path.{sym}
+use Rattle.book.specs.Sets.{has}
+use Rattle.book.proofs.Members.{has-above}
 use Rattle.book.proofs.sets.contains.Statement.{statement}
 use Rattle.book.proofs.sets.contains.Tie as tie
-use Rattle.book.proofs.sets.contains.Reads as reads
-use Rattle.book.proofs.sets.contains.Lts as lts
 
--- src/sets.rt:14:9
 returns : tie.Need-returns
-returns c = ?
+returns c = sym (has-above 64 (c .before .args .set) (c .before .args .i) (search needs) (search needs))
 
--- src/sets.rt:16:6
-shr-result : tie.Need-shr-result
-shr-result c = ?
-
--- src/sets.rt:10:1
 returns-2 : tie.Need-returns-2
-returns-2 c = ?
+unfolding has
+returns-2 c = search needs
 
 pub contains-spec : {M : Type 1} → statement M
-contains-spec = tie.close (tie.spec returns shr-result returns-2)
+contains-spec = tie.close (tie.spec returns (λ c. search needs) returns-2)

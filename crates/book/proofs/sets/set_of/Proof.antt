@@ -1,47 +1,41 @@
+-- `set_of` meets its contract. The loop's invariant: the set has the elements passed. Assumes nothing.
 use borrow.Author.Needs.{needs}
+use Prim.Native.Nat.{ℕ, _≤_, _-_}
+use mathlib.Core.Path.{_≡_}
+use mathlib.Core.Bool.{_&&_}
+use native.Mathlib.Omega.{arith}
+use lib.Dec.{eqb, ltb}
+use lib.Seq.{take-all}
+use lib.ListN.{length, take}
+use Rattle.book.specs.Lists.{any}
+use Rattle.book.specs.Sets.{has}
+use Rattle.book.proofs.Lists.{and-false}
+use Rattle.book.proofs.Members.{has-zero, listed-more}
 use Rattle.book.proofs.sets.set_of.Statement.{statement}
 use Rattle.book.proofs.sets.set_of.Tie as tie
-use Rattle.book.proofs.sets.set_of.Reads as reads
-use Rattle.book.proofs.sets.set_of.Lts as lts
-use Rattle.book.proofs.sets.single.Reads as single-reads
 
 abbrev Inv-loop : tie.InvT-loop
-Inv-loop list set₀ i₀ i-end set i = ?
+Inv-loop list set₀ i₀ i-end set i = (i ≤ length list) × ((j : ℕ) → has set j ≡ (ltb j 64 && any (eqb j) (take i list)))
 
 abbrev μ-loop : tie.MeasureT-loop
-μ-loop list set₀ i₀ i-end set i = ?
+μ-loop list set₀ i₀ i-end set i = length list - i
 
--- src/sets.rt:44:5
 loop-holds : tie.Need-loop-holds Inv-loop μ-loop
-loop-holds c = ?
+unfolding any
+loop-holds c = (search needs, λ j. rw (has-zero, and-false))
 
--- src/sets.rt:45:28
-shared-slice-read-single : tie.Need-shared-slice-read-single Inv-loop μ-loop
-shared-slice-read-single c = ?
-
--- src/sets.rt:45:28
 cast-single : tie.Need-cast-single Inv-loop μ-loop
-cast-single c = ?
+cast-single c = omega (arith, c .shared-slice-known2 .given (c .before .before .loop .i))
 
--- src/sets.rt:45:21
-single-requires : tie.Need-single-requires Inv-loop μ-loop
-single-requires c κs = ?
-
--- src/sets.rt:44:9
-add-i : tie.Need-add-i Inv-loop μ-loop
-add-i c = ?
-
--- src/sets.rt:44:5
-loop-less : tie.Need-loop-less Inv-loop μ-loop
-loop-less c = ?
-
--- src/sets.rt:44:5
 loop-again : tie.Need-loop-again Inv-loop μ-loop
-loop-again c = ?
+loop-again c = (
+  search needs,
+  listed-more 64 (c .before .before .before .loop .set) (c .single .result) (c .before .before .before .before .before .args .list .now)
+      (c .before .before .before .loop .i) (search needs) (c .before .before .before .loop .inv .1) (c .single .ensures),
+)
 
--- src/sets.rt:40:1
 returns : tie.Need-returns Inv-loop μ-loop
-returns c = ?
+returns c j = rw (take-all (c .before .loop .i) (c .before .before .before .args .list .now) (search needs)) at (c .before .loop .inv .1 j)
 
 pub set-of-spec : {M : Type 1} → statement M
 set-of-spec =
@@ -50,10 +44,10 @@ set-of-spec =
     Inv-loop
     μ-loop
     loop-holds
-    shared-slice-read-single
+    (λ c. search needs)
     cast-single
-    single-requires
-    add-i
-    loop-less
+    (λ c κs. search needs)
+    (λ c. search needs)
+    (λ c. search needs)
     loop-again
     returns)

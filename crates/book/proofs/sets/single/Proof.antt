@@ -1,20 +1,14 @@
+-- `single` meets its contract: a shift of 1 by less than 64 is a power of two, whose one member is its exponent. Assumes nothing.
 use borrow.Author.Needs.{needs}
+use Rattle.book.proofs.Members.{single-shift, single-in, single-out}
 use Rattle.book.proofs.sets.single.Statement.{statement}
 use Rattle.book.proofs.sets.single.Tie as tie
-use Rattle.book.proofs.sets.single.Reads as reads
-use Rattle.book.proofs.sets.single.Lts as lts
 
--- src/sets.rt:24:9
 returns : tie.Need-returns
-returns c = ?
+returns c j = single-out 64 (c .before .args .i) j (search needs)
 
--- src/sets.rt:26:5
-shl-result : tie.Need-shl-result
-shl-result c = ?
-
--- src/sets.rt:20:1
 returns-2 : tie.Need-returns-2
-returns-2 c = ?
+returns-2 c j = rw (single-shift 64 (c .before .args .i) (search needs)) (single-in 64 (c .before .args .i) j (search needs))
 
 pub single-spec : {M : Type 1} → statement M
-single-spec = tie.close (tie.spec returns shl-result returns-2)
+single-spec = tie.close (tie.spec returns (λ c. search needs) returns-2)
