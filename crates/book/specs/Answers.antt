@@ -9,7 +9,6 @@ use Rattle.book.specs.Lists.{upTo}
 use Rattle.book.specs.Blocks.{checkSum}
 use Rattle.book.specs.Refusals.{firstFailing, lengthTests, passTests, blockLength}
 use Rattle.book.specs.declared.checking.Pass.the-variants.{Checks, Kinds, Contents}
-use Rattle.book.specs.declared.Refusal.{Refusal}
 use Rattle.book.specs.declared.Checked.{Checked}
 use Rattle.book.specs.declared.Checked.the-variants as checked
 use Rattle.book.specs.declared.Sealed.{Sealed}

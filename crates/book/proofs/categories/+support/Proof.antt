@@ -22,51 +22,6 @@ support-at t = and 1 support-kinds.ps (is 1 support-kinds.ps μ-support t) suppo
 abbrev support-below : ℕ → In 1 support-kinds.ps
 support-below t = and 1 support-kinds.ps (falls 1 support-kinds.ps _<_ μ-support t) support.Pre
 
--- src/categories.rt:82:9
-support-own-operations-requires : (t : ℕ) → support-lts.Need-own-operations-requires (
-  own-operations-reads.Asked,
-  own-operations-reads.Learnt,
-  parent-reads.Asked,
-  parent-reads.Learnt,
-  support-below t,
-  support.Post,
-) (support-at t) support.Post
-support-own-operations-requires t c κs = search needs
-
--- src/categories.rt:83:9
-support-parent-requires : (t : ℕ) → support-lts.Need-parent-requires (
-  own-operations-reads.Asked,
-  own-operations-reads.Learnt,
-  parent-reads.Asked,
-  parent-reads.Learnt,
-  support-below t,
-  support.Post,
-) (support-at t) support.Post
-support-parent-requires t c κs = search needs
-
--- src/categories.rt:85:36
-support-cast-support : (t : ℕ) → support-lts.Need-cast-support (
-  own-operations-reads.Asked,
-  own-operations-reads.Learnt,
-  parent-reads.Asked,
-  parent-reads.Learnt,
-  support-below t,
-  support.Post,
-) (support-at t) support.Post
-support-cast-support t c = search needs
-
--- src/categories.rt:85:22
-support-support-requires : (t : ℕ) → support-lts.Need-support-requires (
-  own-operations-reads.Asked,
-  own-operations-reads.Learnt,
-  parent-reads.Asked,
-  parent-reads.Learnt,
-  support-below t,
-  support.Post,
-) (support-at t) support.Post
-support-support-requires t c κs = search needs
-
--- src/categories.rt:85:9
 support-returns : (t : ℕ) → support-lts.Need-returns (
   own-operations-reads.Asked,
   own-operations-reads.Learnt,
@@ -83,7 +38,6 @@ support-returns t c =
     (c .before .if1 .taken) (c .support .ensures .0),
     or-lt 16 (own .result) (c .support .result) (own .ensures .1) (c .support .ensures .1))
 
--- src/categories.rt:79:1
 support-returns-2 : (t : ℕ) → support-lts.Need-returns-2 (
   own-operations-reads.Asked,
   own-operations-reads.Learnt,
@@ -110,9 +64,9 @@ pub +support-spec : {M : Type 1} → statement M
 )
     (support-at t)
     support.Post
-    (support-own-operations-requires t)
-    (support-parent-requires t)
-    (support-cast-support t)
-    (support-support-requires t)
+    (λ c κs. search needs)
+    (λ c κs. search needs)
+    (λ c. search needs)
+    (λ c κs. search needs)
     (support-returns t)
     (support-returns-2 t)

@@ -7,12 +7,6 @@ use Rattle.book.proofs.Members.{has-minus, has-zero}
 use borrow.Author.Needs.{needs}
 use Rattle.book.proofs.categories.leaves.Statement.{statement}
 use Rattle.book.proofs.categories.leaves.Tie as tie
-use Rattle.book.proofs.categories.leaves.Reads as reads
-use Rattle.book.proofs.categories.leaves.Lts as lts
-use Rattle.book.proofs.categories.with_parent.Reads as with-parent-reads
-use Rattle.book.proofs.fields.count.Reads as count-reads
-use Rattle.book.proofs.fields.parent.Reads as parent-reads
-use Rattle.book.proofs.sets.below.Reads as below-reads
 
 abbrev Inv-loop : tie.InvT-loop
 Inv-loop head which n parents₀ i₀ parents i = (n ≤ 255) × Named (parentIn which head) n i parents
@@ -20,37 +14,11 @@ Inv-loop head which n parents₀ i₀ parents i = (n ≤ 255) × Named (parentIn
 abbrev μ-loop : tie.MeasureT-loop
 μ-loop head which n parents₀ i₀ parents i = n - i
 
--- src/categories.rt:69:9
-count-requires : tie.Need-count-requires Inv-loop μ-loop
-count-requires c κs = search needs
-
--- src/categories.rt:71:5
 loop-holds : tie.Need-loop-holds Inv-loop μ-loop
 loop-holds c =
     (c .count .ensures .1,
     named-none (parentIn (c .before .before .args .which) (c .before .before .args .head .now)) (c .count .result) has-zero)
 
--- src/categories.rt:72:37
-cast-parent : tie.Need-cast-parent Inv-loop μ-loop
-cast-parent c = search needs
-
--- src/categories.rt:72:13
-parent-requires : tie.Need-parent-requires Inv-loop μ-loop
-parent-requires c κs = search needs
-
--- src/categories.rt:73:9
-with-parent-requires : tie.Need-with-parent-requires Inv-loop μ-loop
-with-parent-requires c κs = search needs
-
--- src/categories.rt:71:9
-add-i : tie.Need-add-i Inv-loop μ-loop
-add-i c = search needs
-
--- src/categories.rt:71:5
-loop-less : tie.Need-loop-less Inv-loop μ-loop
-loop-less c = search needs
-
--- src/categories.rt:71:5
 loop-again : tie.Need-loop-again Inv-loop μ-loop
 loop-again c =
     let a = c .before .before .before .before .before .before .args in
@@ -60,11 +28,6 @@ loop-again c =
     (c .before .parent .result) (l .parents) (c .with-parent .result) (l .inv .1) (c .before .before .loop-test .taken)
     (c .with-parent .ok) (c .before .parent .ensures .0) (c .with-parent .ensures))
 
--- src/categories.rt:75:5
-below-requires : tie.Need-below-requires Inv-loop μ-loop
-below-requires c κs = search needs
-
--- src/categories.rt:66:1
 returns : tie.Need-returns Inv-loop μ-loop
 returns c =
     let a = c .before .before .before .before .before .args in
@@ -81,13 +44,13 @@ leaves-spec =
     (tie.spec
     Inv-loop
     μ-loop
-    count-requires
+    (λ c κs. search needs)
     loop-holds
-    cast-parent
-    parent-requires
-    with-parent-requires
-    add-i
-    loop-less
+    (λ c. search needs)
+    (λ c κs. search needs)
+    (λ c κs. search needs)
+    (λ c. search needs)
+    (λ c. search needs)
     loop-again
-    below-requires
+    (λ c κs. search needs)
     returns)

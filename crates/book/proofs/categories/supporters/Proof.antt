@@ -9,12 +9,6 @@ use Rattle.book.proofs.Support.{Supported, supported-none, supported-mo
 use borrow.Author.Needs.{needs}
 use Rattle.book.proofs.categories.supporters.Statement.{statement}
 use Rattle.book.proofs.categories.supporters.Tie as tie
-use Rattle.book.proofs.categories.supporters.Reads as reads
-use Rattle.book.proofs.categories.supporters.Lts as lts
-use Rattle.book.proofs.categories.leaves.Reads as leaves-reads
-use Rattle.book.proofs.categories.support.Reads as support-reads
-use Rattle.book.proofs.categories.with_leaf.Reads as with-leaf-reads
-use Rattle.book.proofs.sets.single.Reads as single-reads
 
 abbrev Inv-loop : tie.InvT-loop
 Inv-loop head all words₀ d₀ words d = ((c : ℕ) → has all c ≡ (ltb c 64 && isDataLeaf head c)) × Supported head d words
@@ -22,40 +16,10 @@ Inv-loop head all words₀ d₀ words d = ((c : ℕ) → has all c ≡ (ltb c 64
 abbrev μ-loop : tie.MeasureT-loop
 μ-loop head all words₀ d₀ words d = 64 - d
 
--- src/categories.rt:107:9
-leaves-requires : tie.Need-leaves-requires Inv-loop μ-loop
-leaves-requires c κs = search needs
-
--- src/categories.rt:109:5
 loop-holds : tie.Need-loop-holds Inv-loop μ-loop
 unfolding isDataLeaf
 loop-holds c = (c .leaves .ensures, supported-none (c .before .before .args .head .now))
 
--- src/categories.rt:110:26
-single-requires : tie.Need-single-requires Inv-loop μ-loop
-single-requires c κs = search needs
-
--- src/categories.rt:111:57
-cast-support : tie.Need-cast-support Inv-loop μ-loop
-cast-support c = search needs
-
--- src/categories.rt:111:43
-support-requires : tie.Need-support-requires Inv-loop μ-loop
-support-requires c κs = search needs
-
--- src/categories.rt:111:13
-with-leaf-requires : tie.Need-with-leaf-requires Inv-loop μ-loop
-with-leaf-requires c κs = search needs
-
--- src/categories.rt:109:9
-add-d : tie.Need-add-d Inv-loop μ-loop
-add-d c = search needs
-
--- src/categories.rt:109:5
-loop-less : tie.Need-loop-less Inv-loop μ-loop
-loop-less c = search needs
-
--- src/categories.rt:109:5
 loop-again : tie.Need-loop-again Inv-loop μ-loop
 loop-again c =
     let a = c .before .before .before .before .before .before .before .args in
@@ -66,7 +30,6 @@ loop-again c =
     (c .before .support .result) (l .words) (c .with-leaf .result) (l .inv .1) (c .before .before .before .loop-test .taken)
     (l .inv .0) (one .ensures) (c .before .support .ensures .0) (c .with-leaf .ensures))
 
--- src/categories.rt:104:1
 returns : tie.Need-returns Inv-loop μ-loop
 returns c =
     let l = c .before .loop in
@@ -78,13 +41,13 @@ supporters-spec =
     (tie.spec
     Inv-loop
     μ-loop
-    leaves-requires
+    (λ c κs. search needs)
     loop-holds
-    single-requires
-    cast-support
-    support-requires
-    with-leaf-requires
-    add-d
-    loop-less
+    (λ c κs. search needs)
+    (λ c. search needs)
+    (λ c κs. search needs)
+    (λ c κs. search needs)
+    (λ c. search needs)
+    (λ c. search needs)
     loop-again
     returns)

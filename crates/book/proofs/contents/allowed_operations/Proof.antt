@@ -1,43 +1,36 @@
+-- Operation 0 is never supported, so it goes from the mask: the law `allowed-present`. Assumes nothing.
+use Prim.Native.Nat.{_-_, _^_, _<_}
+use native.Mathlib.Nat.{lt-of-le-of-lt}
+use native.Mathlib.Omega.{arith}
+use lib.Bits.{and-le-l}
+use Rattle.book.specs.Rule.{referenceCount}
+use Rattle.book.proofs.References.{allowed-present, allowed-absent}
 use borrow.Author.Needs.{needs}
 use Rattle.book.proofs.contents.allowed_operations.Statement.{statement}
 use Rattle.book.proofs.contents.allowed_operations.Tie as tie
-use Rattle.book.proofs.contents.allowed_operations.Reads as reads
-use Rattle.book.proofs.contents.allowed_operations.Lts as lts
-use Rattle.book.proofs.categories.support.Reads as support-reads
-use Rattle.book.proofs.fields.data_category.Reads as data-category-reads
-use Rattle.book.proofs.fields.reference_count.Reads as reference-count-reads
 
--- src/contents.rt:299:23
-reference-count-requires : tie.Need-reference-count-requires
-reference-count-requires c κs = ?
-
--- src/contents.rt:300:13
-data-category-requires : tie.Need-data-category-requires
-data-category-requires c κs = ?
-
--- src/contents.rt:301:30
-cast-support : tie.Need-cast-support
-cast-support c = ?
-
--- src/contents.rt:301:16
-support-requires : tie.Need-support-requires
-support-requires c κs = ?
-
--- src/contents.rt:301:9
 returns : tie.Need-returns
-returns c = ?
+returns c =
+    let a = c .before .before .before .before .before .before .args in
+    let n = c .before .before .before .reference-count in
+    let i : a .i < referenceCount (a .rule .now) = rw (n .ensures .0) at (c .before .before .if1 .taken) in
+    (allowed-present (a .head .now) (a .rule .now) (a .i) (c .support .result) i
+    (rw (c .before .data-category .ensures .0) at (c .support .ensures .0)) (c .support .ensures .1),
+    lt-of-le-of-lt (and-le-l (c .support .result) ((2 ^ 64 - 1) - 1)) (c .support .ensures .1))
 
--- src/contents.rt:296:1
 returns-2 : tie.Need-returns-2
-returns-2 c = ?
+returns-2 c =
+    let a = c .before .before .before .before .args in
+    let n = c .before .reference-count in
+    (allowed-absent (a .head .now) (a .rule .now) (a .i) (rw (n .ensures .0) at (c .if1 .left)), omega arith)
 
 pub allowed-operations-spec : {M : Type 1} → statement M
 allowed-operations-spec =
     tie.close
     (tie.spec
-    reference-count-requires
-    data-category-requires
-    cast-support
-    support-requires
+    (λ c κs. search needs)
+    (λ c κs. search needs)
+    (λ c. search needs)
+    (λ c κs. search needs)
     returns
     returns-2)

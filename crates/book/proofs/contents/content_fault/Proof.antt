@@ -1,51 +1,33 @@
-use borrow.Author.Needs.{needs}
 use Rattle.book.proofs.contents.content_fault.Statement.{statement}
 use Rattle.book.proofs.contents.content_fault.Tie as tie
-use Rattle.book.proofs.contents.content_fault.Reads as reads
-use Rattle.book.proofs.contents.content_fault.Lts as lts
-use Rattle.book.proofs.contents.columns_fault.Reads as columns-fault-reads
-use Rattle.book.proofs.contents.data_fault.Reads as data-fault-reads
-use Rattle.book.proofs.contents.functions_fault.Reads as functions-fault-reads
-use Rattle.book.proofs.contents.rule_fault.Reads as rule-fault-reads
-use Rattle.book.proofs.contents.users_fault.Reads as users-fault-reads
 
--- src/contents.rt:352:14
 users-fault-requires : tie.Need-users-fault-requires
 users-fault-requires c κs = ?
 
--- src/contents.rt:353:14
 data-fault-requires : tie.Need-data-fault-requires
 data-fault-requires c κs = ?
 
--- src/contents.rt:354:14
 columns-fault-requires : tie.Need-columns-fault-requires
 columns-fault-requires c κs = ?
 
--- src/contents.rt:355:14
 functions-fault-requires : tie.Need-functions-fault-requires
 functions-fault-requires c κs = ?
 
--- src/contents.rt:356:14
 rule-fault-requires : tie.Need-rule-fault-requires
 rule-fault-requires c κs = ?
 
--- src/contents.rt:348:1
 returns : tie.Need-returns
 returns c = ?
 
--- src/contents.rt:348:1
 returns-2 : tie.Need-returns-2
 returns-2 c = ?
 
--- src/contents.rt:348:1
 returns-3 : tie.Need-returns-3
 returns-3 c = ?
 
--- src/contents.rt:348:1
 returns-4 : tie.Need-returns-4
 returns-4 c = ?
 
--- src/contents.rt:348:1
 returns-5 : tie.Need-returns-5
 returns-5 c = ?
 

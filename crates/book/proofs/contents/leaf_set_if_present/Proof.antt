@@ -1,27 +1,18 @@
+-- Where the reference is present the word is its leaf set, otherwise 0. Assumes nothing.
+use borrow.Author.Tests.{lt-ltb, le-ltb}
+use Rattle.book.proofs.Members.{has-zero}
 use borrow.Author.Needs.{needs}
 use Rattle.book.proofs.contents.leaf_set_if_present.Statement.{statement}
 use Rattle.book.proofs.contents.leaf_set_if_present.Tie as tie
-use Rattle.book.proofs.contents.leaf_set_if_present.Reads as reads
-use Rattle.book.proofs.contents.leaf_set_if_present.Lts as lts
-use Rattle.book.proofs.fields.reference_count.Reads as reference-count-reads
-use Rattle.book.proofs.rules.leaf_set.Reads as leaf-set-reads
 
--- src/contents.rt:280:23
-reference-count-requires : tie.Need-reference-count-requires
-reference-count-requires c κs = ?
-
--- src/contents.rt:281:9
-leaf-set-requires : tie.Need-leaf-set-requires
-leaf-set-requires c κs = ?
-
--- src/contents.rt:281:9
 returns : tie.Need-returns
-returns c = ?
+returns c d =
+    rw (← (c .before .before .reference-count .ensures .0), lt-ltb _ _ (c .before .if1 .taken)) (c .leaf-set .ensures d)
 
--- src/contents.rt:277:1
 returns-2 : tie.Need-returns-2
-returns-2 c = ?
+returns-2 c d =
+    rw (← (c .before .reference-count .ensures .0), le-ltb _ _ (c .if1 .left)) (has-zero d)
 
 pub leaf-set-if-present-spec : {M : Type 1} → statement M
 leaf-set-if-present-spec =
-    tie.close (tie.spec reference-count-requires leaf-set-requires returns returns-2)
+    tie.close (tie.spec (λ c κs. search needs) (λ c κs. search needs) returns returns-2)

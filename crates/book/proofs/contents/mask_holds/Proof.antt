@@ -1,17 +1,16 @@
+-- A mask lies within a set when nothing is left of it outside: the law `subset-test`. Assumes nothing.
+use native.Mathlib.Omega.{arith}
+use Rattle.book.proofs.Members.{subset-test}
 use borrow.Author.Needs.{needs}
 use Rattle.book.proofs.contents.mask_holds.Statement.{statement}
 use Rattle.book.proofs.contents.mask_holds.Tie as tie
-use Rattle.book.proofs.contents.mask_holds.Reads as reads
-use Rattle.book.proofs.contents.mask_holds.Lts as lts
-use Rattle.book.proofs.fields.restriction_mask.Reads as restriction-mask-reads
 
--- src/contents.rt:309:5
-restriction-mask-requires : tie.Need-restriction-mask-requires
-restriction-mask-requires c κs = ?
-
--- src/contents.rt:306:1
 returns : tie.Need-returns
-returns c = ?
+returns c =
+    let a = c .before .before .args in
+    rw (← (c .restriction-mask .ensures .0))
+    (subset-test 16 64 (c .restriction-mask .result) (a .allowed) (omega arith) (c .restriction-mask .ensures .1)
+    (c .before .before .fits .allowed .fits))
 
 pub mask-holds-spec : {M : Type 1} → statement M
-mask-holds-spec = tie.close (tie.spec restriction-mask-requires returns)
+mask-holds-spec = tie.close (tie.spec (λ c κs. search needs) returns)

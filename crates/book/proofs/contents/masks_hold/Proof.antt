@@ -1,69 +1,47 @@
+-- One restriction a turn; the law `masks-more` is the step. Assumes nothing.
+use Prim.Native.Nat.{_-_, _≤_}
+use native.Mathlib.Omega.{arith}
+use mathlib.Core.Path.{_≡_, sym}
+use Rattle.book.specs.Lists.{all, upTo}
+use Rattle.book.specs.Refusals.{maskHolds, masksHold}
+use Rattle.book.proofs.Lists.{all-none}
+use Rattle.book.proofs.References.{masks-more}
 use borrow.Author.Needs.{needs}
 use Rattle.book.proofs.contents.masks_hold.Statement.{statement}
 use Rattle.book.proofs.contents.masks_hold.Tie as tie
-use Rattle.book.proofs.contents.masks_hold.Reads as reads
-use Rattle.book.proofs.contents.masks_hold.Lts as lts
-use Rattle.book.proofs.contents.allowed_operations.Reads as allowed-operations-reads
-use Rattle.book.proofs.contents.mask_holds.Reads as mask-holds-reads
-use Rattle.book.proofs.fields.restriction_count.Reads as restriction-count-reads
 
 abbrev Inv-loop : tie.InvT-loop
-Inv-loop head rule a b c n ok₀ j₀ ok j = ?
+Inv-loop head rule a b c n ok₀ j₀ ok j =
+    (n ≤ 255) × (j ≤ n) × (ok ≡ all (λ i. all (maskHolds head rule i) (upTo 3)) (upTo j))
 
 abbrev μ-loop : tie.MeasureT-loop
-μ-loop head rule a b c n ok₀ j₀ ok j = ?
+μ-loop head rule a b c n ok₀ j₀ ok j = n - j
 
--- src/contents.rt:315:9
-allowed-operations-requires : tie.Need-allowed-operations-requires Inv-loop μ-loop
-allowed-operations-requires c κs = ?
-
--- src/contents.rt:316:9
-allowed-operations-requires-2 : tie.Need-allowed-operations-requires-2 Inv-loop μ-loop
-allowed-operations-requires-2 c κs = ?
-
--- src/contents.rt:317:9
-allowed-operations-requires-3 : tie.Need-allowed-operations-requires-3 Inv-loop μ-loop
-allowed-operations-requires-3 c κs = ?
-
--- src/contents.rt:318:9
-restriction-count-requires : tie.Need-restriction-count-requires Inv-loop μ-loop
-restriction-count-requires c κs = ?
-
--- src/contents.rt:320:5
 loop-holds : tie.Need-loop-holds Inv-loop μ-loop
-loop-holds c = ?
+loop-holds c =
+    let a = c .before .before .before .before .before .before .args in
+    (c .restriction-count .ensures .1, search needs, sym (all-none (λ i. all (maskHolds (a .head .now) (a .rule .now) i) (upTo 3))))
 
--- src/contents.rt:321:19
-cast-row : tie.Need-cast-row Inv-loop μ-loop
-cast-row c = ?
-
--- src/contents.rt:323:16
-mask-holds-requires : tie.Need-mask-holds-requires Inv-loop μ-loop
-mask-holds-requires c κs = ?
-
--- src/contents.rt:324:20
-mask-holds-requires-2 : tie.Need-mask-holds-requires-2 Inv-loop μ-loop
-mask-holds-requires-2 c κs = ?
-
--- src/contents.rt:324:50
-mask-holds-requires-3 : tie.Need-mask-holds-requires-3 Inv-loop μ-loop
-mask-holds-requires-3 c κs = ?
-
--- src/contents.rt:320:9
-add-j : tie.Need-add-j Inv-loop μ-loop
-add-j c = ?
-
--- src/contents.rt:320:5
-loop-less : tie.Need-loop-less Inv-loop μ-loop
-loop-less c = ?
-
--- src/contents.rt:320:5
 loop-again : tie.Need-loop-again Inv-loop μ-loop
-loop-again c = ?
+loop-again c =
+    let g = c .before .before .before .before .before .before .before .before .before .before .before .args in
+    let l = c .before .before .before .before .loop in
+    let first = c .before .before .before .before .before .before .before .before .allowed-operations in
+    let second = c .before .before .before .before .before .before .before .allowed-operations2 in
+    let third = c .before .before .before .before .before .before .allowed-operations3 in
+    (l .inv .0, search needs,
+    masks-more (g .head .now) (g .rule .now) (first .result) (second .result) (third .result) (l .j) (l .ok)
+    (c .before .before .mask-holds .result) (c .before .mask-holds2 .result) (c .mask-holds3 .result)
+    (first .ensures .0) (second .ensures .0) (third .ensures .0) (c .before .before .mask-holds .ensures)
+    (c .before .mask-holds2 .ensures) (c .mask-holds3 .ensures) (l .inv .2))
 
--- src/contents.rt:312:1
 returns : tie.Need-returns Inv-loop μ-loop
-returns c = ?
+unfolding masksHold
+returns c =
+    let l = c .before .loop in
+    let n = c .before .before .restriction-count in
+    let e : l .j ≡ n .result = omega arith in
+    rw (← (n .ensures .0), ← e) (l .inv .2)
 
 pub masks-hold-spec : {M : Type 1} → statement M
 masks-hold-spec =
@@ -71,16 +49,16 @@ masks-hold-spec =
     (tie.spec
     Inv-loop
     μ-loop
-    allowed-operations-requires
-    allowed-operations-requires-2
-    allowed-operations-requires-3
-    restriction-count-requires
+    (λ c κs. search needs)
+    (λ c κs. search needs)
+    (λ c κs. search needs)
+    (λ c κs. search needs)
     loop-holds
-    cast-row
-    mask-holds-requires
-    mask-holds-requires-2
-    mask-holds-requires-3
-    add-j
-    loop-less
+    (λ c. search needs)
+    (λ c κs. search needs)
+    (λ c κs. search needs)
+    (λ c κs. search needs)
+    (λ c. search needs)
+    (λ c. search needs)
     loop-again
     returns)

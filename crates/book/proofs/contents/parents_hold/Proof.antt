@@ -1,10 +1,5 @@
-use borrow.Author.Needs.{needs}
 use Rattle.book.proofs.contents.parents_hold.Statement.{statement}
 use Rattle.book.proofs.contents.parents_hold.Tie as tie
-use Rattle.book.proofs.contents.parents_hold.Reads as reads
-use Rattle.book.proofs.contents.parents_hold.Lts as lts
-use Rattle.book.proofs.contents.parent_holds.Reads as parent-holds-reads
-use Rattle.book.proofs.fields.count.Reads as count-reads
 
 abbrev Inv-loop : tie.InvT-loop
 Inv-loop head which n ok₀ i₀ ok i = ?
@@ -12,35 +7,27 @@ Inv-loop head which n ok₀ i₀ ok i = ?
 abbrev μ-loop : tie.MeasureT-loop
 μ-loop head which n ok₀ i₀ ok i = ?
 
--- src/contents.rt:81:9
 count-requires : tie.Need-count-requires Inv-loop μ-loop
 count-requires c κs = ?
 
--- src/contents.rt:83:5
 loop-holds : tie.Need-loop-holds Inv-loop μ-loop
 loop-holds c = ?
 
--- src/contents.rt:84:45
 cast-parent-holds : tie.Need-cast-parent-holds Inv-loop μ-loop
 cast-parent-holds c = ?
 
--- src/contents.rt:84:19
 parent-holds-requires : tie.Need-parent-holds-requires Inv-loop μ-loop
 parent-holds-requires c κs = ?
 
--- src/contents.rt:83:9
 add-i : tie.Need-add-i Inv-loop μ-loop
 add-i c = ?
 
--- src/contents.rt:83:5
 loop-less : tie.Need-loop-less Inv-loop μ-loop
 loop-less c = ?
 
--- src/contents.rt:83:5
 loop-again : tie.Need-loop-again Inv-loop μ-loop
 loop-again c = ?
 
--- src/contents.rt:78:1
 returns : tie.Need-returns Inv-loop μ-loop
 returns c = ?
 

@@ -1,44 +1,30 @@
-use borrow.Author.Needs.{needs}
 use Rattle.book.proofs.contents.reference_end.Statement.{statement}
 use Rattle.book.proofs.contents.reference_end.Tie as tie
-use Rattle.book.proofs.contents.reference_end.Reads as reads
-use Rattle.book.proofs.contents.reference_end.Lts as lts
-use Rattle.book.proofs.fields.exclusion_count.Reads as exclusion-count-reads
-use Rattle.book.proofs.fields.reference_count.Reads as reference-count-reads
 
--- src/contents.rt:207:13
 reference-count-requires : tie.Need-reference-count-requires
 reference-count-requires c κs = ?
 
--- src/contents.rt:208:21
 mul-result : tie.Need-mul-result
 mul-result c = ?
 
--- src/contents.rt:208:16
 add-result : tie.Need-add-result
 add-result c = ?
 
--- src/contents.rt:208:31
 exclusion-count-requires : tie.Need-exclusion-count-requires
 exclusion-count-requires c κs = ?
 
--- src/contents.rt:208:16
 add-result-2 : tie.Need-add-result-2
 add-result-2 c = ?
 
--- src/contents.rt:208:9
 returns : tie.Need-returns
 returns c = ?
 
--- src/contents.rt:210:10
 mul-result-2 : tie.Need-mul-result-2
 mul-result-2 c = ?
 
--- src/contents.rt:210:5
 add-result-3 : tie.Need-add-result-3
 add-result-3 c = ?
 
--- src/contents.rt:203:1
 returns-2 : tie.Need-returns-2
 returns-2 c = ?
 

@@ -1,31 +1,30 @@
+-- Three words, compared in pairs: the law `references-apart-at`. Assumes nothing.
+use Prim.Native.Nat.{_^_, _<_}
+use mathlib.Core.Bool.{_&&_}
+use lib.Dec.{ltb}
+use Rattle.book.specs.Rule.{referenceCount, inLeafSet}
+use Rattle.book.proofs.References.{three, three-all, three-at, references-apart-at}
 use borrow.Author.Needs.{needs}
 use Rattle.book.proofs.contents.references_apart.Statement.{statement}
 use Rattle.book.proofs.contents.references_apart.Tie as tie
-use Rattle.book.proofs.contents.references_apart.Reads as reads
-use Rattle.book.proofs.contents.references_apart.Lts as lts
-use Rattle.book.proofs.contents.leaf_set_if_present.Reads as leaf-set-if-present-reads
 
--- src/contents.rt:289:9
-leaf-set-if-present-requires : tie.Need-leaf-set-if-present-requires
-leaf-set-if-present-requires c κs = ?
-
--- src/contents.rt:290:9
-leaf-set-if-present-requires-2 : tie.Need-leaf-set-if-present-requires-2
-leaf-set-if-present-requires-2 c κs = ?
-
--- src/contents.rt:291:9
-leaf-set-if-present-requires-3 : tie.Need-leaf-set-if-present-requires-3
-leaf-set-if-present-requires-3 c κs = ?
-
--- src/contents.rt:286:1
 returns : tie.Need-returns
-returns c = ?
+unfolding three
+returns c small few =
+    let a = c .before .before .before .before .before .args in
+    let u = c .before .before .leaf-set-if-present in
+    let v = c .before .leaf-set-if-present2 in
+    let w = c .leaf-set-if-present3 in
+    references-apart-at (a .head .now) (a .rule .now) (three (u .result) (v .result) (w .result)) small few
+    (three-all (λ x. x < 2 ^ 64) (u .result) (v .result) (w .result) (u .ok) (v .ok) (w .ok))
+    (three-at (λ i d. ltb i (referenceCount (a .rule .now)) && (ltb d 64 && inLeafSet (a .head .now) (a .rule .now) i d))
+    (u .result) (v .result) (w .result) (u .ensures) (v .ensures) (w .ensures))
 
 pub references-apart-spec : {M : Type 1} → statement M
 references-apart-spec =
     tie.close
     (tie.spec
-    leaf-set-if-present-requires
-    leaf-set-if-present-requires-2
-    leaf-set-if-present-requires-3
+    (λ c κs. search needs)
+    (λ c κs. search needs)
+    (λ c κs. search needs)
     returns)

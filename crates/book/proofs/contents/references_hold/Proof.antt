@@ -1,10 +1,5 @@
-use borrow.Author.Needs.{needs}
 use Rattle.book.proofs.contents.references_hold.Statement.{statement}
 use Rattle.book.proofs.contents.references_hold.Tie as tie
-use Rattle.book.proofs.contents.references_hold.Reads as reads
-use Rattle.book.proofs.contents.references_hold.Lts as lts
-use Rattle.book.proofs.contents.reference_holds.Reads as reference-holds-reads
-use Rattle.book.proofs.fields.reference_count.Reads as reference-count-reads
 
 abbrev Inv-loop : tie.InvT-loop
 Inv-loop head rule n ok₀ i₀ ok i = ?
@@ -12,35 +7,27 @@ Inv-loop head rule n ok₀ i₀ ok i = ?
 abbrev μ-loop : tie.MeasureT-loop
 μ-loop head rule n ok₀ i₀ ok i = ?
 
--- src/contents.rt:268:9
 reference-count-requires : tie.Need-reference-count-requires Inv-loop μ-loop
 reference-count-requires c κs = ?
 
--- src/contents.rt:270:5
 loop-holds : tie.Need-loop-holds Inv-loop μ-loop
 loop-holds c = ?
 
--- src/contents.rt:271:47
 cast-reference-holds : tie.Need-cast-reference-holds Inv-loop μ-loop
 cast-reference-holds c = ?
 
--- src/contents.rt:271:19
 reference-holds-requires : tie.Need-reference-holds-requires Inv-loop μ-loop
 reference-holds-requires c κs = ?
 
--- src/contents.rt:270:9
 add-i : tie.Need-add-i Inv-loop μ-loop
 add-i c = ?
 
--- src/contents.rt:270:5
 loop-less : tie.Need-loop-less Inv-loop μ-loop
 loop-less c = ?
 
--- src/contents.rt:270:5
 loop-again : tie.Need-loop-again Inv-loop μ-loop
 loop-again c = ?
 
--- src/contents.rt:265:1
 returns : tie.Need-returns Inv-loop μ-loop
 returns c = ?
 

@@ -1,30 +1,18 @@
-use borrow.Author.Needs.{needs}
 use Rattle.book.proofs.contents.user_numbers_hold.Statement.{statement}
 use Rattle.book.proofs.contents.user_numbers_hold.Tie as tie
-use Rattle.book.proofs.contents.user_numbers_hold.Reads as reads
-use Rattle.book.proofs.contents.user_numbers_hold.Lts as lts
-use Rattle.book.proofs.contents.proper_descendants.Reads as proper-descendants-reads
-use Rattle.book.proofs.fields.count.Reads as count-reads
-use Rattle.book.proofs.fields.excluded_users.Reads as excluded-users-reads
-use Rattle.book.proofs.fields.user_category.Reads as user-category-reads
 
--- src/contents.rt:251:9
 user-category-requires : tie.Need-user-category-requires
 user-category-requires c κs = ?
 
--- src/contents.rt:252:10
 count-requires : tie.Need-count-requires
 count-requires c κs = ?
 
--- src/contents.rt:253:57
 excluded-users-requires : tie.Need-excluded-users-requires
 excluded-users-requires c κs = ?
 
--- src/contents.rt:253:11
 proper-descendants-requires : tie.Need-proper-descendants-requires
 proper-descendants-requires c κs = ?
 
--- src/contents.rt:248:1
 returns : tie.Need-returns
 returns c = ?
 

@@ -1,42 +1,27 @@
-use borrow.Author.Needs.{needs}
 use Rattle.book.proofs.contents.users_fault.Statement.{statement}
 use Rattle.book.proofs.contents.users_fault.Tie as tie
-use Rattle.book.proofs.contents.users_fault.Reads as reads
-use Rattle.book.proofs.contents.users_fault.Lts as lts
-use Rattle.book.proofs.contents.parents_hold.Reads as parents-hold-reads
-use Rattle.book.proofs.contents.within.Reads as within-reads
-use Rattle.book.proofs.contents.zeros.Reads as zeros-reads
-use Rattle.book.proofs.fields.count.Reads as count-reads
 
--- src/contents.rt:104:9
 count-requires : tie.Need-count-requires
 count-requires c κs = ?
 
--- src/contents.rt:105:10
 within-requires : tie.Need-within-requires
 within-requires c κs = ?
 
--- src/contents.rt:105:41
 add-zeros : tie.Need-add-zeros
 add-zeros c = ?
 
--- src/contents.rt:105:29
 zeros-requires : tie.Need-zeros-requires
 zeros-requires c κs = ?
 
--- src/contents.rt:106:9
 returns : tie.Need-returns
 returns c = ?
 
--- src/contents.rt:108:9
 parents-hold-requires : tie.Need-parents-hold-requires
 parents-hold-requires c κs = ?
 
--- src/contents.rt:109:9
 returns-2 : tie.Need-returns-2
 returns-2 c = ?
 
--- src/contents.rt:101:1
 returns-3 : tie.Need-returns-3
 returns-3 c = ?
 

@@ -1,10 +1,6 @@
-use borrow.Author.Needs.{needs}
 use Rattle.book.proofs.contents.within.Statement.{statement}
 use Rattle.book.proofs.contents.within.Tie as tie
-use Rattle.book.proofs.contents.within.Reads as reads
-use Rattle.book.proofs.contents.within.Lts as lts
 
--- src/contents.rt:50:1
 returns : tie.Need-returns
 returns c = ?
 

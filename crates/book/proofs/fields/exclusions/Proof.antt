@@ -1,12 +1,7 @@
 use borrow.Author.Needs.{needs}
 use Rattle.book.proofs.fields.exclusions.Statement.{statement}
 use Rattle.book.proofs.fields.exclusions.Tie as tie
-use Rattle.book.proofs.fields.exclusions.Reads as reads
-use Rattle.book.proofs.fields.exclusions.Lts as lts
-use Rattle.book.proofs.bytes.part.Reads as part-reads
-use Rattle.book.proofs.fields.exclusion_count.Reads as exclusion-count-reads
 
--- src/fields.rt:117:1
 returns : tie.Need-returns
 returns c = rw (← (c .before .exclusion-count .ensures .0)) (c .part .ensures)
 

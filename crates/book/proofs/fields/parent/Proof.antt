@@ -1,15 +1,10 @@
 use borrow.Author.Needs.{needs}
 use Rattle.book.proofs.fields.parent.Statement.{statement}
 use Rattle.book.proofs.fields.parent.Tie as tie
-use Rattle.book.proofs.fields.parent.Reads as reads
-use Rattle.book.proofs.fields.parent.Lts as lts
-use Rattle.book.proofs.bytes.byte_at.Reads as byte-at-reads
 
--- src/fields.rt:22:1
 returns : tie.Need-returns
 returns c = rw (c .before .enum-told .given .1) (c .byte-at .ensures)
 
--- src/fields.rt:22:1
 returns-2 : tie.Need-returns-2
 returns-2 c = rw (c .before .enum-told2 .given .1) (c .byte-at2 .ensures)
 

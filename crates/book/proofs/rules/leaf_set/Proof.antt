@@ -1,34 +1,22 @@
+-- The leaves among what is covered: the law `both-at`. Assumes nothing.
+use Rattle.book.specs.Hierarchies.{leaf, covers}
+use Rattle.book.specs.Head.{dataCount, dataParent, isDataLeaf}
+use Rattle.book.specs.Rule.{dataCategory, exclusions, inLeafSet}
+use Rattle.book.proofs.References.{both-at}
 use borrow.Author.Needs.{needs}
 use Rattle.book.proofs.rules.leaf_set.Statement.{statement}
 use Rattle.book.proofs.rules.leaf_set.Tie as tie
-use Rattle.book.proofs.rules.leaf_set.Reads as reads
-use Rattle.book.proofs.rules.leaf_set.Lts as lts
-use Rattle.book.proofs.categories.covered.Reads as covered-reads
-use Rattle.book.proofs.categories.leaves.Reads as leaves-reads
-use Rattle.book.proofs.fields.data_category.Reads as data-category-reads
-use Rattle.book.proofs.fields.exclusions.Reads as exclusions-reads
 
--- src/rules.rt:20:9
-data-category-requires : tie.Need-data-category-requires
-data-category-requires c κs = ?
-
--- src/rules.rt:21:5
-leaves-requires : tie.Need-leaves-requires
-leaves-requires c κs = ?
-
--- src/rules.rt:21:71
-exclusions-requires : tie.Need-exclusions-requires
-exclusions-requires c κs = ?
-
--- src/rules.rt:21:37
-covered-requires : tie.Need-covered-requires
-covered-requires c κs = ?
-
--- src/rules.rt:17:1
 returns : tie.Need-returns
-returns c = ?
+unfolding inLeafSet isDataLeaf
+returns c =
+    let a = c .before .before .before .before .before .before .args in
+    both-at (leaf (dataCount (a .head .now)) (dataParent (a .head .now)))
+    (covers (dataParent (a .head .now)) (dataCategory (a .rule .now) (a .i)) (exclusions (a .rule .now) (a .i)))
+    (c .before .before .leaves .result) (c .covered .result) (c .before .before .leaves .ensures)
+    (rw (c .before .before .before .data-category .ensures .0, c .before .exclusions .ensures) at (c .covered .ensures))
 
 pub leaf-set-spec : {M : Type 1} → statement M
 leaf-set-spec =
     tie.close
-    (tie.spec data-category-requires leaves-requires exclusions-requires covered-requires returns)
+    (tie.spec (λ c κs. search needs) (λ c κs. search needs) (λ c κs. search needs) (λ c κs. search needs) returns)
