@@ -5,9 +5,9 @@ use native.Mathlib.Numerals.{add-one}
 use native.Mathlib.Omega.{arith}
 use mathlib.Core.Path.{_≡_, refl, sym, ap, _∙_}
 use mathlib.Core.Logic.{⊎-elim}
-use mathlib.Core.Bool.{Bool, true, false, _&&_, _||_, false≢true}
+use mathlib.Core.Bool.{Bool, true, false, _&&_, _||_, not, false≢true}
 use mathlib.Core.List.{List, [], _∷_, _++_}
-use lib.ListN.{length, getD, take, drop, length-drop, drop-of-length-le}
+use lib.ListN.{length, getD, take, drop, length-take, length-drop, drop-of-length-le}
 use lib.Seq.{take-all, take-nil, take-suc}
 use lib.Dec.{eqb, ltb}
 use borrow.Author.Tests.{ltb-true, lt-ltb, eqb-true, eq-eqb}
@@ -29,6 +29,10 @@ module _ (s : List ℕ) (start count : ℕ) where
       let e : start + count - start ≡ count = omega arith in
       rw e
 
+-- a part has at most the bytes asked for
+pub part-short : (s : List ℕ) (start count : ℕ) (r : List ℕ) → r ≡ take count (drop start s) → length r ≤ count
+part-short s start count r e = rw (e, length-take) (omega arith)
+
 -- Connectives
 
 pub and-true : (a b : Bool) → a ≡ true → b ≡ true → (a && b) ≡ true
@@ -41,6 +45,16 @@ and-left false b p = p
 pub and-right : (a b : Bool) → (a && b) ≡ true → b ≡ true
 and-right true b p = p
 and-right false b p = absurd (false≢true p)
+
+pub and-both : (a b : Bool) → (a && b) ≡ true → (a ≡ true) × (b ≡ true)
+and-both a b h = (and-left a b h, and-right a b h)
+
+pub not-holds : (a b : Bool) → not (a && b) ≡ true → a ≡ true → b ≡ true → ⊥
+not-holds a b h p q = false≢true (rw (p, q) at h)
+
+pub or-holds : (a b : Bool) → (not a || b) ≡ true → a ≡ true → b ≡ true
+or-holds true b h p = h
+or-holds false b h p = absurd (false≢true p)
 
 pub and-assoc : (a b c : Bool) → (a && b && c) ≡ (a && (b && c))
 and-assoc true b c = refl

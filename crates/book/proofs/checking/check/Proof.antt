@@ -1,47 +1,52 @@
+-- The three passes joined are the whole answer; a length that holds gives a number of blocks that fits a byte.
+-- Assumes nothing.
+use borrow.Author.Needs.{needs}
+use mathlib.Core.Path.{sym, _∙_}
+use native.Mathlib.Omega.{arith}
+use lib.ListN.{length}
+use borrow.Author.Tests.{not-true, not-false}
+use Rattle.book.proofs.Passed.{length-true}
+use Rattle.book.proofs.Answers.{check-short, check-long}
 use Rattle.book.proofs.checking.check.Statement.{statement}
 use Rattle.book.proofs.checking.check.Tie as tie
 
-length-holds-requires : tie.Need-length-holds-requires
-length-holds-requires c κs = ?
-
-refused-requires : tie.Need-refused-requires
-refused-requires c κs = ?
-
 returns : tie.Need-returns
-returns c = ?
+returns c =
+    let long = c .before .before .length-holds in
+    let short = sym (long .ensures) ∙ not-true (long .result) (c .before .if1 .taken) in
+    c .refused .ensures ∙ check-short (c .before .before .before .before .args .book .now) short
 
 cast-n : tie.Need-cast-n
-cast-n c = ?
-
-pass-over-requires : tie.Need-pass-over-requires
-pass-over-requires c κs = ?
-
-pass-over-requires-2 : tie.Need-pass-over-requires-2
-pass-over-requires-2 c κs = ?
-
-pass-over-requires-3 : tie.Need-pass-over-requires-3
-pass-over-requires-3 c κs = ?
-
-or-else-requires : tie.Need-or-else-requires
-or-else-requires c κs = ?
-
-or-else-requires-2 : tie.Need-or-else-requires-2
-or-else-requires-2 c κs = ?
+cast-n c =
+    let long = c .before .length-holds in
+    let n = length (c .before .before .before .args .book .now) in
+    let l = length-true n (sym (long .ensures) ∙ not-false (long .result) (c .if1 .left)) in
+    omega arith
 
 returns-2 : tie.Need-returns-2
-returns-2 c = ?
+returns-2 c =
+    let passes = c .before .before .before .before in
+    let long = passes .before .before .length-holds in
+    let x = passes .pass-over in
+    let y = c .before .before .before .pass-over2 in
+    let z = c .before .before .pass-over3 in
+    let a = c .before .or-else in
+    check-long (passes .before .before .before .before .args .book .now)
+    (x .result) (y .result) (z .result) (a .result) (c .or-else2 .result)
+    (sym (long .ensures) ∙ not-false (long .result) (passes .before .if1 .left))
+    (x .ensures) (y .ensures) (z .ensures) (a .ensures) (c .or-else2 .ensures)
 
 pub check-spec : {M : Type 1} → statement M
 check-spec =
     tie.close
     (tie.spec
-    length-holds-requires
-    refused-requires
+    (λ c κs. search needs)
+    (λ c κs. search needs)
     returns
     cast-n
-    pass-over-requires
-    pass-over-requires-2
-    pass-over-requires-3
-    or-else-requires
-    or-else-requires-2
+    (λ c κs. search needs)
+    (λ c κs. search needs)
+    (λ c κs. search needs)
+    (λ c κs. search needs)
+    (λ c κs. search needs)
     returns-2)

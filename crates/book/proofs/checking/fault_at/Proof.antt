@@ -1,67 +1,52 @@
+-- A law of each pass says what the block's tests are; the counts of the head hold where blocks 0 and 1 have passed.
+-- Assumes nothing.
+use borrow.Author.Needs.{needs}
+use Rattle.book.proofs.Passed.{checks-fault, kinds-fault, contents-fault}
 use Rattle.book.proofs.checking.fault_at.Statement.{statement}
 use Rattle.book.proofs.checking.fault_at.Tie as tie
 
-mul-part : tie.Need-mul-part
-mul-part c = ?
-
-part-requires : tie.Need-part-requires
-part-requires c κs = ?
-
-enum-told : tie.Need-enum-told
-enum-told c = ?
-
-check-holds-requires : tie.Need-check-holds-requires
-check-holds-requires c κs = ?
-
-fault-unless-requires : tie.Need-fault-unless-requires
-fault-unless-requires c κs = ?
-
-enum-told-2 : tie.Need-enum-told-2
-enum-told-2 c = ?
-
-byte-at-requires : tie.Need-byte-at-requires
-byte-at-requires c κs = ?
-
-kind-holds-requires : tie.Need-kind-holds-requires
-kind-holds-requires c κs = ?
-
-fault-unless-requires-2 : tie.Need-fault-unless-requires-2
-fault-unless-requires-2 c κs = ?
-
-enum-told-3 : tie.Need-enum-told-3
-enum-told-3 c = ?
-
-part-requires-2 : tie.Need-part-requires-2
-part-requires-2 c κs = ?
-
-content-fault-requires : tie.Need-content-fault-requires
-content-fault-requires c κs = ?
-
 returns : tie.Need-returns
-returns c = ?
+returns c low =
+    let a = c .before .before .before .before .before .before .args in
+    let block = c .before .before .before .before .part in
+    let held = c .before .check-holds in
+    checks-fault (a .book .now) (a .pass) (a .i) (block .result .now) (block .ensures) (held .result)
+    (c .fault-unless .result) (c .before .before .enum-told .given .1) (held .ensures) (c .fault-unless .ensures)
 
 returns-2 : tie.Need-returns-2
-returns-2 c = ?
+returns-2 c low =
+    let a = c .before .before .before .before .before .before .before .args in
+    let block = c .before .before .before .before .before .part in
+    let kind = c .before .before .byte-at in
+    let held = c .before .kind-holds in
+    kinds-fault (a .book .now) (a .pass) (a .i) (block .result .now) (block .ensures) (kind .result) (held .result)
+    (c .fault-unless2 .result) (c .before .before .before .enum-told2 .given .1) (kind .ensures .0) (held .ensures)
+    (c .fault-unless2 .ensures)
 
 returns-3 : tie.Need-returns-3
-returns-3 c = ?
+returns-3 c low =
+    let a = c .before .before .before .before .before .before .args in
+    let block = c .before .before .before .before .part in
+    let head = c .before .part2 in
+    contents-fault (a .book .now) (a .pass) (a .i) (block .result .now) (block .ensures) (head .result .now)
+    (c .content-fault .result) (c .before .before .enum-told3 .given .1) (head .ensures) (c .content-fault .ensures) low
 
 pub fault-at-spec : {M : Type 1} → statement M
 fault-at-spec =
     tie.close
     (tie.spec
-    mul-part
-    part-requires
-    enum-told
-    check-holds-requires
-    fault-unless-requires
-    enum-told-2
-    byte-at-requires
-    kind-holds-requires
-    fault-unless-requires-2
-    enum-told-3
-    part-requires-2
-    content-fault-requires
+    (λ c. search needs)
+    (λ c κs. search needs)
+    (λ c. search needs)
+    (λ c κs. search needs)
+    (λ c κs. search needs)
+    (λ c. search needs)
+    (λ c κs. search needs)
+    (λ c κs. search needs)
+    (λ c κs. search needs)
+    (λ c. search needs)
+    (λ c κs. search needs)
+    (λ c κs. search needs)
     returns
     returns-2
     returns-3)

@@ -1,17 +1,16 @@
+-- By cases on the first answer. Assumes nothing.
+use borrow.Author.Needs.{needs}
+use Rattle.book.specs.Answers.{orElse}
 use Rattle.book.proofs.checking.or_else.Statement.{statement}
 use Rattle.book.proofs.checking.or_else.Tie as tie
 
-enum-told : tie.Need-enum-told
-enum-told c = ?
-
-enum-known-first : tie.Need-enum-known-first
-enum-known-first c = ?
-
 returns : tie.Need-returns
-returns c = ?
+unfolding orElse
+returns c = rw (c .enum-told .given .1)
 
 returns-2 : tie.Need-returns-2
-returns-2 c = ?
+unfolding orElse
+returns-2 c = rw (c .before .first .given .1)
 
 pub or-else-spec : {M : Type 1} → statement M
-or-else-spec = tie.close (tie.spec enum-told enum-known-first returns returns-2)
+or-else-spec = tie.close (tie.spec (λ c. search needs) (λ c. search needs) returns returns-2)

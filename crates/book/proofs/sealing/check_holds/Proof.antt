@@ -1,35 +1,21 @@
+-- The two bytes read and the check sum are those of the definition. Assumes nothing.
+use borrow.Author.Needs.{needs}
+use Rattle.book.specs.Blocks.{checkHolds}
 use Rattle.book.proofs.sealing.check_holds.Statement.{statement}
 use Rattle.book.proofs.sealing.check_holds.Tie as tie
 
-byte-at-requires : tie.Need-byte-at-requires
-byte-at-requires c κs = ?
-
-mul-stored : tie.Need-mul-stored
-mul-stored c = ?
-
-byte-at-requires-2 : tie.Need-byte-at-requires-2
-byte-at-requires-2 c κs = ?
-
-add-stored : tie.Need-add-stored
-add-stored c = ?
-
-check-sum-requires : tie.Need-check-sum-requires
-check-sum-requires c κs = ?
-
-cast-result : tie.Need-cast-result
-cast-result c = ?
-
 returns : tie.Need-returns
-returns c = ?
+unfolding checkHolds
+returns c = rw (c .before .before .byte-at .ensures .0, c .before .byte-at2 .ensures .0, c .check-sum .ensures .0)
 
 pub check-holds-spec : {M : Type 1} → statement M
 check-holds-spec =
     tie.close
     (tie.spec
-    byte-at-requires
-    mul-stored
-    byte-at-requires-2
-    add-stored
-    check-sum-requires
-    cast-result
+    (λ c κs. search needs)
+    (λ c. search needs)
+    (λ c κs. search needs)
+    (λ c. search needs)
+    (λ c κs. search needs)
+    (λ c. search needs)
     returns)

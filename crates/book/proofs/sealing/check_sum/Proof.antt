@@ -1,47 +1,67 @@
+-- The sum so far is the weighted sum of the bytes passed, and each of at most 510 bytes adds at most 130,050.
+-- Assumes nothing.
+use borrow.Author.Needs.{needs}
+use Prim.Native.Nat.{_≤_, _-_, _*_}
+use mathlib.Core.Path.{_≡_}
+use native.Mathlib.Omega.{arith}
+use lib.ListN.{length, getD, take}
+use Rattle.book.specs.Blocks.{weighted}
+use Rattle.book.proofs.Blocks.{weighted-none, weighted-next, weighted-step, weighted-whole}
+use Rattle.book.proofs.Lists.{part-short}
 use Rattle.book.proofs.sealing.check_sum.Statement.{statement}
 use Rattle.book.proofs.sealing.check_sum.Tie as tie
 
 abbrev Inv-loop : tie.InvT-loop
-Inv-loop block body sum₀ i₀ i-end sum i = ?
+Inv-loop block body sum₀ i₀ i-end sum i =
+    (i ≤ length body)
+    × (i-end ≡ length body)
+    × (length body ≤ 510)
+    × (sum ≡ weighted 1 (take i body))
+    × (sum ≤ 130050 * i)
 
 abbrev μ-loop : tie.MeasureT-loop
-μ-loop block body sum₀ i₀ i-end sum i = ?
-
-part-requires : tie.Need-part-requires Inv-loop μ-loop
-part-requires c κs = ?
+μ-loop block body sum₀ i₀ i-end sum i = length body - i
 
 loop-holds : tie.Need-loop-holds Inv-loop μ-loop
-loop-holds c = ?
-
-cast-sum : tie.Need-cast-sum Inv-loop μ-loop
-cast-sum c = ?
-
-add-sum : tie.Need-add-sum Inv-loop μ-loop
-add-sum c = ?
-
-shared-slice-read-sum : tie.Need-shared-slice-read-sum Inv-loop μ-loop
-shared-slice-read-sum c = ?
+loop-holds c =
+    let body = c .part .result .now in
+    let short = part-short (c .before .before .args .block .now) 0 510 body (c .part .ensures) in
+    (search needs, search needs, short, weighted-none body, search needs)
 
 cast-sum-2 : tie.Need-cast-sum-2 Inv-loop μ-loop
-cast-sum-2 c = ?
+cast-sum-2 c = omega (arith, c .shared-slice-known2 .given (c .before .before .loop .i))
 
 mul-sum : tie.Need-mul-sum Inv-loop μ-loop
-mul-sum c = ?
+mul-sum c =
+    let i = c .before .before .loop .i in
+    let x = getD (c .before .before .before .part .result .now) i 0 in
+    let byte : x ≤ 255 = omega (arith, c .shared-slice-known2 .given i) in
+    omega (arith, weighted-step i x (omega arith) byte)
 
 add-sum-2 : tie.Need-add-sum-2 Inv-loop μ-loop
-add-sum-2 c = ?
-
-add-i : tie.Need-add-i Inv-loop μ-loop
-add-i c = ?
-
-loop-less : tie.Need-loop-less Inv-loop μ-loop
-loop-less c = ?
+add-sum-2 c =
+    let i = c .before .before .loop .i in
+    let x = getD (c .before .before .before .part .result .now) i 0 in
+    let byte : x ≤ 255 = omega (arith, c .shared-slice-known2 .given i) in
+    omega (arith, weighted-step i x (omega arith) byte)
 
 loop-again : tie.Need-loop-again Inv-loop μ-loop
-loop-again c = ?
+loop-again c =
+    let body = c .before .before .before .part .result .now in
+    let at = c .before .before .loop in
+    let i = at .i in
+    let x = getD body i 0 in
+    let byte : x ≤ 255 = omega (arith, c .shared-slice-known2 .given i) in
+    let more = weighted-next body i (at .sum) (omega arith) (at .inv .3) in
+    (search needs, search needs, search needs, more, omega (arith, weighted-step i x (omega arith) byte))
 
 returns : tie.Need-returns Inv-loop μ-loop
-returns c = ?
+returns c =
+    let block = c .before .before .before .before .args .block .now in
+    let part = c .before .before .part in
+    let at = c .before .loop in
+    let whole = weighted-whole block (part .result .now) (at .i) (at .sum) (part .ensures) (omega arith) (at .inv .3) in
+    (whole, omega arith)
 
 pub check-sum-spec : {M : Type 1} → statement M
 check-sum-spec =
@@ -49,15 +69,15 @@ check-sum-spec =
     (tie.spec
     Inv-loop
     μ-loop
-    part-requires
+    (λ c κs. search needs)
     loop-holds
-    cast-sum
-    add-sum
-    shared-slice-read-sum
+    (λ c. search needs)
+    (λ c. search needs)
+    (λ c. search needs)
     cast-sum-2
     mul-sum
     add-sum-2
-    add-i
-    loop-less
+    (λ c. search needs)
+    (λ c. search needs)
     loop-again
     returns)

@@ -1,39 +1,31 @@
+-- Two writes at the end of a block of 512 bytes leave its first 510 and the check. Assumes nothing.
+use borrow.Author.Needs.{needs}
+use mathlib.Core.Path.{_≡_, sym}
+use lib.ListN.{length}
+use Rattle.book.proofs.Seals.{unsealed, unsealed-answer, sealed-answer, sealed-writes}
 use Rattle.book.proofs.sealing.seal.Statement.{statement}
 use Rattle.book.proofs.sealing.seal.Tie as tie
 
 returns : tie.Need-returns
-returns c = ?
-
-check-sum-requires : tie.Need-check-sum-requires
-check-sum-requires c κs = ?
-
-cast-block : tie.Need-cast-block
-cast-block c = ?
-
-slice-write-block : tie.Need-slice-write-block
-slice-write-block c = ?
-
-cast-block-2 : tie.Need-cast-block-2
-cast-block-2 c = ?
-
-slice-write-block-2 : tie.Need-slice-write-block-2
-slice-write-block-2 c = ?
-
-same-length : tie.Need-same-length
-same-length c = ?
+returns c =
+    let l = c .before .before .args .block .now in
+    (sym (unsealed-answer l (c .if1 .taken)), sym (unsealed l (c .if1 .taken)))
 
 returns-2 : tie.Need-returns-2
-returns-2 c = ?
+returns-2 c =
+    let l = c .before .before .before .before .args .block .now in
+    let full : length l ≡ 512 = search needs in
+    (sym (sealed-answer l full), sealed-writes l full (c .check-sum .result) (c .check-sum .ensures .0))
 
 pub seal-spec : {M : Type 1} → statement M
 seal-spec =
     tie.close
     (tie.spec
     returns
-    check-sum-requires
-    cast-block
-    slice-write-block
-    cast-block-2
-    slice-write-block-2
-    same-length
+    (λ c κs. search needs)
+    (λ c. search needs)
+    (λ c. search needs)
+    (λ c. search needs)
+    (λ c. search needs)
+    (λ c. search needs)
     returns-2)

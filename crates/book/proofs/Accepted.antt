@@ -1,0 +1,302 @@
+-- What an accepted book gives: the laws of its head and of each rule. Assumes nothing.
+use Prim.Native.Nat.{ℕ, zero, suc, _+_, _*_, _-_, _≤_, _<_}
+use native.Mathlib.Omega.{arith}
+use mathlib.Core.Path.{_≡_, sym}
+use mathlib.Core.Bool.{Bool, true, false, _&&_, _||_, not}
+use mathlib.Core.List.{List, [], _∷_}
+use borrow.Author.Tests.{eqb-true, leb-true, ltb-true, not-true}
+use lib.ListN.{length}
+use lib.Dec.{ltb, leb}
+use Rattle.book.specs.Lists.{all, upTo}
+use Rattle.book.specs.Sets.{has}
+use Rattle.book.specs.Hierarchies.{parentHolds, properDescendant}
+use Rattle.book.specs.Head.{userCount, userParent, dataCount, dataParent, ownOperations, columnCount, label}
+use Rattle.book.specs.Head.{functionCount, operation}
+use Rattle.book.specs.Rule.{referenceCount, userCategory, excludedUserCount, excludedUsers, restrictionCount}
+use Rattle.book.specs.Rule.{dataCategory, action, exclusionCount, exclusions, restrictionMask, inLeafSet}
+use Rattle.book.specs.Blocks.{blockAt, headOf, ruleAt}
+use Rattle.book.specs.Refusals.{between, zeros, firstFailing, lengthHolds, lengthTests, passTests}
+use Rattle.book.specs.Refusals.{columnsCounted, functionsCounted, usersOrdered}
+use Rattle.book.specs.Refusals.{dataOrdered, labelHolds, labelsHold, functionsHold, ruleCounts, ruleZeros}
+use Rattle.book.specs.Refusals.{ruleCounted, userNumbersHold, referenceHolds, numbersHold, leafSetsApart}
+use Rattle.book.specs.Refusals.{referencesApart, maskAllows, maskHolds, masksHold}
+use Rattle.book.specs.Answers.{atBlocks, blockCount, ruleCount, checkAnswer}
+use Rattle.book.specs.declared.Checked.{Checked}
+use Rattle.book.specs.declared.Checked.the-variants.{Accepted}
+use Rattle.book.specs.declared.checking.Pass.the-variants.{Checks, Kinds, Contents}
+use Rattle.book.proofs.Lists.{and-left, and-right, all-at}
+use Rattle.book.proofs.Lists.{not-holds, or-holds, and-both}
+use Rattle.book.proofs.Answers.{refuse-accepted, at-accepted}
+use Rattle.book.proofs.Passed.{first-passed, between-true, length-true, users-bound, data-bound}
+use Rattle.book.proofs.Passed.{users-passed, data-passed, columns-passed, functions-passed, rule-passed}
+
+-- the head of an accepted book
+pub record HeadHolds (head : List ℕ) : Type 0 where
+  pub users-some : 1 ≤ userCount head
+  pub users-most : userCount head ≤ 32
+  pub data-some : 1 ≤ dataCount head
+  pub data-most : dataCount head ≤ 64
+  pub columns-most : columnCount head ≤ 128
+  pub functions-most : functionCount head ≤ 64
+  pub users-fall : (i : ℕ) → i < userCount head → userParent head i ≤ i - 1
+  pub data-fall : (i : ℕ) → i < dataCount head → dataParent head i ≤ i - 1
+  pub own-shows : (i : ℕ) → i < dataCount head → has (ownOperations head i) 0 ≡ false
+  pub labels-hold : (i : ℕ) → i < columnCount head → labelHolds head (label head i) ≡ true
+  pub operations-most : (i : ℕ) → i < functionCount head → operation head i ≤ 15
+
+-- a rule of an accepted book
+pub record RuleHolds (head rule : List ℕ) : Type 0 where
+  pub references-some : 1 ≤ referenceCount rule
+  pub references-most : referenceCount rule ≤ 3
+  pub excluded-most : excludedUserCount rule ≤ 4
+  pub restrictions-most : restrictionCount rule ≤ 8
+  pub exclusions-most : (i : ℕ) → i < referenceCount rule → exclusionCount rule i ≤ 8
+  pub user-within : userCategory rule < userCount head
+  pub users-proper :
+      all (properDescendant (userCount head) (userParent head) (userCategory rule)) (excludedUsers rule) ≡ true
+  pub category-within : (i : ℕ) → i < referenceCount rule → dataCategory rule i < dataCount head
+  pub action-some : (i : ℕ) → i < referenceCount rule → 1 ≤ action rule i
+  pub action-most : (i : ℕ) → i < referenceCount rule → action rule i ≤ 3
+  pub exclusions-proper :
+      (i : ℕ)
+      → i < referenceCount rule
+      → all (properDescendant (dataCount head) (dataParent head) (dataCategory rule i)) (exclusions rule i) ≡ true
+  pub apart :
+      (i j d : ℕ)
+      → i < referenceCount rule
+      → j < i
+      → d < dataCount head
+      → inLeafSet head rule i d ≡ true
+      → inLeafSet head rule j d ≡ true
+      → ⊥
+  pub masks-allowed :
+      (j i k : ℕ)
+      → j < restrictionCount rule
+      → i < 3
+      → k < 16
+      → has (restrictionMask rule j i) k ≡ true
+      → maskAllows head rule i k ≡ true
+
+-- Each test opened
+
+-- a parent is lower than its child, and the root's is 0
+pub parent-falls : (parent : ℕ → ℕ) (i : ℕ) → parentHolds parent i ≡ true → parent i ≤ i - 1
+unfolding parentHolds
+parent-falls parent zero h = let e : parent 0 ≡ 0 = eqb-true (parent 0) 0 h in omega arith
+parent-falls parent (suc i) h = let l : parent (suc i) < suc i = ltb-true (parent (suc i)) (suc i) h in omega arith
+
+module _ (head : List ℕ) where
+  users-fell : usersOrdered head ≡ true → (i : ℕ) → i < userCount head → userParent head i ≤ i - 1
+  unfolding usersOrdered
+  users-fell h i l =
+      parent-falls (userParent head) i (all-at (parentHolds (userParent head)) (userCount head) h i l)
+
+  parents : Bool
+  parents = all (parentHolds (dataParent head)) (upTo (dataCount head))
+
+  owns : Bool
+  owns = all (λ i. not (has (ownOperations head i) 0)) (upTo (dataCount head))
+
+  data-fell : dataOrdered head ≡ true → (i : ℕ) → i < dataCount head → dataParent head i ≤ i - 1
+  unfolding dataOrdered parents owns
+  data-fell h i l =
+      parent-falls (dataParent head) i
+      (all-at (parentHolds (dataParent head)) (dataCount head) (and-left parents owns h) i l)
+
+  own-shown : dataOrdered head ≡ true → (i : ℕ) → i < dataCount head → has (ownOperations head i) 0 ≡ false
+  unfolding dataOrdered parents owns
+  own-shown h i l =
+      not-true (has (ownOperations head i) 0)
+      (all-at (λ j. not (has (ownOperations head j) 0)) (dataCount head) (and-right parents owns h) i l)
+
+  columns-bound : columnsCounted head ≡ true → columnCount head ≤ 128
+  unfolding columnsCounted
+  columns-bound h =
+      between-true 0 128 (columnCount head)
+      (and-left (between 0 128 (columnCount head)) (zeros head (1026 + columnCount head) 1534) h) .1
+
+  functions-bound : functionsCounted head ≡ true → functionCount head ≤ 64
+  unfolding functionsCounted
+  functions-bound h =
+      between-true 0 64 (functionCount head)
+      (and-left (between 0 64 (functionCount head)) (zeros head (1538 + functionCount head) 2046) h) .1
+
+  labels-held : labelsHold head ≡ true → (i : ℕ) → i < columnCount head → labelHolds head (label head i) ≡ true
+  unfolding labelsHold
+  labels-held h i l = all-at (λ j. labelHolds head (label head j)) (columnCount head) h i l
+
+  operations-bound : functionsHold head ≡ true → (i : ℕ) → i < functionCount head → operation head i ≤ 15
+  unfolding functionsHold
+  operations-bound h i l =
+      leb-true (operation head i) 15 (all-at (λ j. leb (operation head j) 15) (functionCount head) h i l)
+
+module _ (rule : List ℕ) where
+  bounds : Bool
+  bounds = all (λ i. between 0 8 (exclusionCount rule i)) (upTo (referenceCount rule))
+
+  rule-bounds :
+      ruleCounted rule ≡ true
+      → (between 1 3 (referenceCount rule) ≡ true)
+      × (between 0 4 (excludedUserCount rule) ≡ true)
+      × (between 0 8 (restrictionCount rule) ≡ true)
+      × (bounds ≡ true)
+  unfolding ruleCounted ruleCounts bounds
+  rule-bounds h =
+      let counts : ruleCounts rule ≡ true = and-left (ruleCounts rule) (ruleZeros rule) h in
+      let a = and-both (between 1 3 (referenceCount rule))
+      (between 0 4 (excludedUserCount rule) && (between 0 8 (restrictionCount rule) && bounds)) counts in
+      let b = and-both (between 0 4 (excludedUserCount rule)) (between 0 8 (restrictionCount rule) && bounds) (a .1) in
+      let d = and-both (between 0 8 (restrictionCount rule)) bounds (b .1) in
+      (a .0, b .0, d .0, d .1)
+
+  exclusions-bound : bounds ≡ true → (i : ℕ) → i < referenceCount rule → exclusionCount rule i ≤ 8
+  unfolding bounds
+  exclusions-bound h i l =
+      between-true 0 8 (exclusionCount rule i)
+      (all-at (λ j. between 0 8 (exclusionCount rule j)) (referenceCount rule) h i l) .1
+
+module _ (head rule : List ℕ) where
+  usersProper : Bool
+  usersProper = all (properDescendant (userCount head) (userParent head) (userCategory rule)) (excludedUsers rule)
+
+  dataProper : ℕ → Bool
+  dataProper i = all (properDescendant (dataCount head) (dataParent head) (dataCategory rule i)) (exclusions rule i)
+
+  user-numbers : numbersHold head rule ≡ true → (userCategory rule < userCount head) × (usersProper ≡ true)
+  unfolding numbersHold userNumbersHold usersProper
+  user-numbers h =
+      let a : userNumbersHold head rule ≡ true =
+      and-left (userNumbersHold head rule) (all (referenceHolds head rule) (upTo (referenceCount rule))) h in
+      let b = and-both (ltb (userCategory rule) (userCount head)) usersProper a in
+      (ltb-true (userCategory rule) (userCount head) (b .0), b .1)
+
+  reference-numbers :
+      numbersHold head rule ≡ true
+      → (i : ℕ)
+      → i < referenceCount rule
+      → (dataCategory rule i < dataCount head)
+      × ((1 ≤ action rule i) × (action rule i ≤ 3))
+      × (dataProper i ≡ true)
+  unfolding numbersHold referenceHolds dataProper
+  reference-numbers h i l =
+      let held : referenceHolds head rule i ≡ true =
+      all-at (referenceHolds head rule) (referenceCount rule)
+      (and-right (userNumbersHold head rule) (all (referenceHolds head rule) (upTo (referenceCount rule))) h) i l in
+      let a = and-both (ltb (dataCategory rule i) (dataCount head)) (between 1 3 (action rule i) && dataProper i) held in
+      let b = and-both (between 1 3 (action rule i)) (dataProper i) (a .1) in
+      (ltb-true (dataCategory rule i) (dataCount head) (a .0), between-true 1 3 (action rule i) (b .0), b .1)
+
+  leaf-sets-apart :
+      referencesApart head rule ≡ true
+      → (i j d : ℕ)
+      → i < referenceCount rule
+      → j < i
+      → d < dataCount head
+      → inLeafSet head rule i d ≡ true
+      → inLeafSet head rule j d ≡ true
+      → ⊥
+  unfolding referencesApart leafSetsApart
+  leaf-sets-apart h i j d li lj ld hi hj =
+      let row : all (leafSetsApart head rule i) (upTo i) ≡ true =
+      all-at (λ n. all (leafSetsApart head rule n) (upTo n)) (referenceCount rule) h i li in
+      let pair : leafSetsApart head rule i j ≡ true = all-at (leafSetsApart head rule i) i row j lj in
+      let one : not (inLeafSet head rule i d && inLeafSet head rule j d) ≡ true =
+      all-at (λ n. not (inLeafSet head rule i n && inLeafSet head rule j n)) (dataCount head) pair d ld in
+      not-holds (inLeafSet head rule i d) (inLeafSet head rule j d) one hi hj
+
+  masks-within :
+      masksHold head rule ≡ true
+      → (j i k : ℕ)
+      → j < restrictionCount rule
+      → i < 3
+      → k < 16
+      → has (restrictionMask rule j i) k ≡ true
+      → maskAllows head rule i k ≡ true
+  unfolding masksHold maskHolds
+  masks-within h j i k lj li lk member =
+      let row : all (maskHolds head rule j) (upTo 3) ≡ true =
+      all-at (λ n. all (maskHolds head rule n) (upTo 3)) (restrictionCount rule) h j lj in
+      let mask : maskHolds head rule j i ≡ true = all-at (maskHolds head rule j) 3 row i li in
+      or-holds (has (restrictionMask rule j i) k) (maskAllows head rule i k)
+      (all-at (λ n. not (has (restrictionMask rule j i) n) || maskAllows head rule i n) 16 mask k lk) member
+
+-- An accepted book
+
+module _ (book : List ℕ) (n : ℕ) (accepted : checkAnswer book ≡ Accepted n) where
+  all-passed :
+      (lengthHolds (length book) ≡ true)
+      × ((j : ℕ) → j < blockCount book → firstFailing (passTests Contents book j) ≡ 0)
+      × (ruleCount book ≡ n)
+  unfolding checkAnswer lengthTests
+  all-passed =
+      let blocks = blockCount book in
+      let last : Checked = Accepted (ruleCount book) in
+      let contents : Checked = atBlocks (passTests Contents book) (upTo blocks) last in
+      let kinds : Checked = atBlocks (passTests Kinds book) (upTo blocks) contents in
+      let checks : Checked = atBlocks (passTests Checks book) (upTo blocks) kinds in
+      let long = refuse-accepted (firstFailing ((1, lengthHolds (length book)) ∷ [])) 0 checks n accepted in
+      let checked = at-accepted (passTests Checks book) blocks kinds n (long .1) in
+      let known = at-accepted (passTests Kinds book) blocks contents n (checked .1) in
+      let held = at-accepted (passTests Contents book) blocks last n (known .1) in
+      let e : Accepted (ruleCount book) ≡ Accepted n = held .1 in
+      (first-passed 0 (lengthHolds (length book)) [] (long .0) .0, held .0, cc)
+
+  pub accepted-rules : n ≡ ruleCount book
+  accepted-rules = sym (all-passed .2)
+
+  -- "512 times 4 to 36"
+  pub accepted-length : (length book ≡ 512 * (4 + n)) × (n ≤ 32)
+  accepted-length =
+      let l = length-true (length book) (all-passed .0) in
+      let e = accepted-rules in
+      (omega arith, omega arith)
+
+  pub accepted-head : HeadHolds (headOf book)
+  unfolding passTests
+  accepted-head =
+      let head = headOf book in
+      let l = length-true (length book) (all-passed .0) in
+      let users = users-passed head (blockAt book 0) (all-passed .1 0 (omega arith)) in
+      let categories = data-passed head (blockAt book 1) (all-passed .1 1 (omega arith)) in
+      let columns = columns-passed head (blockAt book 2) (all-passed .1 2 (omega arith)) in
+      let functions = functions-passed head (blockAt book 3) (all-passed .1 3 (omega arith)) in
+      record {
+        users-some = users-bound head (users .0) .0;
+        users-most = users-bound head (users .0) .1;
+        data-some = data-bound head (categories .0) .0;
+        data-most = data-bound head (categories .0) .1;
+        columns-most = columns-bound head (columns .0);
+        functions-most = functions-bound head (functions .0);
+        users-fall = users-fell head (users .1);
+        data-fall = data-fell head (categories .1);
+        own-shows = own-shown head (categories .1);
+        labels-hold = labels-held head (columns .1);
+        operations-most = operations-bound head (functions .1);
+      }
+
+  pub accepted-rule : (r : ℕ) → r < n → RuleHolds (headOf book) (ruleAt book r)
+  unfolding passTests usersProper dataProper
+  accepted-rule r h =
+      let head = headOf book in
+      let rule = ruleAt book r in
+      let e = accepted-rules in
+      let passed = rule-passed head rule r (all-passed .1 (4 + r) (omega arith)) in
+      let counts = rule-bounds rule (passed .0) in
+      let references = between-true 1 3 (referenceCount rule) (counts .0) in
+      let user = user-numbers head rule (passed .1) in
+      let numbers = reference-numbers head rule (passed .1) in
+      record {
+        references-some = references .0;
+        references-most = references .1;
+        excluded-most = between-true 0 4 (excludedUserCount rule) (counts .1) .1;
+        restrictions-most = between-true 0 8 (restrictionCount rule) (counts .2) .1;
+        exclusions-most = exclusions-bound rule (counts .3);
+        user-within = user .0;
+        users-proper = user .1;
+        category-within = λ i l. numbers i l .0;
+        action-some = λ i l. numbers i l .1 .0;
+        action-most = λ i l. numbers i l .1 .1;
+        exclusions-proper = λ i l. numbers i l .2;
+        apart = leaf-sets-apart head rule (passed .2);
+        masks-allowed = masks-within head rule (passed .3);
+      }
