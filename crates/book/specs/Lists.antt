@@ -1,4 +1,4 @@
--- Quantifiers over finite lists of numbers, which compute. Assumes nothing.
+-- Quantifiers over finite lists, which compute. Assumes nothing.
 use Prim.Native.Nat.{ℕ, zero, suc}
 use mathlib.Core.Bool.{Bool, true, false, _&&_, _||_}
 use mathlib.Core.List.{List, [], _∷_}
@@ -12,10 +12,10 @@ from i (suc n) = i ∷ from (suc i) n
 unfoldable pub upTo : ℕ → List ℕ
 upTo n = from 0 n
 
-unfoldable pub all : (ℕ → Bool) → List ℕ → Bool
+unfoldable pub all : {A : Type 0} → (A → Bool) → List A → Bool
 all f [] = true
 all f (x ∷ xs) = f x && all f xs
 
-unfoldable pub any : (ℕ → Bool) → List ℕ → Bool
+unfoldable pub any : {A : Type 0} → (A → Bool) → List A → Bool
 any f [] = false
 any f (x ∷ xs) = f x || any f xs
