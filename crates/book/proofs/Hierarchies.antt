@@ -26,16 +26,16 @@ any-step f c true l = refl
 any-step f c false l = refl
 
 owned-step :
-  (own : ℕ → ℕ) (c : ℕ) (b : Bool) (l : List ℕ) →
-  ownedBy own (c ∷ cond b l []) ≡ bitOr (own c) (cond b (ownedBy own l) 0)
+    (own : ℕ → ℕ) (c : ℕ) (b : Bool) (l : List ℕ) →
+    ownedBy own (c ∷ cond b l []) ≡ bitOr (own c) (cond b (ownedBy own l) 0)
 unfolding ownedBy
 owned-step own c true l = refl
 owned-step own c false l = refl
 
 module _ (parent : ℕ → ℕ) where
   upwardIn-up :
-    (steps c : ℕ) →
-    upwardIn (suc steps) parent c ≡ c ∷ cond (ltb (parent c) c) (upwardIn steps parent (parent c)) []
+      (steps c : ℕ) →
+      upwardIn (suc steps) parent c ≡ c ∷ cond (ltb (parent c) c) (upwardIn steps parent (parent c)) []
   unfolding upwardIn
   upwardIn-up steps c =
       ap (λ (l : List ℕ). c ∷ l) (by-cases (ltb (parent c) c) (upwardIn steps parent (parent c)) [])
@@ -57,10 +57,10 @@ module _ (parent : ℕ → ℕ) where
       go (ltb (parent c) c) refl (upwardIn-enough m n (parent c))
     where
       go :
-        (b : Bool) →
-        ltb (parent c) c ≡ b →
-        (parent c ≤ m → parent c ≤ n → upwardIn m parent (parent c) ≡ upwardIn n parent (parent c)) →
-        upwardIn (suc m) parent c ≡ upwardIn (suc n) parent c
+          (b : Bool) →
+          ltb (parent c) c ≡ b →
+          (parent c ≤ m → parent c ≤ n → upwardIn m parent (parent c) ≡ upwardIn n parent (parent c)) →
+          upwardIn (suc m) parent c ≡ upwardIn (suc n) parent c
       go true e lower =
           let l : parent c < c = ltb-true (parent c) c e in
           rw (upwardIn-up m c, upwardIn-up n c, e) (ap (λ (s : List ℕ). c ∷ s) (lower (omega arith) (omega arith)))
@@ -72,10 +72,10 @@ module _ (parent : ℕ → ℕ) where
   upward-up (suc n) = go (ltb (parent (suc n)) (suc n)) refl
     where
       go :
-        (b : Bool) →
-        ltb (parent (suc n)) (suc n) ≡ b →
-        upwardIn (suc n) parent (suc n) ≡
-        suc n ∷ cond (ltb (parent (suc n)) (suc n)) (upwardIn (parent (suc n)) parent (parent (suc n))) []
+          (b : Bool) →
+          ltb (parent (suc n)) (suc n) ≡ b →
+          upwardIn (suc n) parent (suc n) ≡
+          suc n ∷ cond (ltb (parent (suc n)) (suc n)) (upwardIn (parent (suc n)) parent (parent (suc n))) []
       go true e =
           let l : parent (suc n) < suc n = ltb-true (parent (suc n)) (suc n) e in
           rw (upwardIn-up, e)
@@ -85,13 +85,13 @@ module _ (parent : ℕ → ℕ) where
 
   -- a test is met on the way up at the category or on the way up from its parent
   pub any-up :
-    (f : ℕ → Bool) (c : ℕ) →
-    any f (upward parent c) ≡ (f c || (ltb (parent c) c && any f (upward parent (parent c))))
+      (f : ℕ → Bool) (c : ℕ) →
+      any f (upward parent c) ≡ (f c || (ltb (parent c) c && any f (upward parent (parent c))))
   any-up f c = rw (upward-up c) (any-step f c (ltb (parent c) c) (upward parent (parent c)))
 
   pub support-up :
-    (own : ℕ → ℕ) (c : ℕ) →
-    support parent own c ≡ bitOr (own c) (cond (ltb (parent c) c) (support parent own (parent c)) 0)
+      (own : ℕ → ℕ) (c : ℕ) →
+      support parent own c ≡ bitOr (own c) (cond (ltb (parent c) c) (support parent own (parent c)) 0)
   unfolding support
   support-up own c = rw (upward-up c) (owned-step own c (ltb (parent c) c) (upward parent (parent c)))
 
@@ -104,16 +104,16 @@ module _ (parent : ℕ → ℕ) where
   any-in-none f c = or-end (f c)
 
   any-in-up :
-    (f : ℕ → Bool) (steps c : ℕ) →
-    any f (upwardIn (suc steps) parent c) ≡ (f c || (ltb (parent c) c && any f (upwardIn steps parent (parent c))))
+      (f : ℕ → Bool) (steps c : ℕ) →
+      any f (upwardIn (suc steps) parent c) ≡ (f c || (ltb (parent c) c && any f (upwardIn steps parent (parent c))))
   any-in-up f steps c =
       rw (upwardIn-up steps c) (any-step f c (ltb (parent c) c) (upwardIn steps parent (parent c)))
 
   -- the way up from c holds no number above c
   upwardIn-same :
-    (f g : ℕ → Bool) (steps c : ℕ) →
-    ((j : ℕ) → j ≤ c → f j ≡ g j) →
-    any f (upwardIn steps parent c) ≡ any g (upwardIn steps parent c)
+      (f g : ℕ → Bool) (steps c : ℕ) →
+      ((j : ℕ) → j ≤ c → f j ≡ g j) →
+      any f (upwardIn steps parent c) ≡ any g (upwardIn steps parent c)
   upwardIn-same f g zero c h = any-in-none f c ∙ h c (omega arith) ∙ sym (any-in-none g c)
   upwardIn-same f g (suc steps) c h =
       any-in-up f steps c
@@ -121,21 +121,21 @@ module _ (parent : ℕ → ℕ) where
       ∙ sym (any-in-up g steps c)
     where
       go :
-        (b : Bool) →
-        ltb (parent c) c ≡ b →
-        (((j : ℕ) → j ≤ parent c → f j ≡ g j) →
-        any f (upwardIn steps parent (parent c)) ≡ any g (upwardIn steps parent (parent c))) →
-        (f c || (ltb (parent c) c && any f (upwardIn steps parent (parent c)))) ≡
-        (g c || (ltb (parent c) c && any g (upwardIn steps parent (parent c))))
+          (b : Bool) →
+          ltb (parent c) c ≡ b →
+          (((j : ℕ) → j ≤ parent c → f j ≡ g j) →
+          any f (upwardIn steps parent (parent c)) ≡ any g (upwardIn steps parent (parent c))) →
+          (f c || (ltb (parent c) c && any f (upwardIn steps parent (parent c)))) ≡
+          (g c || (ltb (parent c) c && any g (upwardIn steps parent (parent c))))
       go true e lower =
           let l : parent c < c = ltb-true (parent c) c e in
           rw (h c (omega arith), lower (λ j q. h j (omega arith)))
       go false e lower = rw (e, h c (omega arith))
 
   pub upward-same :
-    (f g : ℕ → Bool) (c : ℕ) →
-    ((j : ℕ) → j ≤ c → f j ≡ g j) →
-    any f (upward parent c) ≡ any g (upward parent c)
+      (f g : ℕ → Bool) (c : ℕ) →
+      ((j : ℕ) → j ≤ c → f j ≡ g j) →
+      any f (upward parent c) ≡ any g (upward parent c)
   unfolding upward
   upward-same f g c h = upwardIn-same f g c c h
 
@@ -153,16 +153,16 @@ any-nothing [] = refl
 any-nothing (x ∷ l) = any-nothing l
 
 any-both :
-  (f g : ℕ → Bool) (l : List ℕ) →
-  any (λ a. f a || g a) l ≡ (any f l || any g l)
+    (f g : ℕ → Bool) (l : List ℕ) →
+    any (λ a. f a || g a) l ≡ (any f l || any g l)
 unfolding any
 any-both f g [] = refl
 any-both f g (x ∷ l) = rw (any-both f g l) (or-regroup (f x) (g x) (any f l) (any g l))
 
 -- two quantifiers in either order
 any-swap :
-  (f : ℕ → ℕ → Bool) (l m : List ℕ) →
-  any (λ a. any (f a) m) l ≡ any (λ b. any (λ a. f a b) l) m
+    (f : ℕ → ℕ → Bool) (l m : List ℕ) →
+    any (λ a. any (f a) m) l ≡ any (λ b. any (λ a. f a b) l) m
 unfolding any
 any-swap f l [] = any-nothing l
 any-swap f l (y ∷ m) = any-both (λ a. f a y) (λ a. any (f a) m) l ∙ rw (any-swap f l m)
@@ -170,17 +170,17 @@ any-swap f l (y ∷ m) = any-both (λ a. f a y) (λ a. any (f a) m) l ∙ rw (an
 module _ (parent : ℕ → ℕ) where
   -- the way up meets a set that holds c alone exactly under c
   pub meets-single :
-    (s : ℕ → Bool) (c i : ℕ) →
-    ((j : ℕ) → j ≤ i → s j ≡ eqb j c) →
-    any s (upward parent i) ≡ under parent c i
+      (s : ℕ → Bool) (c i : ℕ) →
+      ((j : ℕ) → j ≤ i → s j ≡ eqb j c) →
+      any s (upward parent i) ≡ under parent c i
   unfolding under
   meets-single s c i h = upward-same parent s (eqb c) i (λ j l. h j l ∙ eqb-sym j c)
 
   -- and a set of the members of a list exactly under one of them
   pub meets-list :
-    (s : ℕ → Bool) (l : List ℕ) (i : ℕ) →
-    ((j : ℕ) → j ≤ i → s j ≡ any (eqb j) l) →
-    any s (upward parent i) ≡ any (λ e. under parent e i) l
+      (s : ℕ → Bool) (l : List ℕ) (i : ℕ) →
+      ((j : ℕ) → j ≤ i → s j ≡ any (eqb j) l) →
+      any s (upward parent i) ≡ any (λ e. under parent e i) l
   unfolding under
   meets-list s l i h =
       upward-same parent s (λ j. any (eqb j) l) i h
@@ -191,8 +191,8 @@ module _ (parent : ℕ → ℕ) where
 -- words below 64: the descendants of c alone, and what is covered
 
 module _ (parent : ℕ → ℕ) (c one inside : ℕ)
-  (one-at : (j : ℕ) → has one j ≡ (ltb j 64 && eqb j c))
-  (inside-at : (i : ℕ) → has inside i ≡ (ltb i 64 && any (has one) (upward parent i))) where
+    (one-at : (j : ℕ) → has one j ≡ (ltb j 64 && eqb j c))
+    (inside-at : (i : ℕ) → has inside i ≡ (ltb i 64 && any (has one) (upward parent i))) where
   pub descendants-at : (i : ℕ) → has inside i ≡ (ltb i 64 && under parent c i)
   descendants-at i = inside-at i ∙ go (ltb i 64) refl
     where
@@ -203,20 +203,20 @@ module _ (parent : ℕ → ℕ) (c one inside : ℕ)
       go false t = refl
 
   pub covered-at :
-    (l : List ℕ) (many outside r : ℕ) →
-    ((j : ℕ) → has many j ≡ (ltb j 64 && any (eqb j) l)) →
-    ((i : ℕ) → has outside i ≡ (ltb i 64 && any (has many) (upward parent i))) →
-    ((i : ℕ) → has r i ≡ (has inside i && not (has outside i))) →
-    (i : ℕ) → has r i ≡ (ltb i 64 && covers parent c l i)
+      (l : List ℕ) (many outside r : ℕ) →
+      ((j : ℕ) → has many j ≡ (ltb j 64 && any (eqb j) l)) →
+      ((i : ℕ) → has outside i ≡ (ltb i 64 && any (has many) (upward parent i))) →
+      ((i : ℕ) → has r i ≡ (has inside i && not (has outside i))) →
+      (i : ℕ) → has r i ≡ (ltb i 64 && covers parent c l i)
   unfolding covers
   covered-at l many outside r many-at outside-at r-at i =
       r-at i ∙ rw (descendants-at i, outside-at i) (go (ltb i 64) refl)
     where
       go :
-        (b : Bool) →
-        ltb i 64 ≡ b →
-        ((b && under parent c i) && not (b && any (has many) (upward parent i))) ≡
-        (b && (under parent c i && not (any (λ e. under parent e i) l)))
+          (b : Bool) →
+          ltb i 64 ≡ b →
+          ((b && under parent c i) && not (b && any (has many) (upward parent i))) ≡
+          (b && (under parent c i && not (any (λ e. under parent e i) l)))
       go true t =
           let l64 : i < 64 = ltb-true i 64 t in
           rw (meets-list parent (has many) l i (λ j q. many-at j ∙ rw (lt-ltb j 64 (omega arith))))
@@ -237,12 +237,12 @@ nothing-added false true b e x = rw e
 nothing-added false false b e x = refl
 
 pub risen-more :
-  (parent : ℕ → ℕ) (set i p found next : ℕ) →
-  Risen parent set i found →
-  i < 64 →
-  p ≡ parent i →
-  ((j : ℕ) → has next j ≡ (has found j || (ltb j 64 && (eqb j i && (ltb p i && has found p))))) →
-  Risen parent set (i + 1) next
+    (parent : ℕ → ℕ) (set i p found next : ℕ) →
+    Risen parent set i found →
+    i < 64 →
+    p ≡ parent i →
+    ((j : ℕ) → has next j ≡ (has found j || (ltb j 64 && (eqb j i && (ltb p i && has found p))))) →
+    Risen parent set (i + 1) next
 risen-more parent set i p found next r small e step = record { bound = omega arith; at = at }
   where
     lower : (b : Bool) → ltb (parent i) i ≡ b → (b && has found (parent i)) ≡ (b && any (has set) (upward parent (parent i)))
@@ -269,11 +269,11 @@ risen-more parent set i p found next r small e step = record { bound = omega ari
     at j = go j (eqb j i) refl
 
 pub risen-end :
-  (parent : ℕ → ℕ) (set i found : ℕ) →
-  Risen parent set i found →
-  64 ≤ i →
-  ((j : ℕ) → 64 ≤ j → has set j ≡ false) →
-  (j : ℕ) → has found j ≡ (ltb j 64 && any (has set) (upward parent j))
+    (parent : ℕ → ℕ) (set i found : ℕ) →
+    Risen parent set i found →
+    64 ≤ i →
+    ((j : ℕ) → 64 ≤ j → has set j ≡ false) →
+    (j : ℕ) → has found j ≡ (ltb j 64 && any (has set) (upward parent j))
 risen-end parent set i found r past above j = go (ltb j 64) refl
   where
     last : i ≡ 64
@@ -300,26 +300,26 @@ named-none parent n zero-has =
     record {
       bound = omega arith;
       fits = pow-pos 64;
-      at = λ c. rw (zero-has c, all-none (λ j. eqb j c || not (eqb (parent j) c))) (sym (and-false (ltb c 64)))
+      at = λ c. rw (zero-has c, all-none (λ j. eqb j c || not (eqb (parent j) c))) (sym (and-false (ltb c 64)));
     }
 
 pub named-more :
-  (parent : ℕ → ℕ) (n i p word next : ℕ) →
-  Named parent n i word →
-  i < n →
-  next < 2 ^ 64 →
-  p ≡ parent i →
-  ((c : ℕ) → has next c ≡ (has word c || (ltb c 64 && not (eqb i c || not (eqb p c))))) →
-  Named parent n (i + 1) next
+    (parent : ℕ → ℕ) (n i p word next : ℕ) →
+    Named parent n i word →
+    i < n →
+    next < 2 ^ 64 →
+    p ≡ parent i →
+    ((c : ℕ) → has next c ≡ (has word c || (ltb c 64 && not (eqb i c || not (eqb p c))))) →
+    Named parent n (i + 1) next
 named-more parent n i p word next r small fits e step =
     record {
       bound = omega arith;
       fits = fits;
       at =
-        λ c.
-        step c
-        ∙ rw (r .at c, e, all-more (λ j. eqb j c || not (eqb (parent j) c)) i)
-        (not-both (ltb c 64) (all (λ j. eqb j c || not (eqb (parent j) c)) (upTo i)) (eqb i c || not (eqb (parent i) c)))
+          λ c.
+          step c
+          ∙ rw (r .at c, e, all-more (λ j. eqb j c || not (eqb (parent j) c)) i)
+          (not-both (ltb c 64) (all (λ j. eqb j c || not (eqb (parent j) c)) (upTo i)) (eqb i c || not (eqb (parent i) c)));
     }
 
 less-named : (t b a : Bool) → ((t && b) && not (t && not a)) ≡ (t && (b && a))
@@ -329,12 +329,12 @@ less-named true false a = refl
 less-named false b a = refl
 
 pub named-end :
-  (parent : ℕ → ℕ) (n i word low r : ℕ) →
-  Named parent n i word →
-  n ≤ i →
-  ((c : ℕ) → has low c ≡ (ltb c 64 && ltb c n)) →
-  ((c : ℕ) → has r c ≡ (has low c && not (has word c))) →
-  (c : ℕ) → has r c ≡ (ltb c 64 && leaf n parent c)
+    (parent : ℕ → ℕ) (n i word low r : ℕ) →
+    Named parent n i word →
+    n ≤ i →
+    ((c : ℕ) → has low c ≡ (ltb c 64 && ltb c n)) →
+    ((c : ℕ) → has r c ≡ (has low c && not (has word c))) →
+    (c : ℕ) → has r c ≡ (ltb c 64 && leaf n parent c)
 unfolding leaf
 named-end parent n i word low r k past low-at r-at c =
     let b : i ≤ n = k .bound in

@@ -25,38 +25,38 @@ and-shared true a b = refl
 and-shared false a b = refl
 
 pub both-at :
-  (f g : ℕ → Bool) (a b : ℕ) →
-  ((d : ℕ) → has a d ≡ (ltb d 64 && f d)) →
-  ((d : ℕ) → has b d ≡ (ltb d 64 && g d)) →
-  (d : ℕ) → has (bitAnd a b) d ≡ (ltb d 64 && (f d && g d))
+    (f g : ℕ → Bool) (a b : ℕ) →
+    ((d : ℕ) → has a d ≡ (ltb d 64 && f d)) →
+    ((d : ℕ) → has b d ≡ (ltb d 64 && g d)) →
+    (d : ℕ) → has (bitAnd a b) d ≡ (ltb d 64 && (f d && g d))
 both-at f g a b a-at b-at d = rw (has-and a b d, a-at d, b-at d) (and-shared (ltb d 64) (f d) (g d))
 
 -- Proper descendants, where the hierarchy fits a word
 
 pub proper-at :
-  (n : ℕ) (parent : ℕ → ℕ) (c inside : ℕ) →
-  n ≤ 64 →
-  ((x : ℕ) → has inside x ≡ (ltb x 64 && under parent c x)) →
-  (x : ℕ) → (ltb x n && (not (eqb x c) && has inside x)) ≡ properDescendant n parent c x
+    (n : ℕ) (parent : ℕ → ℕ) (c inside : ℕ) →
+    n ≤ 64 →
+    ((x : ℕ) → has inside x ≡ (ltb x 64 && under parent c x)) →
+    (x : ℕ) → (ltb x n && (not (eqb x c) && has inside x)) ≡ properDescendant n parent c x
 unfolding properDescendant
 proper-at n parent c inside small inside-at x = go (ltb x n) refl
   where
     go :
-      (b : Bool) →
-      ltb x n ≡ b →
-      (b && (not (eqb x c) && has inside x)) ≡ (b && (not (eqb x c) && under parent c x))
+        (b : Bool) →
+        ltb x n ≡ b →
+        (b && (not (eqb x c) && has inside x)) ≡ (b && (not (eqb x c) && under parent c x))
     go true t =
         let l : x < n = ltb-true x n t in
         rw (inside-at x, lt-ltb x 64 (omega arith))
     go false t = refl
 
 pub proper-all :
-  (n count : ℕ) (parent : ℕ → ℕ) (c inside i : ℕ) (list : List ℕ) →
-  n ≡ count →
-  count ≤ 64 →
-  ((x : ℕ) → has inside x ≡ (ltb x 64 && under parent c x)) →
-  length list ≤ i →
-  all (λ x. ltb x n && (not (eqb x c) && has inside x)) (take i list) ≡ all (properDescendant count parent c) list
+    (n count : ℕ) (parent : ℕ → ℕ) (c inside i : ℕ) (list : List ℕ) →
+    n ≡ count →
+    count ≤ 64 →
+    ((x : ℕ) → has inside x ≡ (ltb x 64 && under parent c x)) →
+    length list ≤ i →
+    all (λ x. ltb x n && (not (eqb x c) && has inside x)) (take i list) ≡ all (properDescendant count parent c) list
 proper-all n count parent c inside i list e small inside-at past =
     rw (take-all i list past, e)
     (all-same (λ x. ltb x count && (not (eqb x c) && has inside x)) (properDescendant count parent c)
@@ -76,11 +76,11 @@ three-all P a b c p q r (suc zero) = q
 three-all P a b c p q r (suc (suc i)) = r
 
 pub three-at :
-  (f : ℕ → ℕ → Bool) (a b c : ℕ) →
-  ((d : ℕ) → has a d ≡ f 0 d) →
-  ((d : ℕ) → has b d ≡ f 1 d) →
-  ((d : ℕ) → has c d ≡ f 2 d) →
-  (i : ℕ) → i < 3 → (d : ℕ) → has (three a b c i) d ≡ f i d
+    (f : ℕ → ℕ → Bool) (a b c : ℕ) →
+    ((d : ℕ) → has a d ≡ f 0 d) →
+    ((d : ℕ) → has b d ≡ f 1 d) →
+    ((d : ℕ) → has c d ≡ f 2 d) →
+    (i : ℕ) → i < 3 → (d : ℕ) → has (three a b c i) d ≡ f i d
 unfolding three
 three-at f a b c p q r zero l d = p d
 three-at f a b c p q r (suc zero) l d = q d
@@ -88,8 +88,8 @@ three-at f a b c p q r (suc (suc zero)) l d = r d
 three-at f a b c p q r (suc (suc (suc i))) l d = absurd (omega arith)
 
 pairs-three :
-  (t : ℕ → ℕ → Bool) →
-  (t 1 0 && (t 2 0 && t 2 1)) ≡ all (λ i. all (t i) (upTo i)) (upTo 3)
+    (t : ℕ → ℕ → Bool) →
+    (t 1 0 && (t 2 0 && t 2 1)) ≡ all (λ i. all (t i) (upTo i)) (upTo 3)
 unfolding all upTo from
 pairs-three t = go (t 1 0) (t 2 0) (t 2 1)
   where
@@ -105,8 +105,8 @@ unfolding inLeafSet isDataLeaf leaf
 leaf-below head rule i d h = rw (le-ltb d (dataCount head) h)
 
 module _ (head rule : List ℕ) (word : ℕ → ℕ) (small : dataCount head ≤ 64) (few : referenceCount rule ≤ 3)
-  (fits : (i : ℕ) → word i < 2 ^ 64)
-  (word-at : (i : ℕ) → i < 3 → (d : ℕ) → has (word i) d ≡ (ltb i (referenceCount rule) && (ltb d 64 && inLeafSet head rule i d))) where
+    (fits : (i : ℕ) → word i < 2 ^ 64)
+    (word-at : (i : ℕ) → i < 3 → (d : ℕ) → has (word i) d ≡ (ltb i (referenceCount rule) && (ltb d 64 && inLeafSet head rule i d))) where
   apart : ℕ → ℕ → Bool
   apart i j = eqb (bitAnd (word i) (word j)) 0
 
@@ -115,17 +115,17 @@ module _ (head rule : List ℕ) (word : ℕ → ℕ) (small : dataCount head ≤
       word-at i (omega arith) d ∙ rw (lt-ltb i (referenceCount rule) l, lt-ltb d 64 s)
 
   words-to-sets :
-    (i j : ℕ) → i < referenceCount rule → j < i → apart i j ≡ true → leafSetsApart head rule i j ≡ true
+      (i j : ℕ) → i < referenceCount rule → j < i → apart i j ≡ true → leafSetsApart head rule i j ≡ true
   unfolding leafSetsApart apart
   words-to-sets i j l m h =
       at-all (λ d. not (inLeafSet head rule i d && inLeafSet head rule j d)) (dataCount head)
       (λ d q.
-        rw (← (present i d l (omega arith)), ← (present j d (omega arith) (omega arith)))
-        (all-at (λ x. not (has (word i) x && has (word j) x)) 64
-        (sym (disjoint-test 64 (word i) (word j) (fits i)) ∙ h) d (omega arith)))
+      rw (← (present i d l (omega arith)), ← (present j d (omega arith) (omega arith)))
+      (all-at (λ x. not (has (word i) x && has (word j) x)) 64
+      (sym (disjoint-test 64 (word i) (word j) (fits i)) ∙ h) d (omega arith)))
 
   sets-to-words :
-    (i j : ℕ) → i < referenceCount rule → j < i → leafSetsApart head rule i j ≡ true → apart i j ≡ true
+      (i j : ℕ) → i < referenceCount rule → j < i → leafSetsApart head rule i j ≡ true → apart i j ≡ true
   unfolding leafSetsApart apart
   sets-to-words i j l m h =
       disjoint-test 64 (word i) (word j) (fits i)
@@ -133,9 +133,9 @@ module _ (head rule : List ℕ) (word : ℕ → ℕ) (small : dataCount head ≤
       (λ d q. rw (present i d l q, present j d (omega arith) q) (go d (ltb d (dataCount head)) refl))
     where
       go :
-        (d : ℕ) (b : Bool) →
-        ltb d (dataCount head) ≡ b →
-        not (inLeafSet head rule i d && inLeafSet head rule j d) ≡ true
+          (d : ℕ) (b : Bool) →
+          ltb d (dataCount head) ≡ b →
+          not (inLeafSet head rule i d && inLeafSet head rule j d) ≡ true
       go d true t =
           all-at (λ x. not (inLeafSet head rule i x && inLeafSet head rule j x)) (dataCount head) h d
           (ltb-true d (dataCount head) t)
@@ -149,31 +149,31 @@ module _ (head rule : List ℕ) (word : ℕ → ℕ) (small : dataCount head ≤
       (λ d q. rw (word-at i s d, le-ltb i (referenceCount rule) l))
 
   pub references-apart-at :
-    (eqb (bitAnd (word 1) (word 0)) 0 && (eqb (bitAnd (word 2) (word 0)) 0 && eqb (bitAnd (word 2) (word 1)) 0)) ≡
-    referencesApart head rule
+      (eqb (bitAnd (word 1) (word 0)) 0 && (eqb (bitAnd (word 2) (word 0)) 0 && eqb (bitAnd (word 2) (word 1)) 0)) ≡
+      referencesApart head rule
   unfolding referencesApart apart
   references-apart-at =
       pairs-three apart
       ∙ same-test (all (λ i. all (apart i) (upTo i)) (upTo 3))
       (all (λ i. all (leafSetsApart head rule i) (upTo i)) (upTo (referenceCount rule)))
       (λ h.
-        at-all (λ i. all (leafSetsApart head rule i) (upTo i)) (referenceCount rule)
-        (λ i l.
-          at-all (leafSetsApart head rule i) i
-          (λ j m.
-            words-to-sets i j l m (all-at (apart i) i (all-at (λ k. all (apart k) (upTo k)) 3 h i (omega arith)) j m))))
+      at-all (λ i. all (leafSetsApart head rule i) (upTo i)) (referenceCount rule)
+      (λ i l.
+      at-all (leafSetsApart head rule i) i
+      (λ j m.
+      words-to-sets i j l m (all-at (apart i) i (all-at (λ k. all (apart k) (upTo k)) 3 h i (omega arith)) j m))))
       (λ h.
-        at-all (λ i. all (apart i) (upTo i)) 3
-        (λ i l. at-all (apart i) i (λ j m. back h i j l m (ltb i (referenceCount rule)) refl)))
+      at-all (λ i. all (apart i) (upTo i)) 3
+      (λ i l. at-all (apart i) i (λ j m. back h i j l m (ltb i (referenceCount rule)) refl)))
     where
       back :
-        all (λ i. all (leafSetsApart head rule i) (upTo i)) (upTo (referenceCount rule)) ≡ true →
-        (i j : ℕ) →
-        i < 3 →
-        j < i →
-        (b : Bool) →
-        ltb i (referenceCount rule) ≡ b →
-        apart i j ≡ true
+          all (λ i. all (leafSetsApart head rule i) (upTo i)) (upTo (referenceCount rule)) ≡ true →
+          (i j : ℕ) →
+          i < 3 →
+          j < i →
+          (b : Bool) →
+          ltb i (referenceCount rule) ≡ b →
+          apart i j ≡ true
       back h i j l m true t =
           let n : i < referenceCount rule = ltb-true i (referenceCount rule) t in
           sets-to-words i j n m
@@ -184,9 +184,9 @@ module _ (head rule : List ℕ) (word : ℕ → ℕ) (small : dataCount head ≤
 -- Masks
 
 pub mask-holds-at :
-  (head rule : List ℕ) (j i a : ℕ) →
-  ((k : ℕ) → has a k ≡ maskAllows head rule i k) →
-  all (λ k. not (has (restrictionMask rule j i) k) || has a k) (upTo 16) ≡ maskHolds head rule j i
+    (head rule : List ℕ) (j i a : ℕ) →
+    ((k : ℕ) → has a k ≡ maskAllows head rule i k) →
+    all (λ k. not (has (restrictionMask rule j i) k) || has a k) (upTo 16) ≡ maskHolds head rule j i
 unfolding maskHolds
 mask-holds-at head rule j i a a-at =
     all-same (λ k. not (has (restrictionMask rule j i) k) || has a k)
@@ -204,11 +204,11 @@ and-swap false false = refl
 
 module _ (head rule : List ℕ) (i : ℕ) where
   pub allowed-present :
-    (s : ℕ) →
-    i < referenceCount rule →
-    s ≡ supportOf head (dataCategory rule i) →
-    s < 2 ^ 16 →
-    (k : ℕ) → has (bitAnd s ((2 ^ 64 - 1) - 1)) k ≡ maskAllows head rule i k
+      (s : ℕ) →
+      i < referenceCount rule →
+      s ≡ supportOf head (dataCategory rule i) →
+      s < 2 ^ 16 →
+      (k : ℕ) → has (bitAnd s ((2 ^ 64 - 1) - 1)) k ≡ maskAllows head rule i k
   unfolding maskAllows supports
   allowed-present s l e small k =
       has-minus 64 s 1 k (omega arith) (omega arith)
@@ -221,15 +221,21 @@ module _ (head rule : List ℕ) (i : ℕ) where
 
 -- one restriction more
 pub masks-more :
-  (head rule : List ℕ) (a b c j : ℕ) (ok first second third : Bool) →
-  ((k : ℕ) → has a k ≡ maskAllows head rule 0 k) →
-  ((k : ℕ) → has b k ≡ maskAllows head rule 1 k) →
-  ((k : ℕ) → has c k ≡ maskAllows head rule 2 k) →
-  first ≡ all (λ k. not (has (restrictionMask rule j 0) k) || has a k) (upTo 16) →
-  second ≡ all (λ k. not (has (restrictionMask rule j 1) k) || has b k) (upTo 16) →
-  third ≡ all (λ k. not (has (restrictionMask rule j 2) k) || has c k) (upTo 16) →
-  ok ≡ all (λ i. all (maskHolds head rule i) (upTo 3)) (upTo j) →
-  (ok && (first && (second && third))) ≡ all (λ i. all (maskHolds head rule i) (upTo 3)) (upTo (j + 1))
+    (head rule : List ℕ) (a b c j : ℕ) (ok first second third : Bool) →
+    ((k : ℕ) → has a k ≡ maskAllows head rule 0 k) →
+    ((k : ℕ) → has b k ≡ maskAllows head rule 1 k) →
+    ((k : ℕ) → has c k ≡ maskAllows head rule 2 k) →
+    first ≡ all (λ k. not (has (restrictionMask rule j 0) k) || has a k) (upTo 16) →
+    second ≡ all (λ k. not (has (restrictionMask rule j 1) k) || has b k) (upTo 16) →
+    third ≡ all (λ k. not (has (restrictionMask rule j 2) k) || has c k) (upTo 16) →
+    ok ≡ all (λ i. all (maskHolds head rule i) (upTo 3)) (upTo j) →
+    (ok && (first && (second && third))) ≡ all (λ i. all (maskHolds head rule i) (upTo 3)) (upTo (j + 1))
 masks-more head rule a b c j ok first second third a-at b-at c-at p q r e =
-    rw (all-more (λ i. all (maskHolds head rule i) (upTo 3)) j, all-three (maskHolds head rule j), e,
-    p ∙ mask-holds-at head rule j 0 a a-at, q ∙ mask-holds-at head rule j 1 b b-at, r ∙ mask-holds-at head rule j 2 c c-at)
+    rw (
+      all-more (λ i. all (maskHolds head rule i) (upTo 3)) j,
+      all-three (maskHolds head rule j),
+      e,
+      p ∙ mask-holds-at head rule j 0 a a-at,
+      q ∙ mask-holds-at head rule j 1 b b-at,
+      r ∙ mask-holds-at head rule j 2 c c-at,
+    )

@@ -29,13 +29,13 @@ module _ (head : List ℕ) (d own p : ℕ) (own-at : own ≡ ownOperations head 
 pub record Supported (head : List ℕ) (i : ℕ) (words : List ℕ) : Type 0 where
   pub bound : i ≤ 64
   pub at :
-    (k d : ℕ) → k < 16 → has (getD words k 0) d ≡ (ltb d i && (isDataLeaf head d && supports head d k))
+      (k d : ℕ) → k < 16 → has (getD words k 0) d ≡ (ltb d i && (isDataLeaf head d && supports head d k))
 
 pub supported-none : (head : List ℕ) → Supported head 0 (replicate 16 0)
 supported-none head =
     record {
       bound = omega arith;
-      at = λ k d l. rw (getD-replicate {A = ℕ} 16 k 0 0 l, has-zero d, le-ltb d 0 (omega arith))
+      at = λ k d l. rw (getD-replicate {A = ℕ} 16 k 0 0 l, has-zero d, le-ltb d 0 (omega arith));
     }
 
 has-cond : (b : Bool) (w d : ℕ) → has (cond b w 0) d ≡ (b && has w d)
@@ -56,34 +56,41 @@ elsewhere false false true true = refl
 elsewhere false a false true = refl
 
 pub supported-more :
-  (head : List ℕ) (i all one mask : ℕ) (words next : List ℕ) →
-  Supported head i words →
-  i < 64 →
-  ((c : ℕ) → has all c ≡ (ltb c 64 && isDataLeaf head c)) →
-  ((c : ℕ) → has one c ≡ (ltb c 64 && eqb c i)) →
-  mask ≡ supportOf head i →
-  ((k : ℕ) → k < 16 → getD next k 0 ≡ bitOr (getD words k 0) (cond (has mask k) (bitAnd all one) 0)) →
-  Supported head (i + 1) next
+    (head : List ℕ) (i all one mask : ℕ) (words next : List ℕ) →
+    Supported head i words →
+    i < 64 →
+    ((c : ℕ) → has all c ≡ (ltb c 64 && isDataLeaf head c)) →
+    ((c : ℕ) → has one c ≡ (ltb c 64 && eqb c i)) →
+    mask ≡ supportOf head i →
+    ((k : ℕ) → k < 16 → getD next k 0 ≡ bitOr (getD words k 0) (cond (has mask k) (bitAnd all one) 0)) →
+    Supported head (i + 1) next
 unfolding supports
 supported-more head i all one mask words next r small all-at one-at mask-at step =
     record { bound = omega arith; at = λ k d l. go k d l (eqb d i) refl }
   where
     start :
-      (k d : ℕ) →
-      k < 16 →
-      has (getD next k 0) d ≡
-      ((ltb d i && (isDataLeaf head d && has (supportOf head d) k))
-      || (has mask k && ((ltb d 64 && isDataLeaf head d) && (ltb d 64 && eqb d i))))
+        (k d : ℕ) →
+        k < 16 →
+        has (getD next k 0) d ≡
+        ((ltb d i && (isDataLeaf head d && has (supportOf head d) k))
+        || (has mask k && ((ltb d 64 && isDataLeaf head d) && (ltb d 64 && eqb d i))))
     start k d l =
-        rw (step k l, has-or (getD words k 0) (cond (has mask k) (bitAnd all one) 0) d, r .at k d l,
-        has-cond (has mask k) (bitAnd all one) d, has-and all one d, all-at d, one-at d)
+        rw (
+          step k l,
+          has-or (getD words k 0) (cond (has mask k) (bitAnd all one) 0) d,
+          r .at k d l,
+          has-cond (has mask k) (bitAnd all one) d,
+          has-and all one d,
+          all-at d,
+          one-at d,
+        )
 
     go :
-      (k d : ℕ) →
-      k < 16 →
-      (b : Bool) →
-      eqb d i ≡ b →
-      has (getD next k 0) d ≡ (ltb d (i + 1) && (isDataLeaf head d && has (supportOf head d) k))
+        (k d : ℕ) →
+        k < 16 →
+        (b : Bool) →
+        eqb d i ≡ b →
+        has (getD next k 0) d ≡ (ltb d (i + 1) && (isDataLeaf head d && has (supportOf head d) k))
     go k d l true q =
         let e : d ≡ i = eqb-true d i q in
         start k d l
@@ -95,10 +102,10 @@ supported-more head i all one mask words next r small all-at one-at mask-at step
         (elsewhere (ltb d i && (isDataLeaf head d && has (supportOf head d) k)) (isDataLeaf head d) (ltb d 64) (has mask k))
 
 pub supported-end :
-  (head : List ℕ) (i : ℕ) (words : List ℕ) →
-  Supported head i words →
-  64 ≤ i →
-  (k d : ℕ) → k < 16 → has (getD words k 0) d ≡ (ltb d 64 && (isDataLeaf head d && supports head d k))
+    (head : List ℕ) (i : ℕ) (words : List ℕ) →
+    Supported head i words →
+    64 ≤ i →
+    (k d : ℕ) → k < 16 → has (getD words k 0) d ≡ (ltb d 64 && (isDataLeaf head d && supports head d k))
 supported-end head i words r past k d l =
     let b : i ≤ 64 = r .bound in
     let e : i ≡ 64 = omega arith in

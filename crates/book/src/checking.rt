@@ -24,14 +24,14 @@ pub enum Pass {
     Contents,
 }
 
-fn refused(number: u32, place: u32) -> Checked
+pub fn refused(number: u32, place: u32) -> Checked
     ensures { λ r. ⌜ r ≡ Checked.Refused (record { number = number; place = place }) ⌝ }
 {
     Checked::Refused(Refusal { number, place })
 }
 
 // The first of two answers that refuses; the second where none does.
-fn or_else(first: Checked, second: Checked) -> Checked
+pub fn or_else(first: Checked, second: Checked) -> Checked
     ensures { λ r. ⌜ r ≡ orElse first second ⌝ }
 {
     match first {

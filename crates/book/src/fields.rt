@@ -1,4 +1,4 @@
-// The fields of the head blocks and of a rule block, read at any index. `head` is the first four
+// The blocks of a book, and the fields of the head blocks and of a rule block, read at any index. `head` is the first four
 // blocks of a book, `rule` one rule block; both may have any length. The numbers of a book are
 // bytes, so an index is a u8.
 use crate::Hierarchy;
@@ -6,9 +6,24 @@ use crate::bytes::byte_at;
 use crate::bytes::part;
 ghost use mathlib.Core.Path.{_≡_};
 ghost use Prim.Native.Nat.{_≤_, _<_};
+ghost use Rattle.book.specs.Blocks.{blockAt, headOf};
 ghost use Rattle.book.specs.Head.{columnCount, countIn, functionCount, label, operation, ownOperations, parentIn};
 ghost use Rattle.book.specs.Rule.{action, dataCategory, excludedUserCount, excludedUsers, exclusionCount, exclusions};
 ghost use Rattle.book.specs.Rule.{referenceCount, restrictionCount, restrictionMask, userCategory};
+
+// The four head blocks.
+pub fn head_of(book: &[u8]) -> &[u8]
+    ensures { λ r. ⌜ now r ≡ headOf (now (book .entry)) ⌝ }
+{
+    part(book, 0, 2048)
+}
+
+pub fn block_at(book: &[u8], i: u8) -> &[u8]
+    ensures { λ r. ⌜ now r ≡ blockAt (now (book .entry)) i ⌝ }
+{
+    let at = i as usize;
+    part(book, 512 * at, 512)
+}
 
 pub fn count(head: &[u8], which: Hierarchy) -> usize
     ensures { λ r. ⌜ (r ≡ countIn which (now (head .entry))) × (r ≤ 255) ⌝ }

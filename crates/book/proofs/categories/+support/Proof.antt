@@ -33,10 +33,11 @@ support-returns : (t : ℕ) → support-lts.Need-returns (
 support-returns t c =
     let a = c .before .before .before .before .before .args in
     let own = c .before .before .before .own-operations in
-    let p = c .before .before .parent in
-    (support-lower (a .head .now) (a .d) (own .result) (p .result) (own .ensures .0) (p .ensures .0) (c .support .result)
-    (c .before .if1 .taken) (c .support .ensures .0),
-    or-lt 16 (own .result) (c .support .result) (own .ensures .1) (c .support .ensures .1))
+    let p = c .before .before .parent in (
+      support-lower (a .head .now) (a .d) (own .result) (p .result) (own .ensures .0) (p .ensures .0) (c .support .result)
+          (c .before .if1 .taken) (c .support .ensures .0),
+      or-lt 16 (own .result) (c .support .result) (own .ensures .1) (c .support .ensures .1),
+    )
 
 support-returns-2 : (t : ℕ) → support-lts.Need-returns-2 (
   own-operations-reads.Asked,
@@ -49,9 +50,10 @@ support-returns-2 : (t : ℕ) → support-lts.Need-returns-2 (
 support-returns-2 t c =
     let a = c .before .before .before .before .args in
     let own = c .before .before .own-operations in
-    let p = c .before .parent in
-    (support-top (a .head .now) (a .d) (own .result) (p .result) (own .ensures .0) (p .ensures .0) (c .if1 .left),
-    own .ensures .1)
+    let p = c .before .parent in (
+      support-top (a .head .now) (a .d) (own .result) (p .result) (own .ensures .0) (p .ensures .0) (c .if1 .left),
+      own .ensures .1,
+    )
 
 pub +support-spec : {M : Type 1} → statement M
 +support-spec = close μ-support λ t. support-lts.spec (

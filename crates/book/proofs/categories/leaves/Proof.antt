@@ -15,18 +15,20 @@ abbrev μ-loop : tie.MeasureT-loop
 μ-loop head which n parents₀ i₀ parents i = n - i
 
 loop-holds : tie.Need-loop-holds Inv-loop μ-loop
-loop-holds c =
-    (c .count .ensures .1,
-    named-none (parentIn (c .before .before .args .which) (c .before .before .args .head .now)) (c .count .result) has-zero)
+loop-holds c = (
+  c .count .ensures .1,
+  named-none (parentIn (c .before .before .args .which) (c .before .before .args .head .now)) (c .count .result) has-zero,
+)
 
 loop-again : tie.Need-loop-again Inv-loop μ-loop
 loop-again c =
     let a = c .before .before .before .before .before .before .args in
-    let l = c .before .before .before .loop in
-    (l .inv .0,
-    named-more (parentIn (a .which) (a .head .now)) (c .before .before .before .before .count .result) (l .i)
-    (c .before .parent .result) (l .parents) (c .with-parent .result) (l .inv .1) (c .before .before .loop-test .taken)
-    (c .with-parent .ok) (c .before .parent .ensures .0) (c .with-parent .ensures))
+    let l = c .before .before .before .loop in (
+      l .inv .0,
+      named-more (parentIn (a .which) (a .head .now)) (c .before .before .before .before .count .result) (l .i)
+          (c .before .parent .result) (l .parents) (c .with-parent .result) (l .inv .1) (c .before .before .loop-test .taken)
+          (c .with-parent .ok) (c .before .parent .ensures .0) (c .with-parent .ensures),
+    )
 
 returns : tie.Need-returns Inv-loop μ-loop
 returns c =

@@ -24,11 +24,12 @@ loop-again : tie.Need-loop-again Inv-loop μ-loop
 loop-again c =
     let a = c .before .before .before .before .before .before .before .args in
     let l = c .before .before .before .before .loop in
-    let one = c .before .before .single in
-    (l .inv .0,
-    supported-more (a .head .now) (l .d) (c .before .before .before .before .before .leaves .result) (one .result)
-    (c .before .support .result) (l .words) (c .with-leaf .result) (l .inv .1) (c .before .before .before .loop-test .taken)
-    (l .inv .0) (one .ensures) (c .before .support .ensures .0) (c .with-leaf .ensures))
+    let one = c .before .before .single in (
+      l .inv .0,
+      supported-more (a .head .now) (l .d) (c .before .before .before .before .before .leaves .result) (one .result)
+          (c .before .support .result) (l .words) (c .with-leaf .result) (l .inv .1) (c .before .before .before .loop-test .taken)
+          (l .inv .0) (one .ensures) (c .before .support .ensures .0) (c .with-leaf .ensures),
+    )
 
 returns : tie.Need-returns Inv-loop μ-loop
 returns c =

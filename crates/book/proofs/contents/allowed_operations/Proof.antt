@@ -13,10 +13,11 @@ returns : tie.Need-returns
 returns c =
     let a = c .before .before .before .before .before .before .args in
     let n = c .before .before .before .reference-count in
-    let i : a .i < referenceCount (a .rule .now) = rw (n .ensures .0) at (c .before .before .if1 .taken) in
-    (allowed-present (a .head .now) (a .rule .now) (a .i) (c .support .result) i
-    (rw (c .before .data-category .ensures .0) at (c .support .ensures .0)) (c .support .ensures .1),
-    lt-of-le-of-lt (and-le-l (c .support .result) ((2 ^ 64 - 1) - 1)) (c .support .ensures .1))
+    let i : a .i < referenceCount (a .rule .now) = rw (n .ensures .0) at (c .before .before .if1 .taken) in (
+      allowed-present (a .head .now) (a .rule .now) (a .i) (c .support .result) i
+          (rw (c .before .data-category .ensures .0) at (c .support .ensures .0)) (c .support .ensures .1),
+      lt-of-le-of-lt (and-le-l (c .support .result) ((2 ^ 64 - 1) - 1)) (c .support .ensures .1),
+    )
 
 returns-2 : tie.Need-returns-2
 returns-2 c =

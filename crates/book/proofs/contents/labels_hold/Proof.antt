@@ -54,9 +54,11 @@ loop-less c = search needs
 -- src/contents.rt:140:5
 loop-again : tie.Need-loop-again Inv-loop μ-loop
 loop-again c =
-    let k = c .before .before .before .before .before in
-    (search needs, λ small. passed-more (c .before .before .before .loop .inv .1 small) (search needs)
-        (rw (← (c .before .label .ensures .0)) (c .label-holds .ensures ∙ label-same (k .before .before .args .head .now) (k .leaves .result) (c .before .label .result) small (k .leaves .ensures))))
+    let k = c .before .before .before .before .before in (
+      search needs,
+      λ small. passed-more (c .before .before .before .loop .inv .1 small) (search needs)
+          (rw (← (c .before .label .ensures .0)) (c .label-holds .ensures ∙ label-same (k .before .before .args .head .now) (k .leaves .result) (c .before .label .result) small (k .leaves .ensures))),
+    )
 
 -- src/contents.rt:134:1
 returns : tie.Need-returns Inv-loop μ-loop

@@ -28,12 +28,14 @@ loop-again c =
     let l = c .before .before .before .before .loop in
     let first = c .before .before .before .before .before .before .before .before .allowed-operations in
     let second = c .before .before .before .before .before .before .before .allowed-operations2 in
-    let third = c .before .before .before .before .before .before .allowed-operations3 in
-    (l .inv .0, search needs,
-    masks-more (g .head .now) (g .rule .now) (first .result) (second .result) (third .result) (l .j) (l .ok)
-    (c .before .before .mask-holds .result) (c .before .mask-holds2 .result) (c .mask-holds3 .result)
-    (first .ensures .0) (second .ensures .0) (third .ensures .0) (c .before .before .mask-holds .ensures)
-    (c .before .mask-holds2 .ensures) (c .mask-holds3 .ensures) (l .inv .2))
+    let third = c .before .before .before .before .before .before .allowed-operations3 in (
+      l .inv .0,
+      search needs,
+      masks-more (g .head .now) (g .rule .now) (first .result) (second .result) (third .result) (l .j) (l .ok)
+          (c .before .before .mask-holds .result) (c .before .mask-holds2 .result) (c .mask-holds3 .result)
+          (first .ensures .0) (second .ensures .0) (third .ensures .0) (c .before .before .mask-holds .ensures)
+          (c .before .mask-holds2 .ensures) (c .mask-holds3 .ensures) (l .inv .2),
+    )
 
 returns : tie.Need-returns Inv-loop μ-loop
 unfolding masksHold

@@ -34,9 +34,11 @@ loop-again c =
     let a = c .before .before .before .before .before .before .before .before .before .args in
     let l = c .before .before .before .loop in
     let n = c .before .before .before .before .before .before .count .result in
-    let inside = c .before .before .before .before .descendants .result in
-    (l .inv .0, search needs,
-    rw (all-take (λ x. ltb x n && (not (eqb x (a .c)) && has inside x)) (a .list .now) (l .i) (search needs), ← (l .inv .2), ← (c .is-proper .ensures)))
+    let inside = c .before .before .before .before .descendants .result in (
+      l .inv .0,
+      search needs,
+      rw (all-take (λ x. ltb x n && (not (eqb x (a .c)) && has inside x)) (a .list .now) (l .i) (search needs), ← (l .inv .2), ← (c .is-proper .ensures)),
+    )
 
 returns : tie.Need-returns Inv-loop μ-loop
 returns c small =
