@@ -1,12 +1,12 @@
 -- What an accepted book gives: the laws of its head and of each rule. Assumes nothing.
-use Prim.Native.Nat.{ℕ, zero, suc, _+_, _*_, _-_, _≤_, _<_}
+use Prim.Native.Nat.{ℕ, _+_, _*_, _-_, _≤_, _<_}
 use native.Mathlib.Omega.{arith}
 use mathlib.Core.Path.{_≡_, sym}
 use mathlib.Core.Bool.{Bool, true, false, _&&_, _||_, not}
 use mathlib.Core.List.{List, [], _∷_}
-use borrow.Author.Tests.{eqb-true, leb-true, ltb-true, not-true}
 use lib.ListN.{length}
 use lib.Dec.{ltb, leb}
+use borrow.Author.Tests.{leb-true, ltb-true, not-true}
 use Rattle.book.specs.Lists.{all, upTo}
 use Rattle.book.specs.Sets.{has}
 use Rattle.book.specs.Hierarchies.{parentHolds, properDescendant}
@@ -15,8 +15,8 @@ use Rattle.book.specs.Head.{functionCount, operation}
 use Rattle.book.specs.Rule.{referenceCount, userCategory, excludedUserCount, excludedUsers, restrictionCount}
 use Rattle.book.specs.Rule.{dataCategory, action, exclusionCount, exclusions, restrictionMask, inLeafSet}
 use Rattle.book.specs.Blocks.{blockAt, headOf, ruleAt}
-use Rattle.book.specs.Refusals.{between, zeros, firstFailing, lengthHolds, lengthTests, passTests}
-use Rattle.book.specs.Refusals.{columnsCounted, functionsCounted, usersOrdered}
+use Rattle.book.specs.Refusals.{between, firstFailing, lengthHolds, lengthTests, passTests}
+use Rattle.book.specs.Refusals.{usersOrdered}
 use Rattle.book.specs.Refusals.{dataOrdered, labelHolds, labelsHold, functionsHold, ruleCounts, ruleZeros}
 use Rattle.book.specs.Refusals.{ruleCounted, userNumbersHold, referenceHolds, numbersHold, leafSetsApart}
 use Rattle.book.specs.Refusals.{referencesApart, maskAllows, maskHolds, masksHold}
@@ -24,11 +24,12 @@ use Rattle.book.specs.Answers.{atBlocks, blockCount, ruleCount, checkAns
 use Rattle.book.specs.declared.Checked.{Checked}
 use Rattle.book.specs.declared.Checked.the-variants.{Accepted}
 use Rattle.book.specs.declared.checking.Pass.the-variants.{Checks, Kinds, Contents}
-use Rattle.book.proofs.Lists.{and-left, and-right, all-at}
-use Rattle.book.proofs.Lists.{not-holds, or-holds, and-both}
+use Rattle.book.proofs.Lists.{and-left, and-right, and-both, not-holds, or-holds, all-at}
+use Rattle.book.proofs.Hierarchies.{parent-falls}
+use Rattle.book.proofs.Tests.{first-passed, between-true, length-true}
+use Rattle.book.proofs.Tests.{users-bound, data-bound, columns-bound, functions-bound, rule-bounds}
+use Rattle.book.proofs.Tests.{users-passed, data-passed, columns-passed, functions-passed, rule-passed}
 use Rattle.book.proofs.Answers.{refuse-accepted, at-accepted}
-use Rattle.book.proofs.Passed.{first-passed, between-true, length-true, users-bound, data-bound}
-use Rattle.book.proofs.Passed.{users-passed, data-passed, columns-passed, functions-passed, rule-passed}
 
 -- the head of an accepted book
 pub record HeadHolds (head : List ℕ) : Type 0 where
@@ -79,12 +80,6 @@ pub record RuleHolds (head rule : List ℕ) : Type 0 where
 
 -- Each test opened
 
--- a parent is lower than its child, and the root's is 0
-pub parent-falls : (parent : ℕ → ℕ) (i : ℕ) → parentHolds parent i ≡ true → parent i ≤ i - 1
-unfolding parentHolds
-parent-falls parent zero h = let e : parent 0 ≡ 0 = eqb-true (parent 0) 0 h in omega arith
-parent-falls parent (suc i) h = let l : parent (suc i) < suc i = ltb-true (parent (suc i)) (suc i) h in omega arith
-
 module _ (head : List ℕ) where
   users-fell : usersOrdered head ≡ true → (i : ℕ) → i < userCount head → userParent head i ≤ i - 1
   unfolding usersOrdered
@@ -109,18 +104,6 @@ module _ (head : List ℕ) where
       not-true (has (ownOperations head i) 0)
       (all-at (λ j. not (has (ownOperations head j) 0)) (dataCount head) (and-right parents owns h) i l)
 
-  columns-bound : columnsCounted head ≡ true → columnCount head ≤ 128
-  unfolding columnsCounted
-  columns-bound h =
-      between-true 0 128 (columnCount head)
-      (and-left (between 0 128 (columnCount head)) (zeros head (1026 + columnCount head) 1534) h) .1
-
-  functions-bound : functionsCounted head ≡ true → functionCount head ≤ 64
-  unfolding functionsCounted
-  functions-bound h =
-      between-true 0 64 (functionCount head)
-      (and-left (between 0 64 (functionCount head)) (zeros head (1538 + functionCount head) 2046) h) .1
-
   labels-held : labelsHold head ≡ true → (i : ℕ) → i < columnCount head → labelHolds head (label head i) ≡ true
   unfolding labelsHold
   labels-held h i l = all-at (λ j. labelHolds head (label head j)) (columnCount head) h i l
@@ -129,31 +112,6 @@ module _ (head : List ℕ) where
   unfolding functionsHold
   operations-bound h i l =
       leb-true (operation head i) 15 (all-at (λ j. leb (operation head j) 15) (functionCount head) h i l)
-
-module _ (rule : List ℕ) where
-  bounds : Bool
-  bounds = all (λ i. between 0 8 (exclusionCount rule i)) (upTo (referenceCount rule))
-
-  rule-bounds :
-      ruleCounted rule ≡ true
-      → (between 1 3 (referenceCount rule) ≡ true)
-      × (between 0 4 (excludedUserCount rule) ≡ true)
-      × (between 0 8 (restrictionCount rule) ≡ true)
-      × (bounds ≡ true)
-  unfolding ruleCounted ruleCounts bounds
-  rule-bounds h =
-      let counts : ruleCounts rule ≡ true = and-left (ruleCounts rule) (ruleZeros rule) h in
-      let a = and-both (between 1 3 (referenceCount rule))
-      (between 0 4 (excludedUserCount rule) && (between 0 8 (restrictionCount rule) && bounds)) counts in
-      let b = and-both (between 0 4 (excludedUserCount rule)) (between 0 8 (restrictionCount rule) && bounds) (a .1) in
-      let d = and-both (between 0 8 (restrictionCount rule)) bounds (b .1) in
-      (a .0, b .0, d .0, d .1)
-
-  exclusions-bound : bounds ≡ true → (i : ℕ) → i < referenceCount rule → exclusionCount rule i ≤ 8
-  unfolding bounds
-  exclusions-bound h i l =
-      between-true 0 8 (exclusionCount rule i)
-      (all-at (λ j. between 0 8 (exclusionCount rule j)) (referenceCount rule) h i l) .1
 
 module _ (head rule : List ℕ) where
   usersProper : Bool
@@ -182,7 +140,8 @@ module _ (head rule : List ℕ) where
       let held : referenceHolds head rule i ≡ true =
       all-at (referenceHolds head rule) (referenceCount rule)
       (and-right (userNumbersHold head rule) (all (referenceHolds head rule) (upTo (referenceCount rule))) h) i l in
-      let a = and-both (ltb (dataCategory rule i) (dataCount head)) (between 1 3 (action rule i) && dataProper i) held in
+      let a =
+      and-both (ltb (dataCategory rule i) (dataCount head)) (between 1 3 (action rule i) && dataProper i) held in
       let b = and-both (between 1 3 (action rule i)) (dataProper i) (a .1) in
       (ltb-true (dataCategory rule i) (dataCount head) (a .0), between-true 1 3 (action rule i) (b .0), b .1)
 
@@ -275,22 +234,21 @@ module _ (book : List ℕ) (n : ℕ) (accepted : checkAnswer book ≡ Accepted n
       }
 
   pub accepted-rule : (r : ℕ) → r < n → RuleHolds (headOf book) (ruleAt book r)
-  unfolding passTests usersProper dataProper
+  unfolding passTests ruleCounted usersProper dataProper
   accepted-rule r h =
       let head = headOf book in
       let rule = ruleAt book r in
       let e = accepted-rules in
       let passed = rule-passed head rule r (all-passed .1 (4 + r) (omega arith)) in
-      let counts = rule-bounds rule (passed .0) in
-      let references = between-true 1 3 (referenceCount rule) (counts .0) in
+      let counts = rule-bounds rule (and-left (ruleCounts rule) (ruleZeros rule) (passed .0)) in
       let user = user-numbers head rule (passed .1) in
       let numbers = reference-numbers head rule (passed .1) in
       record {
-        references-some = references .0;
-        references-most = references .1;
-        excluded-most = between-true 0 4 (excludedUserCount rule) (counts .1) .1;
-        restrictions-most = between-true 0 8 (restrictionCount rule) (counts .2) .1;
-        exclusions-most = exclusions-bound rule (counts .3);
+        references-some = counts .0;
+        references-most = counts .1;
+        excluded-most = counts .2;
+        restrictions-most = counts .3;
+        exclusions-most = counts .4;
         user-within = user .0;
         users-proper = user .1;
         category-within = λ i l. numbers i l .0;

@@ -7,9 +7,9 @@ use mathlib.Core.Path.{_≡_, refl, sym, ap, _∙_}
 use mathlib.Core.Logic.{⊎-elim}
 use mathlib.Core.Bool.{Bool, true, false, cond}
 use mathlib.Core.List.{List, [], _∷_}
-use borrow.Author.Tests.{eqb-true, ne-eqb}
 use lib.ListN.{length}
 use lib.Dec.{eqb}
+use borrow.Author.Tests.{eqb-true, ne-eqb}
 use Rattle.book.specs.Lists.{from, upTo}
 use Rattle.book.specs.Refusals.{firstFailing, lengthHolds, lengthTests, passTests}
 use Rattle.book.specs.Answers.{refuse, orElse, atBlocks, checkAnswer, blockCount, ruleCount}

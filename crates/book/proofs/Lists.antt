@@ -1,4 +1,4 @@
--- Laws of lists and of the quantifiers over them. Assumes nothing.
+-- Laws of lists, of the connectives, of tests of numbers, and of the quantifiers. Assumes nothing.
 use Prim.Native.Nat.{ℕ, zero, suc, _+_, _-_, _≤_, _<_}
 use native.Mathlib.Nat.{zero-add, add-zero, eq-or-lt-of-le}
 use native.Mathlib.Numerals.{add-one}
@@ -10,7 +10,7 @@ use mathlib.Core.List.{List, [], _∷_, _++_}
 use lib.ListN.{length, getD, take, drop, length-take, length-drop, drop-of-length-le}
 use lib.Seq.{take-all, take-nil, take-suc}
 use lib.Dec.{eqb, ltb}
-use borrow.Author.Tests.{ltb-true, lt-ltb, eqb-true, eq-eqb}
+use borrow.Author.Tests.{not-true, ltb-true, lt-ltb, eqb-true, eq-eqb}
 use Rattle.book.specs.Lists.{from, upTo, all, any}
 
 -- Parts of a list
@@ -56,6 +56,22 @@ pub or-holds : (a b : Bool) → (not a || b) ≡ true → a ≡ true → b ≡ t
 or-holds true b h p = h
 or-holds false b h p = absurd (false≢true p)
 
+pub or-rest : (a b : Bool) → (a || b) ≡ true → a ≡ false → b ≡ true
+or-rest true b h p = absurd (false≢true (sym p))
+or-rest false b h p = h
+
+pub or-otherwise : (a b : Bool) → (a ≡ false → b ≡ true) → (a || b) ≡ true
+or-otherwise true b h = refl
+or-otherwise false b h = h refl
+
+pub or-neither : (a b : Bool) → (a || b) ≡ false → (a ≡ false) × (b ≡ false)
+or-neither true b h = absurd (false≢true (sym h))
+or-neither false b h = (refl, h)
+
+pub not-or : (a b : Bool) → not (a || b) ≡ (not a && not b)
+not-or true b = refl
+not-or false b = refl
+
 pub and-assoc : (a b c : Bool) → (a && b && c) ≡ (a && (b && c))
 and-assoc true b c = refl
 and-assoc false b c = refl
@@ -83,6 +99,12 @@ or-true false = refl
 pub and-or : (a b c : Bool) → (a && (b || c)) ≡ (a && b || a && c)
 and-or true b c = refl
 and-or false b c = refl
+
+pub or-regroup : (a b c d : Bool) → ((a || b) || (c || d)) ≡ ((a || c) || (b || d))
+or-regroup true b c d = refl
+or-regroup false true true d = refl
+or-regroup false true false d = refl
+or-regroup false false c d = refl
 
 -- a test that the other one makes pass can go
 pub and-first : (a b : Bool) → (a ≡ true → b ≡ true) → (a && b) ≡ a
@@ -120,7 +142,7 @@ ltb-more j k n =
     (λ e. lt-ltb j k (omega (arith, ltb-true j (k + 1) e)))
     (λ e. lt-ltb j (k + 1) (omega (arith, ltb-true j k e)))
 
--- Quantifiers: one element more at the end
+-- Quantifiers over a list
 
 module _ (f : ℕ → Bool) where
   pub all-append : (s t : List ℕ) → all f (s ++ t) ≡ (all f s && all f t)
@@ -141,6 +163,51 @@ module _ (f : ℕ → Bool) where
   unfolding any
   any-one x = or-end (f x)
 
+  -- over the first i + 1 elements of a list
+  pub all-take : (l : List ℕ) (i : ℕ) → i < length l → all f (take (i + 1) l) ≡ (all f (take i l) && f (getD l i 0))
+  all-take l i h = rw (add-one, take-suc l i 0 h, all-append, all-one)
+
+  pub any-take : (l : List ℕ) (i : ℕ) → i < length l → any f (take (i + 1) l) ≡ (any f (take i l) || f (getD l i 0))
+  any-take l i h = rw (add-one, take-suc l i 0 h, any-append, any-one)
+
+-- tests that agree everywhere have equal quantifiers over any list
+pub all-same : (f g : ℕ → Bool) → ((x : ℕ) → f x ≡ g x) → (l : List ℕ) → all f l ≡ all g l
+unfolding all
+all-same f g e [] = refl
+all-same f g e (x ∷ l) = rw (e x, all-same f g e l)
+
+pub any-same : (f g : ℕ → Bool) → ((x : ℕ) → f x ≡ g x) → (l : List ℕ) → any f l ≡ any g l
+unfolding any
+any-same f g e [] = refl
+any-same f g e (x ∷ l) = rw (e x, any-same f g e l)
+
+pub any-nothing : (l : List ℕ) → any (λ a. false) l ≡ false
+unfolding any
+any-nothing [] = refl
+any-nothing (x ∷ l) = any-nothing l
+
+pub any-both :
+    (f g : ℕ → Bool) (l : List ℕ)
+    → any (λ a. f a || g a) l ≡ (any f l || any g l)
+unfolding any
+any-both f g [] = refl
+any-both f g (x ∷ l) = rw (any-both f g l) (or-regroup (f x) (g x) (any f l) (any g l))
+
+pub not-any : (f : ℕ → Bool) (l : List ℕ) → not (any f l) ≡ all (λ x. not (f x)) l
+unfolding any all
+not-any f [] = refl
+not-any f (x ∷ l) = rw (not-or (f x) (any f l), not-any f l)
+
+-- two quantifiers in either order
+pub any-swap :
+    (f : ℕ → ℕ → Bool) (l m : List ℕ)
+    → any (λ a. any (f a) m) l ≡ any (λ b. any (λ a. f a b) l) m
+unfolding any
+any-swap f l [] = any-nothing l
+any-swap f l (y ∷ m) = any-both (λ a. f a y) (λ a. any (f a) m) l ∙ rw (any-swap f l m)
+
+-- Quantifiers over the numbers below n
+
 pub from-more : (i n : ℕ) → from i (suc n) ≡ from i n ++ ((i + n) ∷ [])
 unfolding from
 from-more i zero = rw add-zero
@@ -153,31 +220,13 @@ unfolding upTo
 upTo-more n = from-more 0 n ∙ ap (λ (m : ℕ). from 0 n ++ (m ∷ [])) (zero-add n)
 
 module _ (f : ℕ → Bool) where
-  -- over the numbers below i + 1
-  pub all-more : (i : ℕ) → all f (upTo (i + 1)) ≡ (all f (upTo i) && f i)
-  all-more i = rw (add-one, upTo-more, all-append, all-one)
-
-  pub any-more : (i : ℕ) → any f (upTo (i + 1)) ≡ (any f (upTo i) || f i)
-  any-more i = rw (add-one, upTo-more, any-append, any-one)
-
   pub all-none : all f (upTo 0) ≡ true
   unfolding upTo from all
   all-none = refl
 
-  pub any-none : any f (upTo 0) ≡ false
-  unfolding upTo from any
-  any-none = refl
+  pub all-more : (i : ℕ) → all f (upTo (i + 1)) ≡ (all f (upTo i) && f i)
+  all-more i = rw (add-one, upTo-more, all-append, all-one)
 
-  -- over the first i + 1 elements of a list
-  pub all-take : (l : List ℕ) (i : ℕ) → i < length l → all f (take (i + 1) l) ≡ (all f (take i l) && f (getD l i 0))
-  all-take l i h = rw (add-one, take-suc l i 0 h, all-append, all-one)
-
-  pub any-take : (l : List ℕ) (i : ℕ) → i < length l → any f (take (i + 1) l) ≡ (any f (take i l) || f (getD l i 0))
-  any-take l i h = rw (add-one, take-suc l i 0 h, any-append, any-one)
-
--- Quantifiers: what they say of each element
-
-module _ (f : ℕ → Bool) where
   pub all-from : (i n : ℕ) → all f (from i n) ≡ true → (j : ℕ) → i ≤ j → j < i + n → f j ≡ true
   unfolding all from
   all-from i zero h j lo hi = absurd (omega arith)
@@ -203,20 +252,17 @@ module _ (f : ℕ → Bool) where
   unfolding upTo
   at-all n h = from-all 0 n (λ j lo hi. h j (omega arith))
 
--- tests that agree below n have equal quantifiers
-pub all-cong : (f g : ℕ → Bool) (n : ℕ) → ((j : ℕ) → j < n → f j ≡ g j) → all f (upTo n) ≡ all g (upTo n)
-all-cong f g n e =
-    same-test (all f (upTo n)) (all g (upTo n))
-    (λ h. at-all g n (λ j l. sym (e j l) ∙ all-at f n h j l))
-    (λ h. at-all f n (λ j l. e j l ∙ all-at g n h j l))
+module _ (f : ℕ → Bool) (n : ℕ) where
+  -- no number below n passes
+  pub none-at : any f (upTo n) ≡ false → (j : ℕ) → j < n → f j ≡ false
+  none-at h j l =
+      let none : not (any f (upTo n)) ≡ true = rw h in
+      not-true (f j) (all-at (λ x. not (f x)) n (sym (not-any f (upTo n)) ∙ none) j l)
 
--- tests that agree everywhere have equal quantifiers over any list
-pub all-same : (f g : ℕ → Bool) → ((x : ℕ) → f x ≡ g x) → (l : List ℕ) → all f l ≡ all g l
-unfolding all
-all-same f g e [] = refl
-all-same f g e (x ∷ l) = rw (e x, all-same f g e l)
+  pub at-none : ((j : ℕ) → j < n → f j ≡ false) → any f (upTo n) ≡ false
+  at-none h =
+      not-true (any f (upTo n)) (not-any f (upTo n) ∙ at-all (λ x. not (f x)) n (λ j l. rw (h j l)))
 
-pub any-same : (f g : ℕ → Bool) → ((x : ℕ) → f x ≡ g x) → (l : List ℕ) → any f l ≡ any g l
-unfolding any
-any-same f g e [] = refl
-any-same f g e (x ∷ l) = rw (e x, any-same f g e l)
+pub all-three : (f : ℕ → Bool) → all f (upTo 3) ≡ (f 0 && (f 1 && f 2))
+unfolding all upTo from
+all-three f = rw and-end

@@ -1,20 +1,24 @@
 -- Laws of sets as words, for every width: a word's bit 0 is its parity, its bits above are those of its half.
 -- Assumes nothing.
 use Prim.Native.Nat.{ℕ, zero, suc, _+_, _*_, _-_, _/_, _%_, _^_, _≤_, _<_}
+use native.Mathlib.Nat.{pow-suc, pow-succ', div-one, sub-zero, div-div-eq-div-mul, div-eq-of-lt, zero-div, one-mul}
+use native.Mathlib.Nat.{lt-of-lt-of-le, lt-of-le-of-lt}
+use native.Mathlib.Omega.{arith}
 use mathlib.Core.Path.{_≡_, refl, sym, _∙_}
 use mathlib.Core.Bool.{Bool, true, false, _&&_, _||_, not, cond}
-use native.Mathlib.Nat.{pow-suc, pow-succ', div-one, sub-zero, div-div-eq-div-mul, div-eq-of-lt, lt-of-lt-of-le, lt-of-le-of-lt, zero-div, one-mul}
-use native.Mathlib.Omega.{arith}
-use borrow.Author.Tests.{ltb-true, ltb-false, eq-eqb, ne-eqb, eqb-true, eqb-false, lt-ltb, le-ltb, not-true}
-use lib.Dec.{eqb, ltb, eqb·suc-suc, eqb·zero-suc, eqb·suc-zero, leb·suc-suc}
-use lib.Pow.{pow-mono, pow-pos, shl-exact}
-use lib.Bits.{bitAnd, bitOr, and-shr, or-shr, and-mod, or-mod, and-le-l, or-zero-r}
 use mathlib.Core.List.{List}
 use lib.ListN.{length, getD, take, set}
 use lib.Seq.{getD-set-same, getD-set-other}
+use lib.Dec.{eqb, ltb, eqb·suc-suc, eqb·zero-suc, eqb·suc-zero, leb·suc-suc}
+use lib.Pow.{pow-mono, pow-pos, shl-exact}
+use lib.Bits.{bitAnd, bitOr, and-shr, or-shr, and-mod, or-mod, and-le-l, or-zero-r}
+use borrow.Author.Tests.{ltb-true, ltb-false, eq-eqb, ne-eqb, eqb-true, eqb-false, lt-ltb, le-ltb, not-true}
 use Rattle.book.specs.Lists.{all, any, upTo}
 use Rattle.book.specs.Sets.{has}
-use Rattle.book.proofs.Lists.{same-test, and-first, and-second, and-never, and-end, and-false, and-or, ltb-more, all-at, at-all, any-take}
+use Rattle.book.proofs.Lists.{same-test, and-first, and-second, and-never, and-end, and-false, and-or, ltb-more}
+use Rattle.book.proofs.Lists.{all-at, at-all, any-take}
+
+-- Bits
 
 pub has-low : (a : ℕ) → has a 0 ≡ eqb (a % 2) 1
 unfolding has
@@ -28,7 +32,16 @@ pub has-zero : (i : ℕ) → has 0 i ≡ false
 unfolding has
 has-zero i = rw zero-div
 
--- ---- the operations on words
+-- a word is even where bit 0 is not set
+pub even : (w : ℕ) → eqb (w % 2) 0 ≡ not (has w 0)
+even w = rw has-low (go (w % 2) (omega arith))
+  where
+    go : (m : ℕ) → m < 2 → eqb m 0 ≡ not (eqb m 1)
+    go zero l = refl
+    go (suc zero) l = refl
+    go (suc (suc m)) l = absurd (omega arith)
+
+-- Operations on words
 
 or-bit : (x y : ℕ) → x < 2 → y < 2 → eqb (bitOr x y) 1 ≡ (eqb x 1 || eqb y 1)
 or-bit zero y p q = refl
@@ -39,7 +52,9 @@ or-bit (suc (suc x)) y p q = absurd (omega arith)
 
 pub has-or : (a b i : ℕ) → has (bitOr a b) i ≡ (has a i || has b i)
 unfolding has
-has-or a b i = rw (or-shr, or-mod (a / 2 ^ i) (b / 2 ^ i) 1) (or-bit (a / 2 ^ i % 2) (b / 2 ^ i % 2) (omega arith) (omega arith))
+has-or a b i =
+    rw (or-shr, or-mod (a / 2 ^ i) (b / 2 ^ i) 1)
+    (or-bit (a / 2 ^ i % 2) (b / 2 ^ i % 2) (omega arith) (omega arith))
 
 and-bit : (x y : ℕ) → x < 2 → y < 2 → eqb (bitAnd x y) 1 ≡ (eqb x 1 && eqb y 1)
 and-bit zero y p q = refl
@@ -50,9 +65,11 @@ and-bit (suc (suc x)) y p q = absurd (omega arith)
 
 pub has-and : (a b i : ℕ) → has (bitAnd a b) i ≡ (has a i && has b i)
 unfolding has
-has-and a b i = rw (and-shr, and-mod (a / 2 ^ i) (b / 2 ^ i) 1) (and-bit (a / 2 ^ i % 2) (b / 2 ^ i % 2) (omega arith) (omega arith))
+has-and a b i =
+    rw (and-shr, and-mod (a / 2 ^ i) (b / 2 ^ i) 1)
+    (and-bit (a / 2 ^ i % 2) (b / 2 ^ i % 2) (omega arith) (omega arith))
 
--- ---- against the width
+-- Within a width
 
 pub has-above : (n a i : ℕ) → a < 2 ^ n → n ≤ i → has a i ≡ false
 unfolding has
@@ -78,7 +95,8 @@ has-not (suc n) b (suc i) h =
     rw (has-high, e, has-high, leb·suc-suc) (has-not n (b / 2) i (omega arith))
 
 -- what the code's `a & !b` holds
-pub has-minus : (n a b i : ℕ) → a < 2 ^ n → b < 2 ^ n → has (bitAnd a ((2 ^ n - 1) - b)) i ≡ (has a i && not (has b i))
+pub has-minus :
+    (n a b i : ℕ) → a < 2 ^ n → b < 2 ^ n → has (bitAnd a ((2 ^ n - 1) - b)) i ≡ (has a i && not (has b i))
 has-minus n a b i p q = rw (has-and, has-not n b i q) (go (ltb i n) refl)
   where
     go : (t : Bool) → ltb i n ≡ t → (has a i && (ltb i n && not (has b i))) ≡ (has a i && not (has b i))
@@ -124,7 +142,7 @@ pub below-out : (n k j : ℕ) → n ≤ k → has (2 ^ n - 1) j ≡ (ltb j n && 
 below-out n k j h =
     rw has-below (sym (and-first (ltb j n) (ltb j k) (λ e. lt-ltb j k (omega (arith, ltb-true j n e)))))
 
--- ---- words by their members
+-- Words by their members
 
 bits-same : (x y : ℕ) → x < 2 → y < 2 → eqb x 1 ≡ eqb y 1 → x ≡ y
 bits-same zero zero p q e = refl
@@ -174,16 +192,18 @@ subset-test m n a b l p q =
     not-minus true false = refl
     not-minus false t = refl
 
--- ---- the set of a list, one element more
+-- The set of a list
 
+-- one element more
 pub listed-more : (n set one : ℕ) (xs : List ℕ) (i : ℕ) → i < length xs
     → ((j : ℕ) → has set j ≡ (ltb j n && any (eqb j) (take i xs)))
     → ((j : ℕ) → has one j ≡ (ltb j n && eqb j (getD xs i 0)))
     → (j : ℕ) → has (bitOr set one) j ≡ (ltb j n && any (eqb j) (take (i + 1) xs))
 listed-more n set one xs i h old new j = rw (has-or, old j, new j, any-take (eqb j) xs i h, and-or)
 
--- ---- a table of words, with a word added to the rows below k that a mask names
+-- Tables of words
 
+-- a table with a word added to the rows below k that a mask names
 abbrev pub Added : List ℕ → ℕ → ℕ → List ℕ → ℕ → Type 0
 Added words word mask table k =
     (j : ℕ) → getD table j 0 ≡ bitOr (getD words j 0) (cond (ltb j k && has mask j) word 0)
@@ -195,14 +215,22 @@ pub added-here : (words : List ℕ) (word mask : ℕ) (table : List ℕ) (k : �
     → Added words word mask table k → Added words word mask (set table k (bitOr (getD words k 0) word)) (k + 1)
 added-here words word mask table k h m old j = go (eqb j k) refl
   where
-    go : (t : Bool) → eqb j k ≡ t → getD (set table k (bitOr (getD words k 0) word)) j 0 ≡ bitOr (getD words j 0) (cond (ltb j (k + 1) && has mask j) word 0)
-    go true e = rw (eqb-true j k e, getD-set-same table k (bitOr (getD words k 0) word) 0 h, lt-ltb k (k + 1) (omega arith), m)
-    go false e = rw (getD-set-other table k j (bitOr (getD words k 0) word) 0 (eqb-false j k e), ltb-more j k (eqb-false j k e)) (old j)
+    go :
+        (t : Bool)
+        → eqb j k ≡ t
+        → getD (set table k (bitOr (getD words k 0) word)) j 0
+        ≡ bitOr (getD words j 0) (cond (ltb j (k + 1) && has mask j) word 0)
+    go true e =
+        rw (eqb-true j k e, getD-set-same table k (bitOr (getD words k 0) word) 0 h, lt-ltb k (k + 1) (omega arith), m)
+    go false e =
+        let n = eqb-false j k e in
+        rw (getD-set-other table k j (bitOr (getD words k 0) word) 0 n, ltb-more j k n) (old j)
 
 pub added-not : (words : List ℕ) (word mask : ℕ) (table : List ℕ) (k : ℕ) → has mask k ≡ false
     → Added words word mask table k → Added words word mask table (k + 1)
 added-not words word mask table k m old j = go (eqb j k) refl
   where
-    go : (t : Bool) → eqb j k ≡ t → getD table j 0 ≡ bitOr (getD words j 0) (cond (ltb j (k + 1) && has mask j) word 0)
+    go :
+        (t : Bool) → eqb j k ≡ t → getD table j 0 ≡ bitOr (getD words j 0) (cond (ltb j (k + 1) && has mask j) word 0)
     go true e = old j ∙ rw (eqb-true j k e, m, and-false, and-false)
     go false e = rw (ltb-more j k (eqb-false j k e)) (old j)

@@ -14,8 +14,9 @@ use Rattle.book.specs.Blocks.{weighted, checkSum, checkHolds}
 use Rattle.book.specs.Refusals.{between, zeros, lengthHolds, kindHolds, usersCounted, dataCounted, columnsCounted}
 use Rattle.book.specs.Refusals.{functionsCounted, ruleCounts, referenceEnd, ruleZeros, ruleCounted, usersOrdered}
 use Rattle.book.specs.Refusals.{dataOrdered, labelHolds, labelsHold, functionsHold, userNumbersHold}
-use Rattle.book.specs.Refusals.{referenceHolds, numbersHold, leafSetsApart, referencesApart, maskAllows, maskHolds}
-use Rattle.book.specs.Refusals.{masksHold, ruleTests, contentTests, passTests, lengthTests, firstFailing}
+use Rattle.book.specs.Refusals.{referenceHolds, numbersHold, leafSetsApart, referencesApart, maskAllows}
+use Rattle.book.specs.Refusals.{maskHolds, masksHold, ruleTests, contentTests, passTests, lengthTests}
+use Rattle.book.specs.Refusals.{firstFailing}
 use Rattle.book.specs.Answers.{refuse, atBlocks, checkAnswer, withCheck, sealBytes}
 use Rattle.book.specs.Shop.{padded, block, users, categories, columns, functions, rule, rule0, rule1, rule2, shop}
 use Rattle.book.specs.declared.Checked.{Checked}
@@ -30,5 +31,11 @@ unfolding checkSum weighted
 starred-checks = refl
 
 pub shop-accepted : _≡_ {A = Checked} (checkAnswer shop) (Accepted 3)
-unfolding all any upTo from has upwardIn upward under leaf covers properDescendant ownedBy support parentHolds isUser isDataLeaf supportOf supports inLeafSet weighted checkSum checkHolds between zeros lengthHolds kindHolds usersCounted dataCounted columnsCounted functionsCounted ruleCounts referenceEnd ruleZeros ruleCounted usersOrdered dataOrdered labelHolds labelsHold functionsHold userNumbersHold referenceHolds numbersHold leafSetsApart referencesApart maskAllows maskHolds masksHold ruleTests contentTests passTests lengthTests firstFailing refuse atBlocks checkAnswer withCheck sealBytes padded block users categories columns functions rule rule0 rule1 rule2 shop
+unfolding all any upTo from has upwardIn upward under leaf covers properDescendant ownedBy support parentHolds
+    isUser isDataLeaf supportOf supports inLeafSet weighted checkSum checkHolds between zeros lengthHolds kindHolds
+    usersCounted dataCounted columnsCounted functionsCounted ruleCounts referenceEnd ruleZeros ruleCounted
+    usersOrdered dataOrdered labelHolds labelsHold functionsHold userNumbersHold referenceHolds numbersHold
+    leafSetsApart referencesApart maskAllows maskHolds masksHold ruleTests contentTests passTests lengthTests
+    firstFailing refuse atBlocks checkAnswer withCheck sealBytes padded block users categories columns functions
+    rule rule0 rule1 rule2 shop
 shop-accepted = refl

@@ -1,8 +1,8 @@
 -- Inside the slice a byte's bound is the slice's own; past the end `getD` gives its default. Assumes nothing.
-use borrow.Author.Needs.{needs}
 use native.Mathlib.Omega.{arith}
 use mathlib.Core.Path.{refl, sym}
 use lib.ListN.{List·getD-eq-default}
+use borrow.Author.Needs.{needs}
 use Rattle.book.proofs.bytes.byte_at.Statement.{statement}
 use Rattle.book.proofs.bytes.byte_at.Tie as tie
 

@@ -8,7 +8,9 @@ returns : tie.Need-returns
 returns c = let a = c .before .before .args in part-past (a .s .now) (a .start) (a .count) (c .before .if1 .taken)
 
 returns-2 : tie.Need-returns-2
-returns-2 c = let a = c .before .before .before .args in part-rest (a .s .now) (a .start) (a .count) (c .before .if2 .taken)
+returns-2 c =
+    let a = c .before .before .before .args in
+    part-rest (a .s .now) (a .start) (a .count) (c .before .if2 .taken)
 
 returns-3 : tie.Need-returns-3
 returns-3 c = let a = c .before .before .before .args in part-whole (a .s .now) (a .start) (a .count)

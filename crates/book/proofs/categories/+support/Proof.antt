@@ -1,10 +1,10 @@
--- The category number falls at each call; the laws `support-lower` and `support-top` are the two cases. Assumes nothing.
-use lib.Bits.{or-lt}
-use Rattle.book.proofs.Support.{support-lower, support-top}
-use borrow.Author.Needs.{needs}
+-- The category falls at each call; the laws `support-lower` and `support-top` are the two cases. Assumes nothing.
 use Prim.Native.Nat.{ℕ, _<_}
+use lib.Bits.{or-lt}
+use borrow.Author.Needs.{needs}
 use borrow.Fn.Kinds.{In}
 use borrow.Fn.PlainCycle.{Measures, is, falls, and}
+use Rattle.book.proofs.Support.{support-lower, support-top}
 use Rattle.book.proofs.categories.support.Reads as support
 use Rattle.book.proofs.categories.support.Kinds as support-kinds
 use Rattle.book.proofs.categories.+support.Lts-support as support-lts
@@ -33,10 +33,11 @@ support-returns : (t : ℕ) → support-lts.Need-returns (
 support-returns t c =
     let a = c .before .before .before .before .before .args in
     let own = c .before .before .before .own-operations in
-    let p = c .before .before .parent in (
-      support-lower (a .head .now) (a .d) (own .result) (p .result) (own .ensures .0) (p .ensures .0) (c .support .result)
-          (c .before .if1 .taken) (c .support .ensures .0),
-      or-lt 16 (own .result) (c .support .result) (own .ensures .1) (c .support .ensures .1),
+    let p = c .before .before .parent in
+    let above = c .support in (
+      support-lower (a .head .now) (a .d) (own .result) (p .result) (own .ensures .0) (p .ensures .0) (above .result)
+          (c .before .if1 .taken) (above .ensures .0),
+      or-lt 16 (own .result) (above .result) (own .ensures .1) (above .ensures .1),
     )
 
 support-returns-2 : (t : ℕ) → support-lts.Need-returns-2 (

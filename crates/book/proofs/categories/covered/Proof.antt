@@ -1,10 +1,10 @@
 -- Two passes, one from the category and one from the excluded ones: the law `covered-at`. Assumes nothing.
 use Prim.Native.Nat.{_-_, _^_}
 use lib.Bits.{bitAnd}
-use Rattle.book.specs.Head.{parentIn}
-use Rattle.book.proofs.Hierarchies.{covered-at}
-use Rattle.book.proofs.Members.{has-minus}
 use borrow.Author.Needs.{needs}
+use Rattle.book.specs.Head.{parentIn}
+use Rattle.book.proofs.Members.{has-minus}
+use Rattle.book.proofs.Hierarchies.{covered-at}
 use Rattle.book.proofs.categories.covered.Statement.{statement}
 use Rattle.book.proofs.categories.covered.Tie as tie
 

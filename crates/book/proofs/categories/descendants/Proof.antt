@@ -1,9 +1,9 @@
 -- One rising pass: the law `risen-more` is its step. Assumes nothing.
 use Prim.Native.Nat.{_-_}
-use Rattle.book.specs.Head.{parentIn}
-use Rattle.book.proofs.Hierarchies.{Risen, risen-none, risen-more, risen-end}
-use Rattle.book.proofs.Members.{has-above}
 use borrow.Author.Needs.{needs}
+use Rattle.book.specs.Head.{parentIn}
+use Rattle.book.proofs.Members.{has-above}
+use Rattle.book.proofs.Hierarchies.{Risen, risen-none, risen-more, risen-end}
 use Rattle.book.proofs.categories.descendants.Statement.{statement}
 use Rattle.book.proofs.categories.descendants.Tie as tie
 

@@ -1,10 +1,10 @@
 -- One pass collects the parents; the leaves are the other numbers below the count. Assumes nothing.
 use Prim.Native.Nat.{_-_, _^_, _≤_}
 use lib.Bits.{bitAnd}
-use Rattle.book.specs.Head.{parentIn}
-use Rattle.book.proofs.Hierarchies.{Named, named-none, named-more, named-end}
-use Rattle.book.proofs.Members.{has-minus, has-zero}
 use borrow.Author.Needs.{needs}
+use Rattle.book.specs.Head.{parentIn}
+use Rattle.book.proofs.Members.{has-minus, has-zero}
+use Rattle.book.proofs.Hierarchies.{Named, named-none, named-more, named-end}
 use Rattle.book.proofs.categories.leaves.Statement.{statement}
 use Rattle.book.proofs.categories.leaves.Tie as tie
 
@@ -15,19 +15,20 @@ abbrev μ-loop : tie.MeasureT-loop
 μ-loop head which n parents₀ i₀ parents i = n - i
 
 loop-holds : tie.Need-loop-holds Inv-loop μ-loop
-loop-holds c = (
-  c .count .ensures .1,
-  named-none (parentIn (c .before .before .args .which) (c .before .before .args .head .now)) (c .count .result) has-zero,
-)
+loop-holds c =
+    let a = c .before .before .args in
+    (c .count .ensures .1, named-none (parentIn (a .which) (a .head .now)) (c .count .result) has-zero)
 
 loop-again : tie.Need-loop-again Inv-loop μ-loop
 loop-again c =
     let a = c .before .before .before .before .before .before .args in
-    let l = c .before .before .before .loop in (
+    let n = c .before .before .before .before .count in
+    let l = c .before .before .before .loop in
+    let p = c .before .parent in
+    let next = c .with-parent in (
       l .inv .0,
-      named-more (parentIn (a .which) (a .head .now)) (c .before .before .before .before .count .result) (l .i)
-          (c .before .parent .result) (l .parents) (c .with-parent .result) (l .inv .1) (c .before .before .loop-test .taken)
-          (c .with-parent .ok) (c .before .parent .ensures .0) (c .with-parent .ensures),
+      named-more (parentIn (a .which) (a .head .now)) (n .result) (l .i) (p .result) (l .parents) (next .result)
+          (l .inv .1) (c .before .before .loop-test .taken) (next .ok) (p .ensures .0) (next .ensures),
     )
 
 returns : tie.Need-returns Inv-loop μ-loop

@@ -3,10 +3,10 @@ use Prim.Native.Nat.{ℕ, _-_}
 use mathlib.Core.Path.{_≡_}
 use mathlib.Core.Bool.{_&&_}
 use lib.Dec.{ltb}
+use borrow.Author.Needs.{needs}
 use Rattle.book.specs.Sets.{has}
 use Rattle.book.specs.Head.{isDataLeaf}
 use Rattle.book.proofs.Support.{Supported, supported-none, supported-more, supported-end}
-use borrow.Author.Needs.{needs}
 use Rattle.book.proofs.categories.supporters.Statement.{statement}
 use Rattle.book.proofs.categories.supporters.Tie as tie
 
@@ -24,17 +24,21 @@ loop-again : tie.Need-loop-again Inv-loop μ-loop
 loop-again c =
     let a = c .before .before .before .before .before .before .before .args in
     let l = c .before .before .before .before .loop in
-    let one = c .before .before .single in (
+    let all = c .before .before .before .before .before .leaves in
+    let one = c .before .before .single in
+    let mask = c .before .support in
+    let next = c .with-leaf in (
       l .inv .0,
-      supported-more (a .head .now) (l .d) (c .before .before .before .before .before .leaves .result) (one .result)
-          (c .before .support .result) (l .words) (c .with-leaf .result) (l .inv .1) (c .before .before .before .loop-test .taken)
-          (l .inv .0) (one .ensures) (c .before .support .ensures .0) (c .with-leaf .ensures),
+      supported-more (a .head .now) (l .d) (all .result) (one .result) (mask .result) (l .words) (next .result)
+          (l .inv .1) (c .before .before .before .loop-test .taken) (l .inv .0) (one .ensures) (mask .ensures .0)
+          (next .ensures),
     )
 
 returns : tie.Need-returns Inv-loop μ-loop
 returns c =
+    let head = c .before .before .before .before .args .head .now in
     let l = c .before .loop in
-    supported-end (c .before .before .before .before .args .head .now) (l .d) (l .words) (l .inv .1) (c .loop-test .left)
+    supported-end head (l .d) (l .words) (l .inv .1) (c .loop-test .left)
 
 pub supporters-spec : {M : Type 1} → statement M
 supporters-spec =

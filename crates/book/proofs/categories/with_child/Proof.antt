@@ -1,8 +1,8 @@
--- `with_child` meets its contract: in each branch the test that was made decides the added part. Assumes nothing.
+-- In each branch the test that was made decides the added part. Assumes nothing.
 use mathlib.Core.Path.{_≡_}
 use mathlib.Core.Bool.{true, false}
-use borrow.Author.Needs.{needs}
 use borrow.Author.Tests.{lt-ltb, le-ltb}
+use borrow.Author.Needs.{needs}
 use Rattle.book.specs.Sets.{has}
 use Rattle.book.proofs.Lists.{and-end, and-false, or-end}
 use Rattle.book.proofs.Members.{has-or}

@@ -1,11 +1,11 @@
--- `with_leaf` meets its contract. The loop's invariant: the leaf is added to the words of the mask below k. Assumes nothing.
+-- The leaf is added to the words of the mask below k: the invariant `Added`. Assumes nothing.
 use Prim.Native.Nat.{_≤_, _-_}
-use mathlib.Core.Path.{_≡_}
-use borrow.Author.Needs.{needs}
-use borrow.Author.Tests.{lt-ltb}
 use native.Mathlib.Omega.{arith}
+use mathlib.Core.Path.{_≡_}
 use mathlib.Core.Logic.{⊎-elim}
 use lib.ListN.{length, length-set}
+use borrow.Author.Tests.{lt-ltb}
+use borrow.Author.Needs.{needs}
 use Rattle.book.proofs.Members.{Added, added-none, added-here, added-not}
 use Rattle.book.proofs.categories.with_leaf.Statement.{statement}
 use Rattle.book.proofs.categories.with_leaf.Tie as tie

@@ -1,11 +1,11 @@
 -- The three passes joined are the whole answer; a length that holds gives a number of blocks that fits a byte.
 -- Assumes nothing.
-use borrow.Author.Needs.{needs}
-use mathlib.Core.Path.{sym, _∙_}
 use native.Mathlib.Omega.{arith}
+use mathlib.Core.Path.{sym, _∙_}
 use lib.ListN.{length}
 use borrow.Author.Tests.{not-true, not-false}
-use Rattle.book.proofs.Passed.{length-true}
+use borrow.Author.Needs.{needs}
+use Rattle.book.proofs.Tests.{length-true}
 use Rattle.book.proofs.Answers.{check-short, check-long}
 use Rattle.book.proofs.checking.check.Statement.{statement}
 use Rattle.book.proofs.checking.check.Tie as tie

@@ -1,7 +1,7 @@
 -- A law of each pass says what the block's tests are; the counts of the head hold where blocks 0 and 1 have passed.
 -- Assumes nothing.
 use borrow.Author.Needs.{needs}
-use Rattle.book.proofs.Passed.{checks-fault, kinds-fault, contents-fault}
+use Rattle.book.proofs.Tests.{checks-fault, kinds-fault, contents-fault}
 use Rattle.book.proofs.checking.fault_at.Statement.{statement}
 use Rattle.book.proofs.checking.fault_at.Tie as tie
 

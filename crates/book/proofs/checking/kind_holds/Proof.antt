@@ -1,6 +1,6 @@
 -- By cases on the block's number. Assumes nothing.
 use borrow.Author.Needs.{needs}
-use Rattle.book.proofs.Passed.{kind-head, kind-rule}
+use Rattle.book.proofs.Tests.{kind-head, kind-rule}
 use Rattle.book.proofs.checking.kind_holds.Statement.{statement}
 use Rattle.book.proofs.checking.kind_holds.Tie as tie
 

@@ -1,11 +1,11 @@
 -- The blocks passed so far have no failing test. Assumes nothing.
-use borrow.Author.Needs.{needs}
 use Prim.Native.Nat.{ℕ, _≤_, _<_, _-_}
-use mathlib.Core.Path.{_≡_, sym, ap, _∙_}
 use native.Mathlib.Omega.{arith}
+use mathlib.Core.Path.{_≡_, sym, ap, _∙_}
 use borrow.Author.Count.{below-none, below-more}
-use Rattle.book.specs.declared.Checked.the-variants.{Accepted}
+use borrow.Author.Needs.{needs}
 use Rattle.book.specs.Refusals.{firstFailing, passTests}
+use Rattle.book.specs.declared.Checked.the-variants.{Accepted}
 use Rattle.book.proofs.Answers.{at-passed, at-refused}
 use Rattle.book.proofs.checking.pass_over.Statement.{statement}
 use Rattle.book.proofs.checking.pass_over.Tie as tie

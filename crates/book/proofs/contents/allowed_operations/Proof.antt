@@ -1,11 +1,11 @@
--- Operation 0 is never supported, so it goes from the mask: the law `allowed-present`. Assumes nothing.
+-- A mask never names operation 0, so bit 0 goes from the support: the law `allowed-present`. Assumes nothing.
 use Prim.Native.Nat.{_-_, _^_, _<_}
 use native.Mathlib.Nat.{lt-of-le-of-lt}
 use native.Mathlib.Omega.{arith}
 use lib.Bits.{and-le-l}
+use borrow.Author.Needs.{needs}
 use Rattle.book.specs.Rule.{referenceCount}
 use Rattle.book.proofs.References.{allowed-present, allowed-absent}
-use borrow.Author.Needs.{needs}
 use Rattle.book.proofs.contents.allowed_operations.Statement.{statement}
 use Rattle.book.proofs.contents.allowed_operations.Tie as tie
 

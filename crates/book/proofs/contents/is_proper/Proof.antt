@@ -1,4 +1,4 @@
--- `is_proper` meets its contract by what `contains` promises. Assumes nothing.
+-- What `contains` promises. Assumes nothing.
 use borrow.Author.Needs.{needs}
 use Rattle.book.proofs.contents.is_proper.Statement.{statement}
 use Rattle.book.proofs.contents.is_proper.Tie as tie

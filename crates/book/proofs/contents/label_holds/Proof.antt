@@ -1,4 +1,4 @@
--- `label_holds` meets its contract by what `contains` promises. Assumes nothing.
+-- What `contains` promises. Assumes nothing.
 use borrow.Author.Needs.{needs}
 use Rattle.book.proofs.contents.label_holds.Statement.{statement}
 use Rattle.book.proofs.contents.label_holds.Tie as tie

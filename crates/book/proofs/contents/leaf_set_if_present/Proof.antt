@@ -1,7 +1,7 @@
 -- Where the reference is present the word is its leaf set, otherwise 0. Assumes nothing.
 use borrow.Author.Tests.{lt-ltb, le-ltb}
-use Rattle.book.proofs.Members.{has-zero}
 use borrow.Author.Needs.{needs}
+use Rattle.book.proofs.Members.{has-zero}
 use Rattle.book.proofs.contents.leaf_set_if_present.Statement.{statement}
 use Rattle.book.proofs.contents.leaf_set_if_present.Tie as tie
 

@@ -1,7 +1,7 @@
 -- A mask lies within a set when nothing is left of it outside: the law `subset-test`. Assumes nothing.
 use native.Mathlib.Omega.{arith}
-use Rattle.book.proofs.Members.{subset-test}
 use borrow.Author.Needs.{needs}
+use Rattle.book.proofs.Members.{subset-test}
 use Rattle.book.proofs.contents.mask_holds.Statement.{statement}
 use Rattle.book.proofs.contents.mask_holds.Tie as tie
 

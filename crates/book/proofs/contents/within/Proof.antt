@@ -1,11 +1,9 @@
+-- Both comparisons are those of `between`. Assumes nothing.
 use borrow.Author.Needs.{needs}
 use Rattle.book.specs.Refusals.{between}
 use Rattle.book.proofs.contents.within.Statement.{statement}
 use Rattle.book.proofs.contents.within.Tie as tie
-use Rattle.book.proofs.contents.within.Reads as reads
-use Rattle.book.proofs.contents.within.Lts as lts
 
--- src/contents.rt:50:1
 returns : tie.Need-returns
 unfolding between
 returns c = search needs

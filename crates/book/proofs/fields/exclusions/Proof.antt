@@ -1,3 +1,4 @@
+-- The part that `part` gives, of the length that the count's byte holds. Assumes nothing.
 use borrow.Author.Needs.{needs}
 use Rattle.book.proofs.fields.exclusions.Statement.{statement}
 use Rattle.book.proofs.fields.exclusions.Tie as tie

@@ -1,3 +1,4 @@
+-- The byte at the place that the hierarchy has in the head. Assumes nothing.
 use borrow.Author.Needs.{needs}
 use Rattle.book.proofs.fields.parent.Statement.{statement}
 use Rattle.book.proofs.fields.parent.Tie as tie

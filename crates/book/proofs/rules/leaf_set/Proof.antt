@@ -1,9 +1,9 @@
 -- The leaves among what is covered: the law `both-at`. Assumes nothing.
+use borrow.Author.Needs.{needs}
 use Rattle.book.specs.Hierarchies.{leaf, covers}
 use Rattle.book.specs.Head.{dataCount, dataParent, isDataLeaf}
 use Rattle.book.specs.Rule.{dataCategory, exclusions, inLeafSet}
 use Rattle.book.proofs.References.{both-at}
-use borrow.Author.Needs.{needs}
 use Rattle.book.proofs.rules.leaf_set.Statement.{statement}
 use Rattle.book.proofs.rules.leaf_set.Tie as tie
 

@@ -1,13 +1,13 @@
 -- The sum so far is the weighted sum of the bytes passed, and each of at most 510 bytes adds at most 130,050.
 -- Assumes nothing.
-use borrow.Author.Needs.{needs}
 use Prim.Native.Nat.{_≤_, _-_, _*_}
-use mathlib.Core.Path.{_≡_}
 use native.Mathlib.Omega.{arith}
+use mathlib.Core.Path.{_≡_}
 use lib.ListN.{length, getD, take}
+use borrow.Author.Needs.{needs}
 use Rattle.book.specs.Blocks.{weighted}
-use Rattle.book.proofs.Blocks.{weighted-none, weighted-next, weighted-step, weighted-whole}
 use Rattle.book.proofs.Lists.{part-short}
+use Rattle.book.proofs.Blocks.{weighted-none, weighted-next, weighted-step, weighted-whole}
 use Rattle.book.proofs.sealing.check_sum.Statement.{statement}
 use Rattle.book.proofs.sealing.check_sum.Tie as tie
 

@@ -1,7 +1,7 @@
 -- Two writes at the end of a block of 512 bytes leave its first 510 and the check. Assumes nothing.
-use borrow.Author.Needs.{needs}
 use mathlib.Core.Path.{_≡_, sym}
 use lib.ListN.{length}
+use borrow.Author.Needs.{needs}
 use Rattle.book.proofs.Seals.{unsealed, unsealed-answer, sealed-answer, sealed-writes}
 use Rattle.book.proofs.sealing.seal.Statement.{statement}
 use Rattle.book.proofs.sealing.seal.Tie as tie

@@ -1,6 +1,6 @@
--- `contains` meets its contract: a word of 64 bits has no member from 64 on, and below that the code is the definition. Assumes nothing.
-use borrow.Author.Needs.{needs}
+-- A word of 64 bits has no member from 64 on; below that the code is the definition. Assumes nothing.
 use mathlib.Core.Path.{sym}
+use borrow.Author.Needs.{needs}
 use Rattle.book.specs.Sets.{has}
 use Rattle.book.proofs.Members.{has-above}
 use Rattle.book.proofs.sets.contains.Statement.{statement}
@@ -9,9 +9,6 @@ use Rattle.book.proofs.sets.contains.Tie as tie
 returns : tie.Need-returns
 returns c = sym (has-above 64 (c .before .args .set) (c .before .args .i) (search needs) (search needs))
 
-returns-2 : tie.Need-returns-2
-unfolding has
-returns-2 c = search needs
-
 pub contains-spec : {M : Type 1} → statement M
-contains-spec = tie.close (tie.spec returns (λ c. search needs) returns-2)
+unfolding has
+contains-spec = tie.close (tie.spec returns (λ c. search needs) (λ c. search needs))

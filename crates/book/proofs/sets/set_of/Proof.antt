@@ -1,12 +1,12 @@
--- `set_of` meets its contract. The loop's invariant: the set has the elements passed. Assumes nothing.
-use borrow.Author.Needs.{needs}
+-- The set has the elements passed; the law `listed-more` is the step. Assumes nothing.
 use Prim.Native.Nat.{ℕ, _≤_, _-_}
+use native.Mathlib.Omega.{arith}
 use mathlib.Core.Path.{_≡_}
 use mathlib.Core.Bool.{_&&_}
-use native.Mathlib.Omega.{arith}
-use lib.Dec.{eqb, ltb}
-use lib.Seq.{take-all}
 use lib.ListN.{length, take}
+use lib.Seq.{take-all}
+use lib.Dec.{eqb, ltb}
+use borrow.Author.Needs.{needs}
 use Rattle.book.specs.Lists.{any}
 use Rattle.book.specs.Sets.{has}
 use Rattle.book.proofs.Lists.{and-false}
@@ -28,14 +28,17 @@ cast-single : tie.Need-cast-single Inv-loop μ-loop
 cast-single c = omega (arith, c .shared-slice-known2 .given (c .before .before .loop .i))
 
 loop-again : tie.Need-loop-again Inv-loop μ-loop
-loop-again c = (
-  search needs,
-  listed-more 64 (c .before .before .before .loop .set) (c .single .result) (c .before .before .before .before .before .args .list .now)
-      (c .before .before .before .loop .i) (search needs) (c .before .before .before .loop .inv .1) (c .single .ensures),
-)
+loop-again c =
+    let l = c .before .before .before .loop in
+    let list = c .before .before .before .before .before .args .list .now in (
+      search needs,
+      listed-more 64 (l .set) (c .single .result) list (l .i) (search needs) (l .inv .1) (c .single .ensures),
+    )
 
 returns : tie.Need-returns Inv-loop μ-loop
-returns c j = rw (take-all (c .before .loop .i) (c .before .before .before .args .list .now) (search needs)) at (c .before .loop .inv .1 j)
+returns c j =
+    let l = c .before .loop in
+    rw (take-all (l .i) (c .before .before .before .args .list .now) (search needs)) at (l .inv .1 j)
 
 pub set-of-spec : {M : Type 1} → statement M
 set-of-spec =

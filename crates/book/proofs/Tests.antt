@@ -1,0 +1,260 @@
+-- The tests of the book check: the first that fails, what a test says where it is passed, the tests of each block, and
+-- those of a pass. Assumes nothing.
+use Prim.Native.Nat.{ℕ, zero, suc, _+_, _*_, _/_, _%_, _≤_, _<_}
+use native.Mathlib.Omega.{arith}
+use mathlib.Core.Path.{_≡_, refl, sym, ap, _∙_}
+use mathlib.Core.Bool.{Bool, true, false, _&&_, _||_, not}
+use mathlib.Core.List.{List, [], _∷_}
+use lib.ListN.{getD}
+use lib.Dec.{eqb, ltb, leb}
+use borrow.Author.Tests.{leb-true, eqb-true, not-true, not-false}
+use Rattle.book.specs.Lists.{all, upTo}
+use Rattle.book.specs.Sets.{has}
+use Rattle.book.specs.Hierarchies.{leaf}
+use Rattle.book.specs.Head.{userCount, dataCount, dataParent, columnCount, functionCount, isDataLeaf}
+use Rattle.book.specs.Rule.{referenceCount, excludedUserCount, restrictionCount, exclusionCount}
+use Rattle.book.specs.Blocks.{blockAt, headOf, checkHolds}
+use Rattle.book.specs.Refusals.{between, zeros, lengthHolds, kindHolds, CountsHold, usersCounted, dataCounted}
+use Rattle.book.specs.Refusals.{columnsCounted, functionsCounted, ruleCounts, ruleCounted, ruleZeros, usersOrdered}
+use Rattle.book.specs.Refusals.{dataOrdered, labelHolds, labelsHold, functionsHold, numbersHold, referencesApart}
+use Rattle.book.specs.Refusals.{masksHold, ruleTests, contentTests, passTests, firstFailing}
+use Rattle.book.specs.declared.checking.Pass.{Pass}
+use Rattle.book.specs.declared.checking.Pass.the-variants.{Checks, Kinds, Contents}
+use Rattle.book.proofs.Lists.{and-left, and-right, and-both, all-at}
+use Rattle.book.proofs.Hierarchies.{leaf-in-word}
+
+-- The first failing test
+
+module _ (k : ℕ) (a : Bool) (tests : List (ℕ × Bool)) where
+  pub fails : not a ≡ true → k ≡ firstFailing ((k, a) ∷ tests)
+  unfolding firstFailing
+  fails e = rw (not-true a e)
+
+  pub passes : (n : ℕ) → not a ≡ false → n ≡ firstFailing tests → n ≡ firstFailing ((k, a) ∷ tests)
+  unfolding firstFailing
+  passes n e rest = rw (not-false a e) rest
+
+pub none-fails : _≡_ {A = ℕ} 0 (firstFailing [])
+unfolding firstFailing
+none-fails = refl
+
+pub first-passed :
+    (number : ℕ) (b : Bool) (rest : List (ℕ × Bool))
+    → firstFailing ((suc number, b) ∷ rest) ≡ 0
+    → (b ≡ true) × (firstFailing rest ≡ 0)
+unfolding firstFailing
+first-passed number true rest h = (refl, h)
+first-passed number false rest h = absurd (omega arith)
+
+two-passed :
+    (m n : ℕ) (a b : Bool) → firstFailing ((suc m, a) ∷ (suc n, b) ∷ []) ≡ 0 → (a ≡ true) × (b ≡ true)
+two-passed m n a b h =
+    let first = first-passed m a ((suc n, b) ∷ []) h in
+    (first .0, first-passed n b [] (first .1) .0)
+
+-- Single tests
+
+pub between-true : (low high n : ℕ) → between low high n ≡ true → (low ≤ n) × (n ≤ high)
+unfolding between
+between-true low high n h =
+    (leb-true low n (and-left (leb low n) (leb n high) h), leb-true n high (and-right (leb low n) (leb n high) h))
+
+-- "length not 512 times 4 to 36"
+pub length-true : (n : ℕ) → lengthHolds n ≡ true → (n % 512 ≡ 0) × (4 ≤ n / 512) × (n / 512 ≤ 36)
+unfolding lengthHolds
+length-true n h =
+    let whole = eqb-true (n % 512) 0 (and-left (eqb (n % 512) 0) (between 4 36 (n / 512)) h) in
+    let blocks = between-true 4 36 (n / 512) (and-right (eqb (n % 512) 0) (between 4 36 (n / 512)) h) in
+    (whole, blocks .0, blocks .1)
+
+-- the kind of a head block, and of a rule
+pub kind-head : (i kind : ℕ) → i < 4 → eqb kind (i + 1) ≡ kindHolds i kind
+unfolding kindHolds
+kind-head zero kind h = refl
+kind-head (suc zero) kind h = refl
+kind-head (suc (suc zero)) kind h = refl
+kind-head (suc (suc (suc zero))) kind h = refl
+kind-head (suc (suc (suc (suc i)))) kind h = absurd (omega arith)
+
+pub kind-rule : (i kind : ℕ) → 4 ≤ i → eqb kind 5 ≡ kindHolds i kind
+unfolding kindHolds
+kind-rule zero kind h = absurd (omega arith)
+kind-rule (suc zero) kind h = absurd (omega arith)
+kind-rule (suc (suc zero)) kind h = absurd (omega arith)
+kind-rule (suc (suc (suc zero))) kind h = absurd (omega arith)
+kind-rule (suc (suc (suc (suc i)))) kind h = refl
+
+pub label-same :
+    (head : List ℕ) (leaves d : ℕ) → dataCount head ≤ 64
+    → ((c : ℕ) → has leaves c ≡ (ltb c 64 && leaf (dataCount head) (dataParent head) c))
+    → (eqb d 255 || has leaves d) ≡ labelHolds head d
+unfolding labelHolds isDataLeaf
+label-same head leaves d h e = rw (e d, leaf-in-word (dataCount head) (dataParent head) d h)
+
+-- Counts
+
+module _ (head : List ℕ) where
+  pub users-bound : usersCounted head ≡ true → (1 ≤ userCount head) × (userCount head ≤ 32)
+  unfolding usersCounted
+  users-bound h =
+      between-true 1 32 (userCount head)
+      (and-left (between 1 32 (userCount head)) (zeros head (2 + userCount head) 510) h)
+
+  pub data-bound : dataCounted head ≡ true → (1 ≤ dataCount head) × (dataCount head ≤ 64)
+  unfolding dataCounted
+  data-bound h =
+      between-true 1 64 (dataCount head)
+      (and-left (between 1 64 (dataCount head)) (zeros head (514 + 3 * dataCount head) 1022) h)
+
+  pub columns-bound : columnsCounted head ≡ true → columnCount head ≤ 128
+  unfolding columnsCounted
+  columns-bound h =
+      between-true 0 128 (columnCount head)
+      (and-left (between 0 128 (columnCount head)) (zeros head (1026 + columnCount head) 1534) h) .1
+
+  pub functions-bound : functionsCounted head ≡ true → functionCount head ≤ 64
+  unfolding functionsCounted
+  functions-bound h =
+      between-true 0 64 (functionCount head)
+      (and-left (between 0 64 (functionCount head)) (zeros head (1538 + functionCount head) 2046) h) .1
+
+module _ (rule : List ℕ) where
+  bounds : Bool
+  bounds = all (λ i. between 0 8 (exclusionCount rule i)) (upTo (referenceCount rule))
+
+  exclusions-bound : bounds ≡ true → (i : ℕ) → i < referenceCount rule → exclusionCount rule i ≤ 8
+  unfolding bounds
+  exclusions-bound h i l =
+      between-true 0 8 (exclusionCount rule i)
+      (all-at (λ j. between 0 8 (exclusionCount rule j)) (referenceCount rule) h i l) .1
+
+  pub rule-bounds :
+      ruleCounts rule ≡ true
+      → (1 ≤ referenceCount rule)
+      × (referenceCount rule ≤ 3)
+      × (excludedUserCount rule ≤ 4)
+      × (restrictionCount rule ≤ 8)
+      × ((i : ℕ) → i < referenceCount rule → exclusionCount rule i ≤ 8)
+  unfolding ruleCounts bounds
+  rule-bounds h =
+      let a = and-both (between 1 3 (referenceCount rule))
+      (between 0 4 (excludedUserCount rule) && (between 0 8 (restrictionCount rule) && bounds)) h in
+      let b = and-both (between 0 4 (excludedUserCount rule)) (between 0 8 (restrictionCount rule) && bounds) (a .1) in
+      let d = and-both (between 0 8 (restrictionCount rule)) bounds (b .1) in
+      let references = between-true 1 3 (referenceCount rule) (a .0) in (
+        references .0,
+        references .1,
+        between-true 0 4 (excludedUserCount rule) (b .0) .1,
+        between-true 0 8 (restrictionCount rule) (d .0) .1,
+        exclusions-bound (d .1),
+      )
+
+  -- a rule whose counts hold has at most three references
+  pub few-references : not (ruleCounted rule) ≡ false → referenceCount rule ≤ 3
+  unfolding ruleCounted
+  few-references h =
+      rule-bounds (and-left (ruleCounts rule) (ruleZeros rule) (not-false (ruleCounted rule) h)) .1
+
+-- The tests of a block
+
+-- a head block's tests read the head alone
+pub head-tests : (head block : List ℕ) (i : ℕ) → i < 4 → contentTests head block i ≡ contentTests head [] i
+unfolding contentTests
+head-tests head block zero l = refl
+head-tests head block (suc zero) l = refl
+head-tests head block (suc (suc zero)) l = refl
+head-tests head block (suc (suc (suc zero))) l = refl
+head-tests head block (suc (suc (suc (suc r)))) l = absurd (omega arith)
+
+pub rule-tests : (head block : List ℕ) (i : ℕ) → 4 ≤ i → contentTests head block i ≡ ruleTests head block
+unfolding contentTests
+rule-tests head block zero l = absurd (omega arith)
+rule-tests head block (suc zero) l = absurd (omega arith)
+rule-tests head block (suc (suc zero)) l = absurd (omega arith)
+rule-tests head block (suc (suc (suc zero))) l = absurd (omega arith)
+rule-tests head block (suc (suc (suc (suc r)))) l = refl
+
+module _ (head block : List ℕ) where
+  pub users-passed :
+      firstFailing (contentTests head block 0) ≡ 0 → (usersCounted head ≡ true) × (usersOrdered head ≡ true)
+  unfolding contentTests
+  users-passed h = two-passed 3 4 (usersCounted head) (usersOrdered head) h
+
+  pub data-passed :
+      firstFailing (contentTests head block 1) ≡ 0 → (dataCounted head ≡ true) × (dataOrdered head ≡ true)
+  unfolding contentTests
+  data-passed h = two-passed 3 4 (dataCounted head) (dataOrdered head) h
+
+  pub columns-passed :
+      firstFailing (contentTests head block 2) ≡ 0 → (columnsCounted head ≡ true) × (labelsHold head ≡ true)
+  unfolding contentTests
+  columns-passed h = two-passed 3 5 (columnsCounted head) (labelsHold head) h
+
+  pub functions-passed :
+      firstFailing (contentTests head block 3) ≡ 0 → (functionsCounted head ≡ true) × (functionsHold head ≡ true)
+  unfolding contentTests
+  functions-passed h = two-passed 3 5 (functionsCounted head) (functionsHold head) h
+
+  pub rule-passed :
+      (r : ℕ)
+      → firstFailing (contentTests head block (4 + r)) ≡ 0
+      → (ruleCounted block ≡ true)
+      × (numbersHold head block ≡ true)
+      × (referencesApart head block ≡ true)
+      × (masksHold head block ≡ true)
+  unfolding contentTests ruleTests
+  rule-passed r h =
+      let e : 4 + r ≡ suc (suc (suc (suc r))) = omega arith in
+      let tests : firstFailing (contentTests head block (suc (suc (suc (suc r))))) ≡ 0 = rw e at h in
+      let counted =
+      first-passed 3 (ruleCounted block)
+      ((7, numbersHold head block) ∷ (8, referencesApart head block) ∷ (9, masksHold head block) ∷ []) tests in
+      let numbers =
+      first-passed 6 (numbersHold head block)
+      ((8, referencesApart head block) ∷ (9, masksHold head block) ∷ []) (counted .1) in
+      let rest = two-passed 7 8 (referencesApart head block) (masksHold head block) (numbers .1) in
+      (counted .0, numbers .0, rest .0, rest .1)
+
+-- The tests of a pass
+
+module _ (book : List ℕ) (pass : Pass) (i : ℕ) (block : List ℕ) (there : block ≡ blockAt book i) where
+  pub checks-fault :
+      (passed : Bool) (r : ℕ)
+      → pass ≡ Checks
+      → passed ≡ checkHolds block
+      → r ≡ firstFailing ((2, passed) ∷ [])
+      → r ≡ firstFailing (passTests pass book i)
+  unfolding passTests
+  checks-fault passed r p e a = rw (p, ← there, ← e) a
+
+  pub kinds-fault :
+      (kind : ℕ) (passed : Bool) (r : ℕ)
+      → pass ≡ Kinds
+      → kind ≡ getD block 0 0
+      → passed ≡ kindHolds i kind
+      → r ≡ firstFailing ((3, passed) ∷ [])
+      → r ≡ firstFailing (passTests pass book i)
+  unfolding passTests
+  kinds-fault kind passed r p k e a = rw (p, ← there, ← k, ← e) a
+
+  -- blocks 0 and 1 have passed where a later block is read
+  counts-hold :
+      ((j : ℕ) → j < i → firstFailing (passTests Contents book j) ≡ 0) → 2 ≤ i → CountsHold (headOf book)
+  unfolding passTests
+  counts-hold h l =
+      let u = users-bound (headOf book) (users-passed (headOf book) (blockAt book 0) (h 0 (omega arith)) .0) in
+      let d = data-bound (headOf book) (data-passed (headOf book) (blockAt book 1) (h 1 (omega arith)) .0) in
+      record { users = omega (arith, u .1); categories = d .1 }
+
+  pub contents-fault :
+      (head : List ℕ) (r : ℕ)
+      → pass ≡ Contents
+      → head ≡ headOf book
+      → ((2 ≤ i → CountsHold head) → r ≡ firstFailing (contentTests head block i))
+      → ((j : ℕ) → j < i → firstFailing (passTests pass book j) ≡ 0)
+      → r ≡ firstFailing (passTests pass book i)
+  unfolding passTests
+  contents-fault head r p e a h =
+      let below : (j : ℕ) → j < i → firstFailing (passTests Contents book j) ≡ 0 =
+      λ j l. ap (λ (q : Pass). firstFailing (passTests q book j)) (sym p) ∙ h j l in
+      rw (p, ← there, ← e) (a (λ l. rw e (counts-hold below l)))
