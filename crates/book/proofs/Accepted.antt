@@ -20,7 +20,7 @@ use Rattle.book.specs.Refusals.{usersOrdered}
 use Rattle.book.specs.Refusals.{dataOrdered, labelHolds, labelsHold, functionsHold, ruleCounts, ruleZeros}
 use Rattle.book.specs.Refusals.{ruleCounted, userNumbersHold, referenceHolds, numbersHold, leafSetsApart}
 use Rattle.book.specs.Refusals.{referencesApart, maskAllows, maskHolds, masksHold}
-use Rattle.book.specs.Answers.{atBlocks, blockCount, ruleCount, checkAnswer}
+use Rattle.book.specs.Answers.{atPlaces, blockCount, ruleCount, checkAnswer}
 use Rattle.book.specs.declared.Checked.{Checked}
 use Rattle.book.specs.declared.Checked.the-variants.{Accepted}
 use Rattle.book.specs.declared.checking.Pass.the-variants.{Checks, Kinds, Contents}
@@ -190,9 +190,9 @@ module _ (book : List ℕ) (n : ℕ) (accepted : checkAnswer book ≡ Accepted n
   all-passed =
       let blocks = blockCount book in
       let last : Checked = Accepted (ruleCount book) in
-      let contents : Checked = atBlocks (passTests Contents book) (upTo blocks) last in
-      let kinds : Checked = atBlocks (passTests Kinds book) (upTo blocks) contents in
-      let checks : Checked = atBlocks (passTests Checks book) (upTo blocks) kinds in
+      let contents : Checked = atPlaces (passTests Contents book) (upTo blocks) last in
+      let kinds : Checked = atPlaces (passTests Kinds book) (upTo blocks) contents in
+      let checks : Checked = atPlaces (passTests Checks book) (upTo blocks) kinds in
       let long = refuse-accepted (firstFailing ((1, lengthHolds (length book)) ∷ [])) 0 checks n accepted in
       let checked = at-accepted (passTests Checks book) blocks kinds n (long .1) in
       let known = at-accepted (passTests Kinds book) blocks contents n (checked .1) in

@@ -12,7 +12,7 @@ use lib.Dec.{eqb}
 use borrow.Author.Tests.{eqb-true, ne-eqb}
 use Rattle.book.specs.Lists.{from, upTo}
 use Rattle.book.specs.Refusals.{firstFailing, lengthHolds, lengthTests, passTests}
-use Rattle.book.specs.Answers.{refuse, orElse, atBlocks, checkAnswer, blockCount, ruleCount}
+use Rattle.book.specs.Answers.{refuse, orElse, atPlaces, checkAnswer, blockCount, ruleCount}
 use Rattle.book.specs.declared.checking.Pass.the-variants.{Checks, Kinds, Contents}
 use Rattle.book.specs.declared.Checked.{Checked}
 use Rattle.book.specs.declared.Checked.the-variants.{Accepted, Refused}
@@ -55,11 +55,11 @@ module _ (tests : ℕ → List (ℕ × Bool)) where
   pub at-passed-from :
       (i n : ℕ) (next : Checked)
       → ((j : ℕ) → i ≤ j → j < i + n → firstFailing (tests j) ≡ 0)
-      → atBlocks tests (from i n) next ≡ next
-  unfolding atBlocks from
+      → atPlaces tests (from i n) next ≡ next
+  unfolding atPlaces from
   at-passed-from i zero next h = refl
   at-passed-from i (suc n) next h =
-      refuse-none (firstFailing (tests i)) i (atBlocks tests (from (suc i) n) next) (h i (omega arith) (omega arith))
+      refuse-none (firstFailing (tests i)) i (atPlaces tests (from (suc i) n) next) (h i (omega arith) (omega arith))
       ∙ at-passed-from (suc i) n next (λ j lo hi. h j (omega arith) (omega arith))
 
   pub at-failed-from :
@@ -68,25 +68,25 @@ module _ (tests : ℕ → List (ℕ × Bool)) where
       → k < i + n
       → ((j : ℕ) → i ≤ j → j < k → firstFailing (tests j) ≡ 0)
       → (firstFailing (tests k) ≡ 0 → ⊥)
-      → atBlocks tests (from i n) next ≡ Refused (record { number = firstFailing (tests k); place = k })
-  unfolding atBlocks from
+      → atPlaces tests (from i n) next ≡ Refused (record { number = firstFailing (tests k); place = k })
+  unfolding atPlaces from
   at-failed-from i zero next k lo hi h f = absurd (omega arith)
   at-failed-from i (suc n) next k lo hi h f =
       ⊎-elim
-      (λ (e : i ≡ k). rw e (refuse-some (firstFailing (tests k)) k (atBlocks tests (from (suc k) n) next) f))
+      (λ (e : i ≡ k). rw e (refuse-some (firstFailing (tests k)) k (atPlaces tests (from (suc k) n) next) f))
       (λ (l : i < k).
-      refuse-none (firstFailing (tests i)) i (atBlocks tests (from (suc i) n) next) (h i (omega arith) l)
+      refuse-none (firstFailing (tests i)) i (atPlaces tests (from (suc i) n) next) (h i (omega arith) l)
       ∙ at-failed-from (suc i) n next k l (omega arith) (λ j low high. h j (omega arith) high) f)
       (eq-or-lt-of-le lo)
 
   at-accepted-from :
       (i n : ℕ) (next : Checked) (m : ℕ)
-      → atBlocks tests (from i n) next ≡ Accepted m
+      → atPlaces tests (from i n) next ≡ Accepted m
       → ((j : ℕ) → i ≤ j → j < i + n → firstFailing (tests j) ≡ 0) × (next ≡ Accepted m)
-  unfolding atBlocks from
+  unfolding atPlaces from
   at-accepted-from i zero next m h = ((λ j lo hi. absurd (omega arith)), h)
   at-accepted-from i (suc n) next m h =
-      let r = refuse-accepted (firstFailing (tests i)) i (atBlocks tests (from (suc i) n) next) m h in
+      let r = refuse-accepted (firstFailing (tests i)) i (atPlaces tests (from (suc i) n) next) m h in
       let s = at-accepted-from (suc i) n next m (r .1) in (
         (λ j lo hi.
             ⊎-elim
@@ -100,7 +100,7 @@ module _ (tests : ℕ → List (ℕ × Bool)) where
   pub at-passed :
       (n : ℕ) (next : Checked)
       → ((j : ℕ) → j < n → firstFailing (tests j) ≡ 0)
-      → atBlocks tests (upTo n) next ≡ next
+      → atPlaces tests (upTo n) next ≡ next
   unfolding upTo
   at-passed n next h = at-passed-from 0 n next (λ j lo hi. h j (omega arith))
 
@@ -110,7 +110,7 @@ module _ (tests : ℕ → List (ℕ × Bool)) where
       → k < n
       → ((j : ℕ) → j < k → firstFailing (tests j) ≡ 0)
       → (firstFailing (tests k) ≡ 0 → ⊥)
-      → atBlocks tests (upTo n) next ≡ Refused (record { number = firstFailing (tests k); place = k })
+      → atPlaces tests (upTo n) next ≡ Refused (record { number = firstFailing (tests k); place = k })
   unfolding upTo
   at-failed n next k hi h f = at-failed-from 0 n next k (omega arith) (omega arith) (λ j lo l. h j l) f
 
@@ -122,7 +122,7 @@ module _ (tests : ℕ → List (ℕ × Bool)) where
       → fault ≡ firstFailing (tests k)
       → (fault ≡ 0 → ⊥)
       → r ≡ Refused (record { number = fault; place = k })
-      → r ≡ atBlocks tests (upTo n) next
+      → r ≡ atPlaces tests (upTo n) next
   at-refused n next k fault r l h e f a =
       a
       ∙ ap (λ (m : ℕ). Refused (record { number = m; place = k })) e
@@ -131,7 +131,7 @@ module _ (tests : ℕ → List (ℕ × Bool)) where
   -- an accepted answer has passed every block
   pub at-accepted :
       (n : ℕ) (next : Checked) (m : ℕ)
-      → atBlocks tests (upTo n) next ≡ Accepted m
+      → atPlaces tests (upTo n) next ≡ Accepted m
       → ((j : ℕ) → j < n → firstFailing (tests j) ≡ 0) × (next ≡ Accepted m)
   unfolding upTo
   at-accepted n next m h =
@@ -140,11 +140,11 @@ module _ (tests : ℕ → List (ℕ × Bool)) where
 
   -- a pass that accepts gives way to what follows
   pub at-else :
-      (l : List ℕ) (m : ℕ) (x : Checked) → orElse (atBlocks tests l (Accepted m)) x ≡ atBlocks tests l x
-  unfolding atBlocks orElse
+      (l : List ℕ) (m : ℕ) (x : Checked) → orElse (atPlaces tests l (Accepted m)) x ≡ atPlaces tests l x
+  unfolding atPlaces orElse
   at-else [] m x = refl
   at-else (i ∷ l) m x =
-      refuse-else (firstFailing (tests i)) i (atBlocks tests l (Accepted m)) x
+      refuse-else (firstFailing (tests i)) i (atPlaces tests l (Accepted m)) x
       ∙ ap (refuse (firstFailing (tests i)) i) (at-else l m x)
 
 -- The whole answer
@@ -157,9 +157,9 @@ module _ (book : List ℕ) where
   pub check-long :
       (x y z a r : Checked)
       → lengthHolds (length book) ≡ true
-      → x ≡ atBlocks (passTests Checks book) (upTo (blockCount book)) (Accepted (ruleCount book))
-      → y ≡ atBlocks (passTests Kinds book) (upTo (blockCount book)) (Accepted (ruleCount book))
-      → z ≡ atBlocks (passTests Contents book) (upTo (blockCount book)) (Accepted (ruleCount book))
+      → x ≡ atPlaces (passTests Checks book) (upTo (blockCount book)) (Accepted (ruleCount book))
+      → y ≡ atPlaces (passTests Kinds book) (upTo (blockCount book)) (Accepted (ruleCount book))
+      → z ≡ atPlaces (passTests Contents book) (upTo (blockCount book)) (Accepted (ruleCount book))
       → a ≡ orElse y z
       → r ≡ orElse x a
       → r ≡ checkAnswer book
@@ -169,8 +169,8 @@ module _ (book : List ℕ) where
       (er
       ∙ ap (λ (w : Checked). orElse w a) ex
       ∙ at-else (passTests Checks book) (upTo (blockCount book)) (ruleCount book) a
-      ∙ ap (atBlocks (passTests Checks book) (upTo (blockCount book)))
+      ∙ ap (atPlaces (passTests Checks book) (upTo (blockCount book)))
       (ea
       ∙ ap (λ (w : Checked). orElse w z) ey
       ∙ at-else (passTests Kinds book) (upTo (blockCount book)) (ruleCount book) z
-      ∙ ap (atBlocks (passTests Kinds book) (upTo (blockCount book))) ez))
+      ∙ ap (atPlaces (passTests Kinds book) (upTo (blockCount book))) ez))

@@ -17,7 +17,7 @@ use Rattle.book.specs.Refusals.{dataOrdered, labelHolds, labelsHold, fun
 use Rattle.book.specs.Refusals.{referenceHolds, numbersHold, leafSetsApart, referencesApart, maskAllows}
 use Rattle.book.specs.Refusals.{maskHolds, masksHold, ruleTests, contentTests, passTests, lengthTests}
 use Rattle.book.specs.Refusals.{firstFailing}
-use Rattle.book.specs.Answers.{refuse, atBlocks, checkAnswer, withCheck, sealBytes}
+use Rattle.book.specs.Answers.{refuse, atPlaces, checkAnswer, withCheck, sealBytes}
 use Rattle.book.specs.Shop.{padded, block, users, categories, columns, functions, rule, rule0, rule1, rule2, shop}
 use Rattle.book.specs.declared.Checked.{Checked}
 use Rattle.book.specs.declared.Checked.the-variants.{Accepted}
@@ -36,6 +36,6 @@ unfolding all any upTo from has upwardIn upward under leaf covers properDescenda
     usersCounted dataCounted columnsCounted functionsCounted ruleCounts referenceEnd ruleZeros ruleCounted
     usersOrdered dataOrdered labelHolds labelsHold functionsHold userNumbersHold referenceHolds numbersHold
     leafSetsApart referencesApart maskAllows maskHolds masksHold ruleTests contentTests passTests lengthTests
-    firstFailing refuse atBlocks checkAnswer withCheck sealBytes padded block users categories columns functions
+    firstFailing refuse atPlaces checkAnswer withCheck sealBytes padded block users categories columns functions
     rule rule0 rule1 rule2 shop
 shop-accepted = refl

@@ -23,10 +23,10 @@ unfoldable pub orElse : Checked → Checked → Checked
 orElse (checked.Accepted n) next = next
 orElse (checked.Refused refusal) next = checked.Refused refusal
 
--- the lowest block of a list with a failing test is refused; where there is none, what follows
-unfoldable pub atBlocks : (ℕ → List (ℕ × Bool)) → List ℕ → Checked → Checked
-atBlocks tests [] next = next
-atBlocks tests (i ∷ is) next = refuse (firstFailing (tests i)) i (atBlocks tests is next)
+-- the lowest place of a list with a failing test is refused; where there is none, what follows
+unfoldable pub atPlaces : (ℕ → List (ℕ × Bool)) → List ℕ → Checked → Checked
+atPlaces tests [] next = next
+atPlaces tests (i ∷ is) next = refuse (firstFailing (tests i)) i (atPlaces tests is next)
 
 -- the number of blocks, and of rules, of a book whose length holds
 abbrev pub blockCount : List ℕ → ℕ
@@ -39,9 +39,9 @@ ruleCount book = blockCount book - 4
 unfoldable pub checkAnswer : List ℕ → Checked
 checkAnswer book =
     refuse (firstFailing (lengthTests book)) 0
-    (atBlocks (passTests Checks book) (upTo (blockCount book))
-    (atBlocks (passTests Kinds book) (upTo (blockCount book))
-    (atBlocks (passTests Contents book) (upTo (blockCount book)) (checked.Accepted (ruleCount book)))))
+    (atPlaces (passTests Checks book) (upTo (blockCount book))
+    (atPlaces (passTests Kinds book) (upTo (blockCount book))
+    (atPlaces (passTests Contents book) (upTo (blockCount book)) (checked.Accepted (ruleCount book)))))
 
 -- "Seal (a block). 10, not 512 bytes."
 unfoldable pub sealAnswer : List ℕ → Sealed

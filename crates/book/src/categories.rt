@@ -15,7 +15,7 @@ ghost use lib.Bits.{bitOr};
 ghost use lib.Dec.{eqb, ltb};
 ghost use lib.ListN.{getD};
 ghost use Rattle.book.specs.Lists.{any};
-ghost use Rattle.book.specs.Sets.{has};
+ghost use Rattle.book.specs.Sets.{has, WordOf};
 ghost use Rattle.book.specs.Hierarchies.{covers, leaf, upward};
 ghost use Rattle.book.specs.Head.{countIn, isDataLeaf, parentIn, supportOf, supports};
 
@@ -34,7 +34,7 @@ fn with_child(set: u64, p: usize, i: usize) -> u64
 
 // The categories of a set with all their descendants: those from which the way up meets the set.
 pub fn descendants(head: &[u8], which: Hierarchy, set: u64) -> u64
-    ensures { λ r. ⌜ ((i : ℕ) → has r i ≡ (ltb i 64 && any (has set) (upward (parentIn which (now (head .entry))) i))) ⌝ }
+    ensures { λ r. ⌜ WordOf (λ i. any (has set) (upward (parentIn which (now (head .entry))) i)) r ⌝ }
 {
     let mut found = set;
     for i in 0..64usize {
@@ -46,7 +46,7 @@ pub fn descendants(head: &[u8], which: Hierarchy, set: u64) -> u64
 
 // A category with its descendants, less the excluded ones with theirs.
 pub fn covered(head: &[u8], which: Hierarchy, c: usize, excluded: &[u8]) -> u64
-    ensures { λ r. ⌜ ((i : ℕ) → has r i ≡ (ltb i 64 && covers (parentIn which (now (head .entry))) c (now (excluded .entry)) i)) ⌝ }
+    ensures { λ r. ⌜ WordOf (covers (parentIn which (now (head .entry))) c (now (excluded .entry))) r ⌝ }
 {
     let inside = descendants(head, which, single(c));
     let outside = descendants(head, which, set_of(excluded));
@@ -64,7 +64,7 @@ fn with_parent(set: u64, p: usize, i: usize) -> u64
 }
 
 pub fn leaves(head: &[u8], which: Hierarchy) -> u64
-    ensures { λ r. ⌜ ((c : ℕ) → has r c ≡ (ltb c 64 && leaf (countIn which (now (head .entry))) (parentIn which (now (head .entry))) c)) ⌝ }
+    ensures { λ r. ⌜ WordOf (leaf (countIn which (now (head .entry))) (parentIn which (now (head .entry)))) r ⌝ }
 {
     let n = count(head, which);
     let mut parents = 0u64;
@@ -102,7 +102,7 @@ fn with_leaf(words: [u64; 16], leaf: u64, mask: u64) -> [u64; 16]
 
 // For each operation the data leaves that support it.
 pub fn supporters(head: &[u8]) -> [u64; 16]
-    ensures { λ r. ⌜ ((k d : ℕ) → k < 16 → has (getD r k 0) d ≡ (ltb d 64 && (isDataLeaf (now (head .entry)) d && supports (now (head .entry)) d k))) ⌝ }
+    ensures { λ r. ⌜ ((k : ℕ) → k < 16 → WordOf (λ d. isDataLeaf (now (head .entry)) d && supports (now (head .entry)) d k) (getD r k 0)) ⌝ }
 {
     let all = leaves(head, Hierarchy::Data);
     let mut words = [0u64; 16];

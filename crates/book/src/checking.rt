@@ -6,15 +6,16 @@ use crate::Checked;
 use crate::Refusal;
 use crate::bytes::byte_at;
 use crate::bytes::less;
-use crate::bytes::part;
 use crate::contents::content_fault;
+use crate::fields::block_at;
+use crate::fields::head_of;
 use crate::sealing::check_holds;
 ghost use mathlib.Core.Path.{_≡_};
 ghost use Prim.Native.Nat.{ℕ, _-_, _<_};
 ghost use mathlib.Core.List.{_∷_, []};
 ghost use Rattle.book.specs.Lists.{upTo};
 ghost use Rattle.book.specs.Refusals.{firstFailing, kindHolds, lengthHolds, passTests};
-ghost use Rattle.book.specs.Answers.{atBlocks, checkAnswer, orElse};
+ghost use Rattle.book.specs.Answers.{atPlaces, checkAnswer, orElse};
 ghost use Rattle.book.specs.declared.Checked.the-variants.{Accepted};
 
 // The three passes over the blocks: the checks, the kinds, what the blocks hold.
@@ -62,18 +63,17 @@ fn fault_unless(passed: bool, number: u32) -> u32
 fn fault_at(book: &[u8], pass: Pass, i: u8) -> u32
     ensures { λ r. ⌜ (((j : ℕ) → j < i → firstFailing (passTests pass (now (book .entry)) j) ≡ 0) → r ≡ firstFailing (passTests pass (now (book .entry)) i)) ⌝ }
 {
-    let at = i as usize;
-    let block = part(book, 512 * at, 512);
+    let block = block_at(book, i);
     match pass {
         Pass::Checks => fault_unless(check_holds(block), BLOCK_CHECK),
         Pass::Kinds => fault_unless(kind_holds(i, byte_at(block, 0)), BLOCK_KIND),
-        Pass::Contents => content_fault(part(book, 0, 2048), block, i),
+        Pass::Contents => content_fault(head_of(book), block, i),
     }
 }
 
 // One pass over n blocks: the lowest that fails is refused.
 fn pass_over(book: &[u8], pass: Pass, n: u8) -> Checked
-    ensures { λ r. ⌜ r ≡ atBlocks (passTests pass (now (book .entry))) (upTo n) (Accepted (n - 4)) ⌝ }
+    ensures { λ r. ⌜ r ≡ atPlaces (passTests pass (now (book .entry))) (upTo n) (Accepted (n - 4)) ⌝ }
 {
     for i in 0..n {
         let fault = fault_at(book, pass, i);
@@ -98,11 +98,8 @@ pub fn check(book: &[u8]) -> Checked
         return refused(BOOK_LENGTH, 0);
     }
     let n = (book.len() / 512) as u8;
-    or_else(
-        pass_over(book, Pass::Checks, n),
-        or_else(
-            pass_over(book, Pass::Kinds, n),
-            pass_over(book, Pass::Contents, n),
-        ),
-    )
+    let checks = pass_over(book, Pass::Checks, n);
+    let kinds = pass_over(book, Pass::Kinds, n);
+    let contents = pass_over(book, Pass::Contents, n);
+    or_else(checks, or_else(kinds, contents))
 }

@@ -34,7 +34,7 @@ use crate::sets::contains;
 use crate::sets::single;
 ghost use mathlib.Core.Path.{_≡_};
 ghost use mathlib.Core.Bool.{_&&_, _||_, not};
-ghost use mathlib.Core.List.{_∷_, []};
+ghost use mathlib.Core.List.{[]};
 ghost use Prim.Native.Nat.{ℕ, _+_, _*_, _≤_, _<_};
 ghost use lib.Dec.{eqb, ltb};
 ghost use Rattle.book.specs.Lists.{all, upTo};
@@ -42,10 +42,10 @@ ghost use Rattle.book.specs.Sets.{has};
 ghost use Rattle.book.specs.Hierarchies.{parentHolds, properDescendant};
 ghost use Rattle.book.specs.Head.{countIn, dataCount, ownOperations, parentIn, userCount};
 ghost use Rattle.book.specs.Rule.{exclusionCount, inLeafSet, referenceCount, restrictionMask};
-ghost use Rattle.book.specs.Refusals.{between, columnsCounted, CountsHold, contentTests, dataCounted, dataOrdered, firstFailing};
-ghost use Rattle.book.specs.Refusals.{functionsCounted, functionsHold, labelsHold, leafSetsApart, maskAllows, maskHolds};
-ghost use Rattle.book.specs.Refusals.{masksHold, numbersHold, referenceHolds, referencesApart, referenceEnd, ruleCounted};
-ghost use Rattle.book.specs.Refusals.{ruleCounts, ruleTests, ruleZeros, userNumbersHold, usersCounted, usersOrdered, zeros};
+ghost use Rattle.book.specs.Refusals.{between, CountsHold, contentTests, firstFailing};
+ghost use Rattle.book.specs.Refusals.{functionsHold, labelsHold, maskAllows};
+ghost use Rattle.book.specs.Refusals.{masksHold, referenceHolds, referencesApart, referenceEnd};
+ghost use Rattle.book.specs.Refusals.{ruleCounts, ruleTests, ruleZeros, userNumbersHold, zeros};
 
 fn within(low: usize, high: usize, n: usize) -> bool
     ensures { λ r. ⌜ r ≡ between low high n ⌝ }

@@ -6,16 +6,12 @@ use crate::fields::data_category;
 use crate::fields::excluded_users;
 use crate::fields::exclusions;
 use crate::fields::user_category;
-ghost use mathlib.Core.Path.{_≡_};
-ghost use mathlib.Core.Bool.{_&&_};
-ghost use Prim.Native.Nat.{ℕ};
-ghost use lib.Dec.{ltb};
-ghost use Rattle.book.specs.Sets.{has};
+ghost use Rattle.book.specs.Sets.{WordOf};
 ghost use Rattle.book.specs.Rule.{coversUser, inLeafSet};
 
 // The leaf set of reference i.
 pub fn leaf_set(head: &[u8], rule: &[u8], i: u8) -> u64
-    ensures { λ r. ⌜ ((d : ℕ) → has r d ≡ (ltb d 64 && inLeafSet (now (head .entry)) (now (rule .entry)) i d)) ⌝ }
+    ensures { λ r. ⌜ WordOf (inLeafSet (now (head .entry)) (now (rule .entry)) i) r ⌝ }
 {
     let c = data_category(rule, i);
     leaves(head, Hierarchy::Data) & covered(head, Hierarchy::Data, c, exclusions(rule, i))
@@ -23,7 +19,7 @@ pub fn leaf_set(head: &[u8], rule: &[u8], i: u8) -> u64
 
 // The users that the rule covers.
 pub fn covered_users(head: &[u8], rule: &[u8]) -> u64
-    ensures { λ r. ⌜ ((u : ℕ) → has r u ≡ (ltb u 64 && coversUser (now (head .entry)) (now (rule .entry)) u)) ⌝ }
+    ensures { λ r. ⌜ WordOf (coversUser (now (head .entry)) (now (rule .entry))) r ⌝ }
 {
     let c = user_category(rule);
     leaves(head, Hierarchy::Users) & covered(head, Hierarchy::Users, c, excluded_users(rule))

@@ -1,11 +1,8 @@
 // Sets of numbers below 64, as words: number i is a member when bit i is set.
 ghost use mathlib.Core.Path.{_≡_};
-ghost use mathlib.Core.Bool.{_&&_};
-ghost use mathlib.Core.List.{List};
-ghost use Prim.Native.Nat.{ℕ};
 ghost use lib.Dec.{eqb, ltb};
 ghost use Rattle.book.specs.Lists.{any};
-ghost use Rattle.book.specs.Sets.{has};
+ghost use Rattle.book.specs.Sets.{has, WordOf};
 
 pub fn contains(set: u64, i: usize) -> bool
     ensures { λ r. ⌜ r ≡ has set i ⌝ }
@@ -18,7 +15,7 @@ pub fn contains(set: u64, i: usize) -> bool
 
 // The set of i alone; empty where a word has no place for i.
 pub fn single(i: usize) -> u64
-    ensures { λ r. ⌜ ((j : ℕ) → has r j ≡ (ltb j 64 && eqb j i)) ⌝ }
+    ensures { λ r. ⌜ WordOf (λ j. eqb j i) r ⌝ }
 {
     if 64 <= i {
         return 0;
@@ -28,7 +25,7 @@ pub fn single(i: usize) -> u64
 
 // The numbers below n.
 pub fn below(n: usize) -> u64
-    ensures { λ r. ⌜ ((j : ℕ) → has r j ≡ (ltb j 64 && ltb j n)) ⌝ }
+    ensures { λ r. ⌜ WordOf (λ j. ltb j n) r ⌝ }
 {
     if 64 <= n {
         return 0xffff_ffff_ffff_ffff;
@@ -38,7 +35,7 @@ pub fn below(n: usize) -> u64
 
 // The bytes of a list that are below 64.
 pub fn set_of(list: &[u8]) -> u64
-    ensures { λ r. ⌜ ((j : ℕ) → has r j ≡ (ltb j 64 && any (eqb j) (now (list .entry)))) ⌝ }
+    ensures { λ r. ⌜ WordOf (λ j. any (eqb j) (now (list .entry))) r ⌝ }
 {
     let mut set = 0u64;
     for i in 0..list.len() {

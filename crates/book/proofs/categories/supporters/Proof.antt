@@ -35,10 +35,10 @@ loop-again c =
     )
 
 returns : tie.Need-returns Inv-loop μ-loop
-returns c =
+returns c k small d =
     let head = c .before .before .before .before .args .head .now in
     let l = c .before .loop in
-    supported-end head (l .d) (l .words) (l .inv .1) (c .loop-test .left)
+    supported-end head (l .d) (l .words) (l .inv .1) (c .loop-test .left) k d small
 
 pub supporters-spec : {M : Type 1} → statement M
 supporters-spec =

@@ -8,7 +8,7 @@ use Rattle.book.proofs.checking.fault_at.Tie as tie
 returns : tie.Need-returns
 returns c low =
     let a = c .before .before .before .before .before .before .args in
-    let block = c .before .before .before .before .part in
+    let block = c .before .before .before .before .block-at in
     let held = c .before .check-holds in
     checks-fault (a .book .now) (a .pass) (a .i) (block .result .now) (block .ensures) (held .result)
     (c .fault-unless .result) (c .before .before .enum-told .given .1) (held .ensures) (c .fault-unless .ensures)
@@ -16,7 +16,7 @@ returns c low =
 returns-2 : tie.Need-returns-2
 returns-2 c low =
     let a = c .before .before .before .before .before .before .before .args in
-    let block = c .before .before .before .before .before .part in
+    let block = c .before .before .before .before .before .block-at in
     let kind = c .before .before .byte-at in
     let held = c .before .kind-holds in
     kinds-fault (a .book .now) (a .pass) (a .i) (block .result .now) (block .ensures) (kind .result) (held .result)
@@ -26,8 +26,8 @@ returns-2 c low =
 returns-3 : tie.Need-returns-3
 returns-3 c low =
     let a = c .before .before .before .before .before .before .args in
-    let block = c .before .before .before .before .part in
-    let head = c .before .part2 in
+    let block = c .before .before .before .before .block-at in
+    let head = c .before .head-of in
     contents-fault (a .book .now) (a .pass) (a .i) (block .result .now) (block .ensures) (head .result .now)
     (c .content-fault .result) (c .before .before .enum-told3 .given .1) (head .ensures) (c .content-fault .ensures) low
 
@@ -35,7 +35,6 @@ pub fault-at-spec : {M : Type 1} → statement M
 fault-at-spec =
     tie.close
     (tie.spec
-    (λ c. search needs)
     (λ c κs. search needs)
     (λ c. search needs)
     (λ c κs. search needs)
