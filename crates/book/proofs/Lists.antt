@@ -5,8 +5,8 @@ use native.Mathlib.Numerals.{add-one}
 use native.Mathlib.Omega.{arith}
 use mathlib.Core.Path.{_≡_, refl, sym, ap, _∙_}
 use mathlib.Core.Logic.{⊎-elim}
-use mathlib.Core.Bool.{Bool, true, false, _&&_, _||_, not, false≢true}
-use mathlib.Core.List.{List, [], _∷_, _++_}
+use mathlib.Core.Bool.{Bool, true, false, _&&_, _||_, not, false≢true, cond}
+use mathlib.Core.List.{List, [], _∷_, _++_, map}
 use lib.ListN.{length, getD, take, drop, length-take, length-drop, drop-of-length-le}
 use lib.Seq.{take-all, take-nil, take-suc}
 use lib.Dec.{eqb, ltb}
@@ -121,6 +121,17 @@ pub and-never : (a b : Bool) → (a ≡ true → b ≡ false) → (a && b) ≡ f
 and-never true b h = h refl
 and-never false b h = refl
 
+pub and-over : (a b c : Bool) → (a && c || b && c) ≡ ((a || b) && c)
+and-over true true true = refl
+and-over true true false = refl
+and-over true false c = or-end c
+and-over false b c = refl
+
+-- tests that agree where the first passes
+pub and-where : (a b c : Bool) → (a ≡ true → b ≡ c) → (a && b) ≡ (a && c)
+and-where true b c h = h refl
+and-where false b c h = refl
+
 -- two tests are equal where each passes with the other
 pub same-test : (a b : Bool) → (a ≡ true → b ≡ true) → (b ≡ true → a ≡ true) → a ≡ b
 same-test true b p q = sym (p refl)
@@ -144,63 +155,117 @@ ltb-more j k n =
 
 -- Quantifiers over a list
 
-module _ (f : ℕ → Bool) where
-  pub all-append : (s t : List ℕ) → all f (s ++ t) ≡ (all f s && all f t)
+module _ {A : Type 0} (f : A → Bool) where
+  pub all-append : (s t : List A) → all f (s ++ t) ≡ (all f s && all f t)
   unfolding all
   all-append [] t = refl
   all-append (x ∷ s) t = rw (all-append s t) (sym (and-assoc (f x) (all f s) (all f t)))
 
-  pub any-append : (s t : List ℕ) → any f (s ++ t) ≡ (any f s || any f t)
+  pub append-all : (s t : List A) → all f s ≡ true → all f t ≡ true → all f (s ++ t) ≡ true
+  append-all s t p q = all-append s t ∙ and-true (all f s) (all f t) p q
+
+  pub any-append : (s t : List A) → any f (s ++ t) ≡ (any f s || any f t)
   unfolding any
   any-append [] t = refl
   any-append (x ∷ s) t = rw (any-append s t) (sym (or-assoc (f x) (any f s) (any f t)))
 
-  pub all-one : (x : ℕ) → all f (x ∷ []) ≡ f x
+  pub all-one : (x : A) → all f (x ∷ []) ≡ f x
   unfolding all
   all-one x = and-end (f x)
 
-  pub any-one : (x : ℕ) → any f (x ∷ []) ≡ f x
+  pub any-one : (x : A) → any f (x ∷ []) ≡ f x
   unfolding any
   any-one x = or-end (f x)
 
-  -- over the first i + 1 elements of a list
-  pub all-take : (l : List ℕ) (i : ℕ) → i < length l → all f (take (i + 1) l) ≡ (all f (take i l) && f (getD l i 0))
-  all-take l i h = rw (add-one, take-suc l i 0 h, all-append, all-one)
+  pub any-nil : any f [] ≡ false
+  unfolding any
+  any-nil = refl
 
-  pub any-take : (l : List ℕ) (i : ℕ) → i < length l → any f (take (i + 1) l) ≡ (any f (take i l) || f (getD l i 0))
-  any-take l i h = rw (add-one, take-suc l i 0 h, any-append, any-one)
+  pub any-guarded : (b : Bool) (l : List A) → any f (cond b l []) ≡ (b && any f l)
+  unfolding any
+  any-guarded true l = refl
+  any-guarded false l = refl
 
--- tests that agree everywhere have equal quantifiers over any list
-pub all-same : (f g : ℕ → Bool) → ((x : ℕ) → f x ≡ g x) → (l : List ℕ) → all f l ≡ all g l
-unfolding all
-all-same f g e [] = refl
-all-same f g e (x ∷ l) = rw (e x, all-same f g e l)
+  pub any-map : {B : Type 0} (g : B → A) (l : List B) → any f (map g l) ≡ any (λ x. f (g x)) l
+  unfolding any
+  any-map g [] = refl
+  any-map g (x ∷ l) = ap (λ (b : Bool). f (g x) || b) (any-map g l)
 
-pub any-same : (f g : ℕ → Bool) → ((x : ℕ) → f x ≡ g x) → (l : List ℕ) → any f l ≡ any g l
-unfolding any
-any-same f g e [] = refl
-any-same f g e (x ∷ l) = rw (e x, any-same f g e l)
+  pub map-all :
+      {B : Type 0} (g : B → A) (h : B → Bool)
+      → ((x : B) → h x ≡ true → f (g x) ≡ true)
+      → (l : List B) → all h l ≡ true → all f (map g l) ≡ true
+  unfolding all
+  map-all g h e [] p = refl
+  map-all g h e (x ∷ l) p =
+      and-true (f (g x)) (all f (map g l)) (e x (and-left (h x) (all h l) p))
+      (map-all g h e l (and-right (h x) (all h l) p))
 
-pub any-nothing : (l : List ℕ) → any (λ a. false) l ≡ false
+  -- a test that does not look at the element
+  pub any-with : (b : Bool) (l : List A) → any (λ x. f x && b) l ≡ (any f l && b)
+  unfolding any
+  any-with b [] = refl
+  any-with b (x ∷ l) = rw (any-with b l) (and-over (f x) (any f l) b)
+
+  pub any-where : (b : Bool) (l : List A) → any (λ x. b && f x) l ≡ (b && any f l)
+  unfolding any
+  any-where true l = refl
+  any-where false [] = refl
+  any-where false (x ∷ l) = any-where false l
+
+  pub not-any : (l : List A) → not (any f l) ≡ all (λ x. not (f x)) l
+  unfolding any all
+  not-any [] = refl
+  not-any (x ∷ l) = rw (not-or (f x) (any f l), not-any l)
+
+-- the first i + 1 elements of a list of numbers
+module _ (f : ℕ → Bool) (l : List ℕ) (i : ℕ) (h : i < length l) where
+  pub all-take : all f (take (i + 1) l) ≡ (all f (take i l) && f (getD l i 0))
+  all-take = rw (add-one, take-suc l i 0 h, all-append, all-one)
+
+  pub any-take : any f (take (i + 1) l) ≡ (any f (take i l) || f (getD l i 0))
+  any-take = rw (add-one, take-suc l i 0 h, any-append, any-one)
+
+module _ {A : Type 0} (f g : A → Bool) where
+  -- tests that agree everywhere have equal quantifiers over any list
+  pub all-same : ((x : A) → f x ≡ g x) → (l : List A) → all f l ≡ all g l
+  unfolding all
+  all-same e [] = refl
+  all-same e (x ∷ l) = rw (e x, all-same e l)
+
+  pub any-same : ((x : A) → f x ≡ g x) → (l : List A) → any f l ≡ any g l
+  unfolding any
+  any-same e [] = refl
+  any-same e (x ∷ l) = rw (e x, any-same e l)
+
+  pub any-both : (l : List A) → any (λ a. f a || g a) l ≡ (any f l || any g l)
+  unfolding any
+  any-both [] = refl
+  any-both (x ∷ l) = rw (any-both l) (or-regroup (f x) (g x) (any f l) (any g l))
+
+  -- one that passes a test, where all pass another
+  pub any-found : (l : List A) → any f l ≡ true → all g l ≡ true → (x : A) × (f x ≡ true) × (g x ≡ true)
+  unfolding any all
+  any-found [] p q = absurd (false≢true p)
+  any-found (x ∷ l) p q = go (f x) refl p (any-found l)
+    where
+      go :
+          (b : Bool) →
+          f x ≡ b →
+          (b || any f l) ≡ true →
+          (any f l ≡ true → all g l ≡ true → (y : A) × (f y ≡ true) × (g y ≡ true)) →
+          (y : A) × (f y ≡ true) × (g y ≡ true)
+      go true e h more = (x, e, and-left (g x) (all g l) q)
+      go false e h more = more h (and-right (g x) (all g l) q)
+
+pub any-nothing : {A : Type 0} (l : List A) → any (λ a. false) l ≡ false
 unfolding any
 any-nothing [] = refl
 any-nothing (x ∷ l) = any-nothing l
 
-pub any-both :
-    (f g : ℕ → Bool) (l : List ℕ)
-    → any (λ a. f a || g a) l ≡ (any f l || any g l)
-unfolding any
-any-both f g [] = refl
-any-both f g (x ∷ l) = rw (any-both f g l) (or-regroup (f x) (g x) (any f l) (any g l))
-
-pub not-any : (f : ℕ → Bool) (l : List ℕ) → not (any f l) ≡ all (λ x. not (f x)) l
-unfolding any all
-not-any f [] = refl
-not-any f (x ∷ l) = rw (not-or (f x) (any f l), not-any f l)
-
 -- two quantifiers in either order
 pub any-swap :
-    (f : ℕ → ℕ → Bool) (l m : List ℕ)
+    {A B : Type 0} (f : A → B → Bool) (l : List A) (m : List B)
     → any (λ a. any (f a) m) l ≡ any (λ b. any (λ a. f a b) l) m
 unfolding any
 any-swap f l [] = any-nothing l
@@ -219,7 +284,32 @@ pub upTo-more : (n : ℕ) → upTo (suc n) ≡ upTo n ++ (n ∷ [])
 unfolding upTo
 upTo-more n = from-more 0 n ∙ ap (λ (m : ℕ). from 0 n ++ (m ∷ [])) (zero-add n)
 
+pub from-append : (i m n : ℕ) → from i (m + n) ≡ from i m ++ from (i + m) n
+unfolding from
+from-append i zero n = rw (zero-add, add-zero)
+from-append i (suc m) n =
+    let e : suc m + n ≡ suc (m + n) = omega arith in
+    let l : i + suc m ≡ suc i + m = omega arith in
+    rw (e, l) (ap (λ (s : List ℕ). i ∷ s) (from-append (suc i) m n))
+
+-- tests that agree on the n numbers from i up
+pub any-from-same :
+    (f g : ℕ → Bool) (i n : ℕ)
+    → ((j : ℕ) → i ≤ j → j < i + n → f j ≡ g j)
+    → any f (from i n) ≡ any g (from i n)
+unfolding any from
+any-from-same f g i zero h = refl
+any-from-same f g i (suc n) h =
+    rw (h i (omega arith) (omega arith), any-from-same f g (suc i) n (λ j lo hi. h j (omega arith) (omega arith)))
+
 module _ (f : ℕ → Bool) where
+  pub any-none : any f (upTo 0) ≡ false
+  unfolding upTo from any
+  any-none = refl
+
+  pub any-more : (i : ℕ) → any f (upTo (i + 1)) ≡ (any f (upTo i) || f i)
+  any-more i = rw (add-one, upTo-more, any-append, any-one)
+
   pub all-none : all f (upTo 0) ≡ true
   unfolding upTo from all
   all-none = refl
