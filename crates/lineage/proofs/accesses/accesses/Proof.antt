@@ -1,0 +1,44 @@
+-- The table is right for an accepted plan, and the words are determined by their members (`access-words`). Assumes nothing.
+use native.Mathlib.Omega.{arith}
+use mir.Syntax.{w64}
+use mir.Val.{Fits}
+use lib.ListN.{getD}
+use Rattle.book.specs.Blocks.{headOf}
+use Rattle.book.proofs.Accepted.{accepted-head}
+use Rattle.lineage.specs.Rows.{rowCount}
+use Rattle.lineage.specs.Table.{Reached}
+use Rattle.lineage.proofs.Accepted.{accepted-plan, plan-sound, plan-given}
+use Rattle.lineage.proofs.Words.{access-words}
+use Rattle.lineage.proofs.accesses.accesses.Statement.{statement}
+use borrow.Author.Needs.{needs}
+use Rattle.lineage.proofs.accesses.accesses.Tie as tie
+
+returns : tie.Need-returns
+returns c n m book plan =
+    let a = c .before .before .before .args in
+    let p = accepted-plan (headOf (a .book .now)) (a .plan .now) m plan .1 in
+    absurd (omega (arith, p .short))
+
+returns-2 : tie.Need-returns-2
+returns-2 c n m book plan =
+    let a = c .before .before .before .before .before .before .before .args in
+    let head = headOf (a .book .now) in
+    let b = accepted-head (a .book .now) n book in
+    let p = accepted-plan head (a .plan .now) m plan .1 in
+    let same = c .before .before .before .head-of .ensures in
+    let table : Reached head (a .plan .now) (rowCount (a .plan .now)) (c .before .before .reach-table .result) =
+    (rw same at (c .before .before .reach-table .ensures)) (plan-sound head (a .plan .now) b p) (omega (arith, p .short)) in
+    access-words head (a .plan .now) (c .gathered .result) (search needs) (λ w h. let f : Fits w64 (getD (c .gathered .result) w 0) = search needs in f .fits)
+    (c .gathered .ensures head table (plan-given head (a .plan .now) b p))
+
+pub accesses-spec : {M : Type 1} → statement M
+accesses-spec =
+    tie.close
+    (tie.spec
+    returns
+    (λ c. search needs)
+    (λ c κs. search needs)
+    (λ c κs. search needs)
+    (λ c. search needs)
+    (λ c κs. search needs)
+    returns-2)

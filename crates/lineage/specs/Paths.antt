@@ -1,0 +1,58 @@
+-- The paths of a row, as the paper has them: each from the row down to a column. Document 01, "Plans and lineage", its
+-- second paragraph. Assumes nothing.
+use Prim.Native.Nat.{ℕ, zero, suc}
+use mathlib.Core.Bool.{Bool, true, false, _&&_, not, cond}
+use mathlib.Core.List.{List, [], _∷_, _++_, map}
+use lib.Dec.{eqb, ltb}
+use Rattle.book.specs.Lists.{any}
+use Rattle.book.specs.Head.{label, operation, supports}
+use Rattle.lineage.specs.Rows.{Kind, Column, Apply, Choose, Output, Condition, Unknown, kindAt, rowA, rowB, rowC}
+
+-- a path: its column, and the functions on it counted upward from the column
+pub record Path : Type 0 where
+  pub column : ℕ
+  pub functions : List ℕ
+
+-- the path one Apply row further up
+unfoldable pub through : ℕ → Path → Path
+through f p = record { column = p .column; functions = p .functions ++ (f ∷ []) }
+
+-- the paths of a row of a kind, given those of the rows that it names: "through b or c of Apply and Choose, never
+-- through a of Choose". 255 in c of Apply is no lower row, and gives none.
+unfoldable pub pathsBy : Kind → (ℕ → List Path) → ℕ → ℕ → ℕ → List Path
+pathsBy Column lower a b c = record { column = a; functions = [] } ∷ []
+pathsBy Apply lower a b c = map (through a) (lower b ++ lower c)
+pathsBy Choose lower a b c = lower b ++ lower c
+pathsBy Output lower a b c = []
+pathsBy Condition lower a b c = []
+pathsBy Unknown lower a b c = []
+
+-- `paths` with at most `steps` steps down
+unfoldable pub pathsIn : ℕ → List ℕ → ℕ → List Path
+pathsIn zero plan i = []
+pathsIn (suc steps) plan i =
+    pathsBy (kindAt plan i)
+    (λ r. elim (ltb r i) as (λ b. List Path) [ true ↦ pathsIn steps plan r | false ↦ [] ])
+    (rowA plan i) (rowB plan i) (rowC plan i)
+
+-- "A path goes from a row down to a Column row": every row on it is lower than the one before, so i steps are enough
+unfoldable pub paths : List ℕ → ℕ → List Path
+paths plan i = pathsIn (suc i) plan i
+
+-- "It carries the column's label, if any."
+unfoldable pub labels : List ℕ → ℕ → List ℕ
+labels head column = cond (eqb (label head column) 255) [] (label head column ∷ [])
+
+-- "whose operation is not 0 and is supported by the label"
+unfoldable pub takes : List ℕ → ℕ → ℕ → Bool
+takes head d k = not (eqb k 0) && supports head d k
+
+-- "that of the first function, counted upward from the column, whose operation [is taken]; if there is none, 0"
+unfoldable pub firstOperation : List ℕ → ℕ → List ℕ → ℕ
+firstOperation head d [] = 0
+firstOperation head d (f ∷ fs) =
+    cond (takes head d (operation head f)) (operation head f) (firstOperation head d fs)
+
+-- a path carries label d with operation k
+unfoldable pub carries : List ℕ → ℕ → ℕ → Path → Bool
+carries head d k p = any (eqb d) (labels head (p .column)) && eqb k (firstOperation head d (p .functions))

@@ -1,0 +1,127 @@
+// Which leaves reach each row of a plan, and with which operation: sixteen words a row, word k for
+// operation k. One pass up the rows, whatever the number of paths.
+use crate::rows::kind;
+use crate::rows::row_a;
+use crate::rows::row_b;
+use crate::rows::row_c;
+use book::categories::supporters;
+use book::fields::label;
+use book::fields::operation;
+use book::sets::single;
+ghost use mathlib.Core.Path.{_≡_};
+ghost use mathlib.Core.Bool.{_&&_};
+ghost use Prim.Native.Nat.{ℕ, _+_, _*_, _≤_, _<_};
+ghost use lib.Bits.{bitOr};
+ghost use lib.Dec.{eqb, ltb};
+ghost use lib.ListN.{getD};
+ghost use Rattle.book.specs.Lists.{any};
+ghost use Rattle.book.specs.Sets.{WordOf};
+ghost use Rattle.book.specs.Sets.{has};
+ghost use Rattle.lineage.specs.Paths.{labels};
+ghost use Rattle.lineage.specs.Table.{Moved, PlanSound, Reached, RowReached, Stored, Supporting};
+
+// The word at i, or 0 past the end.
+fn word_at(s: &[u64], i: usize) -> u64
+    ensures { λ r. ⌜ r ≡ getD (now (s .entry)) i 0 ⌝ }
+{
+    if i < s.len() {
+        return s[i];
+    }
+    0
+}
+
+// The words of row r; all zero past the table's end.
+pub fn row_words(table: &[u64], r: u8) -> [u64; 16]
+    ensures { λ w. ⌜ ((k : ℕ) → k < 16 → getD w k 0 ≡ getD (now (table .entry)) (16 * r + k) 0) ⌝ }
+{
+    let at = r as usize;
+    let mut row = [0u64; 16];
+    for k in 0..16usize {
+        row[k] = word_at(table, 16 * at + k);
+    }
+    row
+}
+
+fn joined(a: [u64; 16], b: [u64; 16]) -> [u64; 16]
+    ensures { λ r. ⌜ ((k : ℕ) → k < 16 → getD r k 0 ≡ bitOr (getD a k 0) (getD b k 0)) ⌝ }
+{
+    let mut r = a;
+    for k in 0..16usize {
+        r[k] = a[k] | b[k];
+    }
+    r
+}
+
+// The labels of a column.
+fn label_set(head: &[u8], column: u8) -> u64
+    ensures { λ r. ⌜ WordOf (λ d. any (eqb d) (labels (now (head .entry)) column)) r ⌝ }
+{
+    single(label(head, column))
+}
+
+// A function of operation o: the leaves that support it and have no operation yet take it.
+fn moved(row: [u64; 16], o: usize, supporting: [u64; 16]) -> [u64; 16]
+    ensures { λ r. ⌜ Moved row o supporting r ⌝ }
+{
+    if o == 0 {
+        return row;
+    }
+    if 16 <= o {
+        return row;
+    }
+    let taken = row[0] & supporting[o];
+    let mut next = row;
+    next[0] = row[0] & !taken;
+    next[o] = row[o] | taken;
+    next
+}
+
+// The words of a Column row.
+fn column_reach(head: &[u8], column: u8) -> [u64; 16]
+    ensures { λ r. ⌜ ((k : ℕ) → k < 16 → WordOf (λ d. any (eqb d) (labels (now (head .entry)) column) && eqb k 0) (getD r k 0)) ⌝ }
+{
+    let mut row = [0u64; 16];
+    row[0] = label_set(head, column);
+    row
+}
+
+// The words of row i, given those of the lower rows.
+fn row_reach(head: &[u8], plan: &[u8], supporting: [u64; 16], table: &[u64], i: u8) -> [u64; 16]
+    ensures { λ r. ⌜ (Supporting (now (head .entry)) supporting → PlanSound (now (head .entry)) (now (plan .entry)) → Reached (now (head .entry)) (now (plan .entry)) i (now (table .entry)) → RowReached (now (head .entry)) (now (plan .entry)) i r) ⌝ }
+{
+    let b = row_words(table, row_b(plan, i));
+    let c = row_words(table, row_c(plan, i));
+    let both = joined(b, c);
+    let a = row_a(plan, i);
+    let kind = kind(plan, i);
+    match kind {
+        1 => column_reach(head, a),
+        2 => moved(both, operation(head, a), supporting),
+        3 => both,
+        _ => [0u64; 16],
+    }
+}
+
+fn store_row(table: &mut [u64], i: u8, row: [u64; 16])
+    ensures { λ _. ⌜ Stored i row (now (table .entry)) (now (table .exit)) ⌝ }
+{
+    let at = i as usize;
+    for k in 0..16usize {
+        if 16 * at + k < table.len() {
+            table[16 * at + k] = row[k];
+        }
+    }
+}
+
+// The words of the first n rows, from row 0 up.
+pub fn reach_table(head: &[u8], plan: &[u8], n: u8) -> [u64; 1024]
+    ensures { λ r. ⌜ (PlanSound (now (head .entry)) (now (plan .entry)) → n ≤ 64 → Reached (now (head .entry)) (now (plan .entry)) n r) ⌝ }
+{
+    let supporting = supporters(head);
+    let mut table = [0u64; 1024];
+    for i in 0..n {
+        let row = row_reach(head, plan, supporting, &table, i);
+        store_row(&mut table, i, row);
+    }
+    table
+}
