@@ -6,7 +6,7 @@ use crate::bytes::byte_at;
 use crate::bytes::part;
 ghost use mathlib.Core.Path.{_≡_};
 ghost use Prim.Native.Nat.{_≤_, _<_};
-ghost use Rattle.book.specs.Blocks.{blockAt, headOf};
+ghost use Rattle.book.specs.Blocks.{blockAt, headOf, ruleAt};
 ghost use Rattle.book.specs.Head.{columnCount, countIn, functionCount, label, operation, ownOperations, parentIn};
 ghost use Rattle.book.specs.Rule.{action, dataCategory, excludedUserCount, excludedUsers, exclusionCount, exclusions};
 ghost use Rattle.book.specs.Rule.{referenceCount, restrictionCount, restrictionMask, userCategory};
@@ -23,6 +23,14 @@ pub fn block_at(book: &[u8], i: u8) -> &[u8]
 {
     let at = i as usize;
     part(book, 512 * at, 512)
+}
+
+// The block of rule r.
+pub fn rule_at(book: &[u8], r: u8) -> &[u8]
+    ensures { λ b. ⌜ now b ≡ ruleAt (now (book .entry)) r ⌝ }
+{
+    let at = r as usize;
+    part(book, 512 * (4 + at), 512)
 }
 
 pub fn count(head: &[u8], which: Hierarchy) -> usize

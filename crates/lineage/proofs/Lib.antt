@@ -5,3 +5,4 @@ pub mod Steps
 pub mod Words
 pub mod Accepted
 pub mod FlowLaws
+pub mod Vectors
