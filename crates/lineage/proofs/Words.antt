@@ -189,3 +189,23 @@ access-words head plan r size fits at =
         let whole = word-of (member w) 64 in
         same-members 64 (getD r w 0) (word w) (fits w h) (whole .0) (λ d l. at w h d ∙ sym (whole .1 d))
         ∙ sym (getD-from word 0 32 w h ∙ ap word (zero-add w))
+
+-- "bit d of word 16 × s + k is set exactly when (s, d, k) is an access"
+pub access-bit :
+    (head plan : List ℕ) (s d k : ℕ)
+    → s < 2
+    → d < 64
+    → k < 16
+    → has (getD (accessWords head plan) (16 * s + k) 0) d ≡ isAccess head plan s d k
+unfolding accessWords upTo
+access-bit head plan s d k channel low small =
+    let whole : (16 * s + k) / 16 ≡ s = omega arith in
+    let rest : (16 * s + k) % 16 ≡ k = omega arith in
+    let z : 0 + (16 * s + k) ≡ 16 * s + k = omega arith in
+    rw (
+      getD-from (λ w. wordOf (λ e. isAccess head plan (w / 16) e (w % 16)) (from 0 64)) 0 32 (16 * s + k) (omega arith),
+      z,
+      whole,
+      rest,
+    )
+    (word-of (λ e. isAccess head plan s e k) 64 .1 d ∙ rw (lt-ltb d 64 low))
