@@ -1,0 +1,15 @@
+pub mod Quantifiers
+pub mod Choices
+pub mod Monotone
+pub mod Semantic
+pub mod Closing
+pub mod Verdict
+pub mod Marks
+pub mod Masks
+pub mod Offers
+pub mod Pairs
+pub mod Users
+pub mod Held
+pub mod Sound
+pub mod JudgeLaws
+pub mod Vectors

@@ -1,0 +1,54 @@
+-- Accesses, and which of them fit a reference of a rule. Document 01, "Breaking a rule". Assumes nothing.
+use Prim.Native.Nat.{ℕ, zero, suc}
+use mathlib.Core.Bool.{Bool, true, false, _&&_}
+use mathlib.Core.List.{List, [], _∷_, _++_, map}
+use lib.Dec.{eqb, ltb}
+use Rattle.book.specs.Lists.{upTo}
+use Rattle.book.specs.Head.{dataCount}
+use Rattle.book.specs.Rule.{action, inLeafSet}
+use Rattle.lineage.specs.Accesses.{isAccess}
+
+-- an access: 0 projection or 1 condition, a label, an operation
+pub record Access : Type 0 where
+  pub channel : ℕ
+  pub leaf : ℕ
+  pub operation : ℕ
+
+-- a set of accesses
+abbrev pub Accesses : Type 0
+Accesses = Access → Bool
+
+-- the accesses of a plan
+unfoldable pub accessesOf : List ℕ → List ℕ → Accesses
+accessesOf head plan x = isAccess head plan (x .channel) (x .leaf) (x .operation)
+
+-- the lists that f gives, one after the other
+unfoldable pub flat : {A B : Type 0} → (A → List B) → List A → List B
+flat f [] = []
+flat f (x ∷ xs) = f x ++ flat f xs
+
+unfoldable pub keep : {A : Type 0} → (A → Bool) → List A → List A
+keep f [] = []
+keep {A} f (x ∷ xs) = elim (f x) as (λ b. List A) [ true ↦ x ∷ keep f xs | false ↦ keep f xs ]
+
+-- every access that a book has categories for: projections first, then by leaf, then by operation
+unfoldable pub everyAccess : List ℕ → List Access
+everyAccess head =
+    flat (λ s. flat (λ d. map (λ k. record { channel = s; leaf = d; operation = k }) (upTo 16)) (upTo (dataCount head)))
+    (upTo 2)
+
+-- "1 projection, 2 condition, 3 access, meaning either"
+unfoldable pub actionFits : ℕ → ℕ → Bool
+actionFits zero s = false
+actionFits (suc zero) s = eqb s 0
+actionFits (suc (suc zero)) s = eqb s 1
+actionFits (suc (suc (suc zero))) s = ltb s 2
+actionFits (suc (suc (suc (suc a)))) s = false
+
+-- "with fitting action and covered leaf"
+unfoldable pub fits : List ℕ → List ℕ → ℕ → Access → Bool
+fits head rule i x = actionFits (action rule i) (x .channel) && inLeafSet head rule i (x .leaf)
+
+-- the accesses of a set that fit reference i
+unfoldable pub fitting : List ℕ → List ℕ → Accesses → ℕ → List Access
+fitting head rule accesses i = keep (λ x. accesses x && fits head rule i x) (everyAccess head)

@@ -1,0 +1,5 @@
+pub mod Accesses
+pub mod Words
+pub mod Breaking
+pub mod Semantics
+pub mod Answers
