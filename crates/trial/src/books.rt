@@ -7,7 +7,7 @@ use crate::tables::numbers;
 use crate::tables::piece;
 use crate::tables::starts;
 
-fn put(book: &mut [u8], i: usize, value: u8) {
+pub fn put(book: &mut [u8], i: usize, value: u8) {
     if i < book.len() {
         book[i] = value;
     }
@@ -23,7 +23,7 @@ fn put_times(book: &mut [u8], block: u32, offset: u32, value: u32, times: u32) {
     }
 }
 
-fn once_at_least(times: u32) -> u32 {
+pub fn once_at_least(times: u32) -> u32 {
     if times == 0 {
         return 1;
     }

@@ -7,17 +7,10 @@ use crate::books::shop;
 use crate::lines::checked;
 use crate::tables::after;
 use crate::tables::before;
-use crate::tables::number;
+use crate::tables::number_or;
 use crate::tables::piece;
 use crate::tables::starts;
 use book::bytes::part;
-
-fn length_or_seven_blocks(text: &[u8]) -> usize {
-    if text.len() == 0 {
-        return 3584;
-    }
-    number(text) as usize
-}
 
 fn tried(label: &[u8], edits: &[u8], later: &[u8], length: usize) {
     let mut space = [0u8; 18944];
@@ -35,7 +28,7 @@ fn case(label: &[u8], line: &[u8]) {
         label,
         before(line, b'|'),
         before(rest, b'|'),
-        length_or_seven_blocks(after(rest, b'|')),
+        number_or(after(rest, b'|'), 3584),
     );
 }
 

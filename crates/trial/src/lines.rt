@@ -11,6 +11,14 @@ pub fn number(n: u64) {
     io::print_decimal(STDOUT_FILENO, n);
 }
 
+pub fn say(holds: bool, yes: &[u8], no: &[u8]) {
+    if holds {
+        text(yes);
+        return;
+    }
+    text(no);
+}
+
 pub fn end() {
     text(b"\n");
 }

@@ -3,6 +3,7 @@
 // zeros.
 use crate::books::edit;
 use crate::lines;
+use crate::lines::say;
 use crate::lines::text;
 use crate::tables::after;
 use crate::tables::before;
@@ -21,14 +22,6 @@ fn same(a: &[u8], b: &[u8], start: usize, end: usize) -> bool {
         ok = ok & (byte_at(a, i) == byte_at(b, i));
     }
     ok
-}
-
-fn say(holds: bool, yes: &[u8], no: &[u8]) {
-    if holds {
-        text(yes);
-        return;
-    }
-    text(no);
 }
 
 // What Seal answered, and what became of the space's other bytes.

@@ -84,6 +84,14 @@ pub fn number(s: &[u8]) -> u32 {
     n
 }
 
+// A decimal number, or the other one where nothing is written.
+pub fn number_or(s: &[u8], other: usize) -> usize {
+    if s.len() == 0 {
+        return other;
+    }
+    number(s) as usize
+}
+
 // The word that is being read after a byte: spaces part the words.
 fn next_word(k: u8, byte: u8) -> u8 {
     if byte != b' ' {

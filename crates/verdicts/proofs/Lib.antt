@@ -13,3 +13,4 @@ pub mod Held
 pub mod Sound
 pub mod JudgeLaws
 pub mod Vectors
+pub mod Gate

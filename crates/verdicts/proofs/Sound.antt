@@ -61,7 +61,7 @@ module _ (head rule : List ℕ) (h : HeadHolds head) (r : RuleHolds head rule) (
         leaves = h .data-most;
         some = r .references-some;
         few = r .references-most;
-        absent = absent-mask
+        absent = absent-mask;
       }
 
 -- The mask of a plan
@@ -127,9 +127,9 @@ module _ (book : List ℕ) (user : ℕ) (plan : List ℕ) (n : ℕ) (accepted : 
       let m : ruleCount book ≤ 32 = few-rules in
       let small : wordOf f (upTo (ruleCount book)) < 2 ^ 32 = lt-of-lt-of-le (whole .0) (pow-mono m) in
       let e : mask ≡ wordOf f (upTo (ruleCount book)) =
-          same-members 64 mask (wordOf f (upTo (ruleCount book))) fits
-          (lt-of-lt-of-le small (pow-mono {i = 32} {j = 64} (omega arith)))
-          (λ r l. broken-bit total rules mask words t w rules-at mask-at r ∙ sym (whole .1 r)) in
+      same-members 64 mask (wordOf f (upTo (ruleCount book))) fits
+      (lt-of-lt-of-le small (pow-mono {i = 32} {j = 64} (omega arith)))
+      (λ r l. broken-bit total rules mask words t w rules-at mask-at r ∙ sym (whole .1 r)) in
       rw e (mod-eq-of-lt small)
 
   -- every rule of the book

@@ -1,5 +1,5 @@
--- Sets of accesses as 32 words, and what the functions on them promise to each other. The calls' promises lean on `heldBy`
--- alone. Assumes nothing.
+-- Sets of accesses as 32 words, and what the functions on them promise to each other. The calls' promises do not lean on
+-- this file. Assumes nothing.
 use Prim.Native.Nat.{ℕ, _+_, _*_, _≤_, _<_}
 use mathlib.Core.Path.{_≡_}
 use mathlib.Core.Bool.{Bool, _&&_, _||_, cond}
