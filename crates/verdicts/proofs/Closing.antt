@@ -11,14 +11,13 @@ use borrow.Author.Tests.{eqb-true, eqb-false, eq-eqb, ne-eqb, ltb-true, ltb-fals
 use Rattle.book.specs.Lists.{any, upTo}
 use Rattle.book.specs.Rule.{action, inLeafSet, referenceCount}
 use Rattle.book.proofs.Lists.{and-true, and-left, and-right, and-both, and-or, and-over, or-end, eqb-sym, same-test}
-use Rattle.book.proofs.Lists.{any-same, any-both, any-found, none-at, at-none}
+use Rattle.book.proofs.Lists.{any-same, any-both, any-found, any-from-same, none-at, at-none}
 use Rattle.verdicts.specs.Accesses.{Access, Accesses, everyAccess, actionFits, fits}
 use Rattle.verdicts.specs.Words.{RuleSound, offers, offersOrNone}
 use Rattle.verdicts.specs.Breaking.{someChoiceRefused}
-use Rattle.verdicts.proofs.Choices.{any-agree, all-below, any-at, any-equal, access, known, every-known}
-use Rattle.verdicts.proofs.Choices.{any-fitting, someChosen, chosen-offers, onThree, refusesThree}
-use Rattle.verdicts.proofs.Choices.{refused-chosen}
-use Rattle.verdicts.proofs.Monotone.{in-every, fits-known}
+use Rattle.verdicts.proofs.Quantifiers.{any-at, any-equal}
+use Rattle.verdicts.proofs.Accesses.{access, known, every-known, in-every, fits-known, any-fitting}
+use Rattle.verdicts.proofs.Choices.{someChosen, chosen-offers, onThree, refusesThree, refused-chosen}
 
 -- A set with one access added
 
@@ -334,6 +333,7 @@ module _
         someChoiceRefused head rule accesses ≡ false
         → someChoiceRefused head rule (accesses with y)
         ≡ any (λ i. fits head rule i y && closes head rule accesses i (y .operation)) (upTo (referenceCount rule))
+    unfolding upTo
     closing kept = go (any (λ i. fits head rule i y) (upTo (referenceCount rule))) refl
       where
         go :
@@ -347,10 +347,9 @@ module _
             closing-at i (found .2) (found .1)
             ∙ ap (λ (b : Bool). b || closes head rule accesses i (y .operation)) kept
             ∙ sym
-            (any-agree (λ j. fits head rule j y && closes head rule accesses j (y .operation))
-            (λ j. eqb i j && closes head rule accesses j (y .operation)) (λ j. ltb j (referenceCount rule))
-            (upTo (referenceCount rule)) (all-below (referenceCount rule))
-            (λ j l. rw (fits-one head rule apart y i j (found .2) (ltb-true j (referenceCount rule) l) (found .1)))
+            (any-from-same (λ j. fits head rule j y && closes head rule accesses j (y .operation))
+            (λ j. eqb i j && closes head rule accesses j (y .operation)) 0 (referenceCount rule)
+            (λ j lo hi. rw (fits-one head rule apart y i j (found .2) (omega arith) (found .1)))
             ∙ any-equal (λ j. closes head rule accesses j (y .operation)) (referenceCount rule) i (found .2))
         go false e =
             let no = none-at (λ i. fits head rule i y) (referenceCount rule) e in

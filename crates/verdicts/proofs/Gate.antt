@@ -4,28 +4,26 @@ use Prim.Native.Nat.{ℕ, _≤_, _<_}
 use native.Mathlib.Omega.{arith}
 use mathlib.Core.Path.{_≡_, refl, sym, _∙_}
 use mathlib.Core.Logic.{⊎-elim}
-use mathlib.Core.Bool.{Bool, true, false, _&&_}
+use mathlib.Core.Bool.{true, _&&_}
 use mathlib.Core.List.{List}
 use lib.Dec.{ltb}
-use Rattle.book.specs.Lists.{any, upTo}
 use Rattle.book.specs.Sets.{has}
 use Rattle.book.specs.Blocks.{headOf, ruleAt}
 use Rattle.book.specs.Head.{operation}
-use Rattle.book.specs.Answers.{checkAnswer, ruleCount}
+use Rattle.book.specs.Answers.{ruleCount}
 use Rattle.book.specs.declared.Checked.{Checked}
 use Rattle.book.specs.declared.Checked.the-variants.{Accepted, Refused}
 use Rattle.book.proofs.Accepted.{HeadHolds, accepted-head}
 use Rattle.book.proofs.Lists.{and-right}
 use Rattle.lineage.specs.Rows.{kindAt, rowA, rowCount}
 use Rattle.lineage.specs.Accesses.{gives, isAccess, reaches}
-use Rattle.lineage.specs.Answers.{planAnswer}
 use Rattle.lineage.proofs.Accepted.{PlanHolds, Had, Taken, accepted-plan, reaches-had}
 use Rattle.verdicts.specs.Accesses.{Access, accessesOf}
 use Rattle.verdicts.specs.Breaking.{breaks, brokenMask}
 use Rattle.verdicts.specs.Semantics.{SatisfiesRule}
 use Rattle.verdicts.specs.Answers.{judgeAnswer, judgeCheck, judgedOf}
 use Rattle.verdicts.specs.declared.Judged.the-variants as judged
-use Rattle.verdicts.proofs.Quantifiers.{found-at}
+use Rattle.verdicts.proofs.Quantifiers.{any-at}
 use Rattle.verdicts.proofs.JudgeLaws.{judge-accepted}
 use Rattle.verdicts.proofs.Verdict.{mask-bit, empty-satisfies, satisfies-empty}
 
@@ -49,12 +47,12 @@ pub plan-operations :
 unfolding accessesOf isAccess
 plan-operations head plan book holds x h =
     let w =
-    found-at (λ i. gives (kindAt plan i) (x .channel) && reaches head plan (rowA plan i) (x .leaf) (x .operation))
+    any-at (λ i. gives (kindAt plan i) (x .channel) && reaches head plan (rowA plan i) (x .leaf) (x .operation))
     (rowCount plan) h in
     had-small head (x .leaf) (x .operation) book
     (reaches-had head plan holds (rowA plan (w .0)) (x .leaf) (x .operation)
     (and-right (gives (kindAt plan (w .0)) (x .channel)) (reaches head plan (rowA plan (w .0)) (x .leaf) (x .operation))
-    (w .2)))
+    (w .1)))
 
 -- Judge's answer
 

@@ -1,4 +1,4 @@
--- A loop `found = found | word_if(test, single(i))`: what `found` holds after i turns. Assumes nothing.
+-- Laws of a loop `found = found | word_if(test, single(i))`: what `found` holds after i turns. Assumes nothing.
 use Prim.Native.Nat.{ℕ, _+_, _^_, _≤_, _<_}
 use native.Mathlib.Omega.{arith}
 use mathlib.Core.Path.{_≡_, refl}
@@ -11,10 +11,24 @@ use Rattle.book.specs.Sets.{has, WordOf}
 use Rattle.book.proofs.Lists.{and-end, and-false, or-end, ltb-more, not-any}
 use Rattle.book.proofs.Members.{has-zero, has-or, empty-none}
 
+-- Words
+
 -- a word, or the empty one
 pub has-if : (t : Bool) (word r j : ℕ) → r ≡ cond t word 0 → has r j ≡ (t && has word j)
 has-if true word r j e = rw e
 has-if false word r j e = rw (e, has-zero)
+
+-- the code's `word != 0`
+pub not-empty : (n word : ℕ) → word < 2 ^ n → not (eqb word 0) ≡ any (has word) (upTo n)
+not-empty n word h =
+    rw (empty-none n word h)
+    (go (any (has word) (upTo n)) (all (λ i. not (has word i)) (upTo n)) (not-any (has word) (upTo n)))
+  where
+    go : (a b : Bool) → not a ≡ b → not b ≡ a
+    go true b e = rw (← e)
+    go false b e = rw (← e)
+
+-- The loop
 
 -- the members of a word are the numbers below i that pass f
 abbrev pub Marks : (ℕ → Bool) → ℕ → ℕ → Type 0
@@ -47,12 +61,3 @@ pub marks-end : (f : ℕ → Bool) (i n word : ℕ) → Marks f i word → i ≤
 marks-end f i n word old low high =
     let e : n ≡ i = omega arith in
     rw e old
-
--- the code's `word != 0`
-pub not-empty : (n word : ℕ) → word < 2 ^ n → not (eqb word 0) ≡ any (has word) (upTo n)
-not-empty n word h =
-    rw (empty-none n word h) (go (any (has word) (upTo n)) (all (λ i. not (has word i)) (upTo n)) (not-any (has word) (upTo n)))
-  where
-    go : (a b : Bool) → not a ≡ b → not b ≡ a
-    go true b e = rw (← e)
-    go false b e = rw (← e)

@@ -1,37 +1,121 @@
--- Laws of what a reference is offered: the accesses of a set that fit it, as words, and for sets that agree.
+-- Laws of what a reference is offered: the operations of the accesses that fit it, by their accesses and as words.
 -- Assumes nothing.
-use Prim.Native.Nat.{ℕ, zero, suc, _+_, _^_, _≤_, _<_}
+use Prim.Native.Nat.{ℕ, _+_, _^_, _≤_, _<_}
 use native.Mathlib.Nat.{zero-add, lt-of-le-of-lt}
 use native.Mathlib.Omega.{arith}
-use mathlib.Core.Path.{_≡_, refl, sym, _∙_}
+use mathlib.Core.Path.{_≡_, refl, sym, subst, _∙_}
 use mathlib.Core.Bool.{Bool, true, false, _&&_, _||_, not, cond}
-use mathlib.Core.List.{List, map}
+use mathlib.Core.List.{List}
 use lib.ListN.{getD}
 use lib.Dec.{eqb, ltb}
 use lib.Bits.{bitAnd, bitOr, and-le-r}
-use borrow.Author.Tests.{ltb-true, lt-ltb, le-ltb}
-use Rattle.book.specs.Lists.{all, any, upTo}
+use borrow.Author.Tests.{ltb-true, lt-ltb, le-ltb, eqb-true, eq-eqb}
+use Rattle.book.specs.Lists.{any, upTo}
 use Rattle.book.specs.Sets.{has, WordOf}
-use Rattle.book.specs.Hierarchies.{leaf, covers}
-use Rattle.book.specs.Head.{dataCount, dataParent, isDataLeaf}
-use Rattle.book.specs.Rule.{action, dataCategory, exclusions, inLeafSet, referenceCount}
-use Rattle.book.proofs.Lists.{and-left, and-right, and-second, and-false, and-over, any-map, any-both, any-same}
+use Rattle.book.specs.Head.{dataCount}
+use Rattle.book.specs.Rule.{action, inLeafSet, referenceCount}
+use Rattle.book.proofs.Lists.{and-true, and-left, and-right, and-both, and-second, and-false, and-over, same-test}
+use Rattle.book.proofs.Lists.{any-both}
 use Rattle.book.proofs.Members.{has-or, has-and, single-in}
-use Rattle.verdicts.specs.Accesses.{Access, Accesses, actionFits, everyAccess, fits, fitting, flat}
+use Rattle.verdicts.specs.Accesses.{Access, Accesses, actionFits, fits, fitting}
 use Rattle.verdicts.specs.Words.{heldBy, offers, offersOrNone}
-use Rattle.verdicts.proofs.Quantifiers.{any-witness, any-below-same, any-equal, any-two, any-flat, any-keep}
+use Rattle.verdicts.proofs.Quantifiers.{at-any, any-at, any-witness, any-two}
 use Rattle.verdicts.proofs.Marks.{has-if, Marks, not-empty}
+use Rattle.verdicts.proofs.Accesses.{access, leaf-set-below, fits-bounds, in-fitting, found-fitting}
 
--- Actions
+-- Offers by accesses
 
-pub action-other :
-    (a s : ℕ) → (a ≡ 1 → ⊥) → (a ≡ 2 → ⊥) → (a ≡ 3 → ⊥) → false ≡ actionFits a s
-unfolding actionFits
-action-other zero s p q r = refl
-action-other (suc zero) s p q r = absurd (p refl)
-action-other (suc (suc zero)) s p q r = absurd (q refl)
-action-other (suc (suc (suc zero))) s p q r = absurd (r refl)
-action-other (suc (suc (suc (suc a)))) s p q r = refl
+module _ (head rule : List ℕ) (accesses : Accesses) (i : ℕ) where
+  -- an offer by an access, and back
+  pub in-offers :
+      (k : ℕ) (x : Access)
+      → accesses x ≡ true
+      → fits head rule i x ≡ true
+      → x .operation ≡ k
+      → k < 16
+      → offers head rule accesses i k ≡ true
+  unfolding offers
+  in-offers k x a f e l =
+      in-fitting head rule accesses i (λ y. eqb (y .operation) k) x (rw e l) a f (eq-eqb (x .operation) k e)
+
+  pub found-offers :
+      (k : ℕ)
+      → offers head rule accesses i k ≡ true
+      → (x : Access) × (accesses x ≡ true) × (fits head rule i x ≡ true) × (x .operation ≡ k) × (k < 16)
+  unfolding offers
+  found-offers k h =
+      let found = found-fitting head rule accesses i (λ y. eqb (y .operation) k) h in
+      let e = eqb-true (found .0 .operation) k (found .3) in
+      (found .0, found .1, found .2, e, rw e at (found .4))
+
+  -- a test of the operation alone, of the accesses that fit
+  pub any-operation :
+      (q : ℕ → Bool)
+      → any (λ x. q (x .operation)) (fitting head rule accesses i)
+      ≡ any (λ k. offers head rule accesses i k && q k) (upTo 16)
+  any-operation q =
+      same-test (any (λ x. q (x .operation)) (fitting head rule accesses i))
+      (any (λ k. offers head rule accesses i k && q k) (upTo 16))
+      (λ h.
+      let f = found-fitting head rule accesses i (λ x. q (x .operation)) h in
+      let k = f .0 .operation in
+      at-any (λ k. offers head rule accesses i k && q k) 16 k (f .4)
+      (and-true (offers head rule accesses i k) (q k) (in-offers k (f .0) (f .1) (f .2) refl (f .4)) (f .3)))
+      (λ h.
+      let w = any-at (λ k. offers head rule accesses i k && q k) 16 h in
+      let b = and-both (offers head rule accesses i (w .0)) (q (w .0)) (w .1) in
+      let f = found-offers (w .0) (b .0) in
+      in-fitting head rule accesses i (λ x. q (x .operation)) (f .0) (rw (f .3) (f .4)) (f .1) (f .2)
+      (rw (f .3) (b .1)))
+
+  -- by channel and leaf
+  pub offers-by-leaf :
+      (k : ℕ)
+      → k < 16
+      → offers head rule accesses i k
+      ≡ any
+      (λ s. any (λ d. accesses (access s d k) && fits head rule i (access s d k)) (upTo (dataCount head)))
+      (upTo 2)
+  offers-by-leaf k small =
+      same-test (offers head rule accesses i k) (any row (upTo 2))
+      (λ h.
+      let f = found-offers k h in
+      let x = f .0 in
+      let bounds = fits-bounds head rule i x (f .2) in
+      at-any row 2 (x .channel) (bounds .0)
+      (at-any (passes (x .channel)) (dataCount head) (x .leaf) (bounds .1)
+      (subst (λ (m : ℕ). passesWith m (x .channel) (x .leaf) ≡ true) (f .3)
+      (and-true (accesses x) (fits head rule i x) (f .1) (f .2)))))
+      (λ h.
+      let s = any-at row 2 h in
+      let d = any-at (passes (s .0)) (dataCount head) (s .1) in
+      let x = access (s .0) (d .0) k in
+      let b = and-both (accesses x) (fits head rule i x) (d .1) in
+      in-offers k x (b .0) (b .1) refl small)
+    where
+      passesWith : ℕ → ℕ → ℕ → Bool
+      passesWith m s d = accesses (access s d m) && fits head rule i (access s d m)
+
+      passes : ℕ → ℕ → Bool
+      passes = passesWith k
+
+      row : ℕ → Bool
+      row s = any (passes s) (upTo (dataCount head))
+
+-- Absent references
+
+module _ (head rule : List ℕ) (accesses : Accesses) (i k : ℕ) where
+  pub offers-present :
+      i < referenceCount rule
+      → offers head rule accesses i k ≡ offersOrNone head rule accesses i k
+  unfolding offersOrNone
+  offers-present l = rw (lt-ltb i (referenceCount rule) l)
+
+  pub offers-absent : referenceCount rule ≤ i → offersOrNone head rule accesses i k ≡ eqb k 0
+  unfolding offersOrNone
+  offers-absent l = rw (le-ltb i (referenceCount rule) l)
+
+-- Offers by words
 
 -- the leaves that the words hold with operation k, in the channels that fit an action
 abbrev pub heldWith : List ℕ → ℕ → ℕ → ℕ → Bool
@@ -47,55 +131,6 @@ pub held-joined :
     → has (bitOr x y) d ≡ heldWith words a k d
 held-joined words a k x y d p q ep eq ex ey =
     rw (has-or, has-if p (getD words k 0) x d ex, has-if q (getD words (16 + k) 0) y d ey, ep, eq)
-
--- The accesses that fit
-
--- an access by its parts
-abbrev pub access : ℕ → ℕ → ℕ → Access
-access s d k = record { channel = s; leaf = d; operation = k }
-
-module _ (head rule : List ℕ) (i k : ℕ) (small : k < 16) where
-  -- "with fitting action and covered leaf", by channel and leaf
-  pub offers-by-leaf :
-      (accesses : Accesses)
-      → offers head rule accesses i k
-      ≡ any
-      (λ s. any (λ d. accesses (access s d k) && fits head rule i (access s d k)) (upTo (dataCount head)))
-      (upTo 2)
-  unfolding offers fitting everyAccess
-  offers-by-leaf accesses =
-      any-keep same passes (flat rows (upTo 2))
-      ∙ any-flat (λ x. passes x && same x) rows (upTo 2)
-      ∙ any-same (λ s. any (λ x. passes x && same x) (rows s)) (λ s. any (λ d. passes (access s d k)) (upTo (dataCount head)))
-      (λ s.
-      any-flat (λ x. passes x && same x) (row s) (upTo (dataCount head))
-      ∙ any-same (λ d. any (λ x. passes x && same x) (row s d)) (λ d. passes (access s d k))
-      (λ d.
-      any-map (λ x. passes x && same x) (access s d) (upTo 16)
-      ∙ any-equal (λ j. passes (access s d j)) 16 k small)
-      (upTo (dataCount head)))
-      (upTo 2)
-    where
-      same : Access → Bool
-      same x = eqb (x .operation) k
-
-      passes : Access → Bool
-      passes x = accesses x && fits head rule i x
-
-      row : ℕ → ℕ → List Access
-      row s d = map (access s d) (upTo 16)
-
-      rows : ℕ → List Access
-      rows s = flat (row s) (upTo (dataCount head))
-
--- a leaf set lies below the number of data categories
-leaf-within : (head rule : List ℕ) (i d : ℕ) → inLeafSet head rule i d ≡ true → d < dataCount head
-unfolding inLeafSet isDataLeaf leaf
-leaf-within head rule i d h =
-    ltb-true d (dataCount head)
-    (and-left (ltb d (dataCount head))
-    (all (λ j. eqb j d || not (eqb (dataParent head j) d)) (upTo (dataCount head)))
-    (and-left (isDataLeaf head d) (covers (dataParent head) (dataCategory rule i) (exclusions rule i) d) h))
 
 -- a reference is offered k where the words that hold it meet the reference's leaf set
 module _ (head rule words : List ℕ) (i k : ℕ) (small : k < 16) where
@@ -132,36 +167,19 @@ module _ (head rule words : List ℕ) (i k : ℕ) (small : k < 16) where
       ∙ any-witness (has (bitAnd held leaves)) (λ d. by 0 d || by 1 d) 64 (dataCount head)
       (λ d l h.
       let both : (by 0 d || by 1 d) ≡ true = sym (same d l) ∙ h in (
-        leaf-within head rule i d
+        leaf-set-below head rule i d
             (and-right (heldWith words (action rule i) k d) (inLeafSet head rule i d) (sym (by-word d) ∙ both)),
         both,
       ))
       (λ d l h. let below : d < 64 = omega arith in (below, same d below ∙ h))
       ∙ any-both (by 0) (by 1) (upTo (dataCount head))
       ∙ sym (any-two (λ s. any (by s) (upTo (dataCount head))))
-      ∙ sym (offers-by-leaf head rule i k small (heldBy words))
+      ∙ sym (offers-by-leaf head rule (heldBy words) i k small)
     where
       same : (d : ℕ) → d < 64 → has (bitAnd held leaves) d ≡ (by 0 d || by 1 d)
       same d l = rw (has-and held leaves d, in-words d, covered d, lt-ltb d 64 l) (sym (by-word d))
 
--- sets of accesses that agree where a book has categories
-pub offers-same :
-    (head rule : List ℕ) (i k : ℕ) (first second : Accesses)
-    → k < 16
-    → dataCount head ≤ 64
-    → ((s d : ℕ) → s < 2 → d < 64 → first (access s d k) ≡ second (access s d k))
-    → offers head rule first i k ≡ offers head rule second i k
-offers-same head rule i k first second small few agree =
-    offers-by-leaf head rule i k small first
-    ∙ any-below-same (λ s. any (by first s) (upTo (dataCount head))) (λ s. any (by second s) (upTo (dataCount head))) 2
-    (λ s two.
-    any-below-same (by first s) (by second s) (dataCount head) (λ d l. rw (agree s d two (omega arith))))
-    ∙ sym (offers-by-leaf head rule i k small second)
-  where
-    by : Accesses → ℕ → ℕ → Bool
-    by accesses s d = accesses (access s d k) && fits head rule i (access s d k)
-
--- The operations that a reference is offered, as a word
+-- Offers as a word
 
 module _ (head rule : List ℕ) (accesses : Accesses) (i : ℕ) where
   pub offered-present :

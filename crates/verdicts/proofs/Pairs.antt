@@ -1,4 +1,5 @@
--- A rule by the pairs of operations of its first two references: the 256 steps of the code. Assumes nothing.
+-- Laws of pairs: a rule by the pairs of operations of its first two references, the 256 steps of the code.
+-- Assumes nothing.
 use Prim.Native.Nat.{ℕ, _+_, _-_, _/_, _%_, _^_, _<_}
 use native.Mathlib.Nat.{lt-of-le-of-lt}
 use native.Mathlib.Omega.{arith}
@@ -19,14 +20,15 @@ use Rattle.verdicts.specs.Breaking.{someChoiceRefused}
 use Rattle.verdicts.proofs.Quantifiers.{any-below, any-pairs}
 use Rattle.verdicts.proofs.Marks.{not-empty}
 use Rattle.verdicts.proofs.Masks.{Beside, beside}
-use Rattle.verdicts.proofs.Choices.{refused-by-operations}
+use Rattle.verdicts.proofs.Choices.{refusesThree, refused-by-operations}
+
+-- Pairs
 
 module _ (head rule : List ℕ) (accesses : Accesses) where
   -- an operation of the third reference that no restriction takes beside a and b
   unfoldable pub thirdRefused : ℕ → ℕ → Bool
   thirdRefused a b =
-      any (λ c. offersOrNone head rule accesses 2 c && not (any (beside rule a b c) (upTo (restrictionCount rule))))
-      (upTo 16)
+      any (λ c. offersOrNone head rule accesses 2 c && refusesThree rule a b c) (upTo 16)
 
   -- pair p of operations is offered, and such an operation with it
   unfoldable pub pairRefused : ℕ → Bool
@@ -37,7 +39,7 @@ module _ (head rule : List ℕ) (accesses : Accesses) where
   pub refused-by-pairs : RuleSound head rule → someChoiceRefused head rule accesses ≡ any pairRefused (upTo 256)
   unfolding thirdRefused pairRefused
   refused-by-pairs sound =
-      refused-by-operations head rule accesses sound
+      refused-by-operations head rule sound accesses
       ∙ any-same (λ a. offersOrNone head rule accesses 0 a && any (second a) (upTo 16)) (λ a. any (pair a) (upTo 16))
       (λ a. sym (any-where (second a) (offersOrNone head rule accesses 0 a) (upTo 16)))
       (upTo 16)
@@ -62,7 +64,7 @@ module _ (head rule : List ℕ) (accesses : Accesses) where
       → Offered 2 third
       → Beside rule a b (restrictionCount rule) taken
       → not (eqb (bitAnd third ((2 ^ 64 - 1) - taken)) 0) ≡ thirdRefused a b
-  unfolding thirdRefused
+  unfolding thirdRefused refusesThree
   third-test a b third taken lt lu offered took =
       not-empty 64 (bitAnd third ((2 ^ 64 - 1) - taken)) (lt-of-le-of-lt (and-le-l third ((2 ^ 64 - 1) - taken)) lt)
       ∙ any-same (has (bitAnd third ((2 ^ 64 - 1) - taken))) (λ c. ltb c 16 && rest c)
@@ -104,7 +106,10 @@ module _ (head rule : List ℕ) (accesses : Accesses) where
       pub pair-taken : bitAnd third ((2 ^ 64 - 1) - taken) ≡ 0 → pairRefused p ≡ false
       pair-taken h =
           pair-test
-          ∙ rw (← (third-test (p / 16) (p % 16) third taken lt lu offered took), eq-eqb (bitAnd third ((2 ^ 64 - 1) - taken)) 0 h)
+          ∙ rw (
+            ← (third-test (p / 16) (p % 16) third taken lt lu offered took),
+            eq-eqb (bitAnd third ((2 ^ 64 - 1) - taken)) 0 h,
+          )
           (and-false (x && y))
 
       pub pair-refused : (x && y) ≡ true → (bitAnd third ((2 ^ 64 - 1) - taken) ≡ 0 → ⊥) → pairRefused p ≡ true
@@ -115,6 +120,8 @@ module _ (head rule : List ℕ) (accesses : Accesses) where
             ← (third-test (p / 16) (p % 16) third taken lt lu offered took),
             ne-eqb (bitAnd third ((2 ^ 64 - 1) - taken)) 0 h,
           )
+
+-- The loop
 
 -- no pair below p is refused, given what the words are
 abbrev pub NoneRefused : List ℕ → List ℕ → ℕ → ℕ → ℕ → ℕ → Type 0

@@ -1,30 +1,81 @@
--- Laws of quantifiers: witnesses among the numbers below n, two numbers as one, and the lists of `flat` and `keep`.
+-- Laws of quantifiers: over the lists of `flat` and `keep`, and over the numbers below n with their witnesses.
 -- Assumes nothing.
-use Prim.Native.Nat.{ℕ, _+_, _*_, _/_, _%_, _≤_, _<_}
+use Prim.Native.Nat.{ℕ, zero, suc, _+_, _*_, _/_, _%_, _≤_, _<_}
 use native.Mathlib.Omega.{arith}
 use mathlib.Core.Path.{_≡_, refl, sym, _∙_}
-use mathlib.Core.Bool.{Bool, true, false, _&&_, _||_}
+use mathlib.Core.Bool.{Bool, true, false, _&&_, _||_, false≢true}
 use mathlib.Core.List.{List, [], _∷_}
 use lib.Dec.{eqb, ltb}
 use borrow.Author.Tests.{ltb-true, lt-ltb, eqb-true, eq-eqb}
-use Rattle.book.specs.Lists.{any, from, upTo}
-use Rattle.book.proofs.Lists.{and-true, and-left, and-right, and-both, or-end, same-test, any-append, any-found, at-all, none-at}
+use Rattle.book.specs.Lists.{any, all, from, upTo}
+use Rattle.book.proofs.Lists.{and-true, and-left, and-right, and-both, or-otherwise, or-rest, or-end, same-test}
+use Rattle.book.proofs.Lists.{any-append, append-all, any-found, at-all, none-at, all-three}
 use Rattle.verdicts.specs.Accesses.{flat, keep}
 
--- Witnesses
+-- Lists
 
+-- a test that another one makes pass
+pub any-wider :
+    {A : Type 0} (f g : A → Bool) (l : List A)
+    → ((x : A) → f x ≡ true → g x ≡ true)
+    → any f l ≡ true
+    → any g l ≡ true
+unfolding any
+any-wider f g [] h p = p
+any-wider f g (x ∷ l) h p =
+    or-otherwise (g x) (any g l) (λ e. any-wider f g l h (or-rest (f x) (any f l) p (go (f x) refl e)))
+  where
+    go : (b : Bool) → f x ≡ b → g x ≡ false → b ≡ false
+    go true e n = absurd (false≢true (sym n ∙ h x e))
+    go false e n = refl
+
+module _ {A : Type 0} (f : A → Bool) where
+  pub any-flat : {B : Type 0} (g : B → List A) (l : List B) → any f (flat g l) ≡ any (λ x. any f (g x)) l
+  unfolding any flat
+  any-flat g [] = refl
+  any-flat g (x ∷ l) = any-append f (g x) (flat g l) ∙ rw (any-flat g l)
+
+  pub flat-all :
+      {B : Type 0} (g : B → List A) (h : B → Bool)
+      → ((x : B) → h x ≡ true → all f (g x) ≡ true)
+      → (l : List B) → all h l ≡ true → all f (flat g l) ≡ true
+  unfolding all flat
+  flat-all g h e [] p = refl
+  flat-all g h e (x ∷ l) p =
+      append-all f (g x) (flat g l) (e x (and-left (h x) (all h l) p))
+      (flat-all g h e l (and-right (h x) (all h l) p))
+
+  pub any-keep : (g : A → Bool) (l : List A) → any f (keep g l) ≡ any (λ x. g x && f x) l
+  unfolding any keep
+  any-keep g [] = refl
+  any-keep g (x ∷ l) = go (g x) (any-keep g l)
+    where
+      go :
+          (b : Bool)
+          → any f (keep g l) ≡ any (λ y. g y && f y) l
+          → any f (elim b as (λ t. List A) [ true ↦ x ∷ keep g l | false ↦ keep g l ])
+          ≡ (b && f x || any (λ y. g y && f y) l)
+      go true e = rw e
+      go false e = e
+
+-- The numbers below n
+
+pub all-below : (n : ℕ) → all (λ k. ltb k n) (upTo n) ≡ true
+all-below n = at-all (λ k. ltb k n) n (λ j l. lt-ltb j n l)
+
+-- a witness, and back
 module _ (f : ℕ → Bool) (n : ℕ) where
-  pub some-at : (j : ℕ) → j < n → f j ≡ true → any f (upTo n) ≡ true
-  some-at j l e = go (any f (upTo n)) refl
+  pub at-any : (j : ℕ) → j < n → f j ≡ true → any f (upTo n) ≡ true
+  at-any j l h = go (any f (upTo n)) refl
     where
       go : (b : Bool) → any f (upTo n) ≡ b → b ≡ true
-      go true h = refl
-      go false h = sym (none-at f n h j l) ∙ e
+      go true e = refl
+      go false e = sym (none-at f n e j l) ∙ h
 
-  pub found-at : any f (upTo n) ≡ true → (j : ℕ) × (j < n) × (f j ≡ true)
-  found-at h =
-      let found = any-found f (λ j. ltb j n) (upTo n) h (at-all (λ j. ltb j n) n (λ j l. lt-ltb j n l)) in
-      (found .0, ltb-true (found .0) n (found .2), found .1)
+  pub any-at : any f (upTo n) ≡ true → (j : ℕ) × (f j ≡ true) × (j < n)
+  any-at h =
+      let found = any-found f (λ k. ltb k n) (upTo n) h (all-below n) in
+      (found .0, found .1, ltb-true (found .0) n (found .2))
 
 -- tests with the same witnesses
 pub any-witness :
@@ -35,19 +86,13 @@ pub any-witness :
 any-witness f g m n there back =
     same-test (any f (upTo m)) (any g (upTo n))
     (λ h.
-    let w = found-at f m h in
-    let v = there (w .0) (w .1) (w .2) in
-    some-at g n (w .0) (v .0) (v .1))
+    let w = any-at f m h in
+    let v = there (w .0) (w .2) (w .1) in
+    at-any g n (w .0) (v .0) (v .1))
     (λ h.
-    let w = found-at g n h in
-    let v = back (w .0) (w .1) (w .2) in
-    some-at f m (w .0) (v .0) (v .1))
-
--- tests that agree on the numbers below n
-pub any-below-same :
-    (f g : ℕ → Bool) (n : ℕ) → ((j : ℕ) → j < n → f j ≡ g j) → any f (upTo n) ≡ any g (upTo n)
-any-below-same f g n e =
-    any-witness f g n n (λ j l h. (l, sym (e j l) ∙ h)) (λ j l h. (l, e j l ∙ h))
+    let w = any-at g n h in
+    let v = back (w .0) (w .2) (w .1) in
+    at-any f m (w .0) (v .0) (v .1))
 
 -- a test that only numbers below n pass
 pub any-below : (f : ℕ → Bool) (n m : ℕ) → n ≤ m → any (λ j. ltb j n && f j) (upTo m) ≡ any f (upTo n)
@@ -56,20 +101,33 @@ any-below f n m h =
     (λ j l e. (ltb-true j n (and-left (ltb j n) (f j) e), and-right (ltb j n) (f j) e))
     (λ j l e. (omega arith, and-true (ltb j n) (f j) (lt-ltb j n l) e))
 
--- the one number that equals k
-pub any-equal : (f : ℕ → Bool) (n k : ℕ) → k < n → any (λ j. f j && eqb j k) (upTo n) ≡ f k
-any-equal f n k l =
-    same-test (any (λ j. f j && eqb j k) (upTo n)) (f k)
+-- a test that one number alone can pass
+pub any-equal : (f : ℕ → Bool) (n m : ℕ) → m < n → any (λ k. eqb m k && f k) (upTo n) ≡ f m
+any-equal f n m l =
+    same-test (any (λ k. eqb m k && f k) (upTo n)) (f m)
     (λ h.
-    let w = found-at (λ j. f j && eqb j k) n h in
-    let both = and-both (f (w .0)) (eqb (w .0) k) (w .2) in
-    let e : w .0 ≡ k = eqb-true (w .0) k (both .1) in
-    rw e at (both .0))
-    (λ h. some-at (λ j. f j && eqb j k) n k l (and-true (f k) (eqb k k) h (eq-eqb k k refl)))
+    let a = any-at (λ k. eqb m k && f k) n h in
+    let b = and-both (eqb m (a .0)) (f (a .0)) (a .1) in
+    rw (eqb-true m (a .0) (b .0)) (b .1))
+    (λ h. at-any (λ k. eqb m k && f k) n m l (and-true (eqb m m) (f m) (eq-eqb m m refl) h))
 
 pub any-two : (f : ℕ → Bool) → any f (upTo 2) ≡ (f 0 || f 1)
 unfolding any upTo from
 any-two f = rw or-end
+
+-- a test that passes from n on, of the three numbers
+pub all-padded :
+    (f : ℕ → Bool) (n : ℕ)
+    → 1 ≤ n
+    → n ≤ 3
+    → ((i : ℕ) → n ≤ i → i < 3 → f i ≡ true)
+    → all f (upTo n) ≡ (f 0 && (f 1 && f 2))
+unfolding all upTo from
+all-padded f zero lo hi h = absurd (omega arith)
+all-padded f (suc zero) lo hi h = rw (h 1 (omega arith) (omega arith), h 2 (omega arith) (omega arith))
+all-padded f (suc (suc zero)) lo hi h = rw (h 2 (omega arith) (omega arith))
+all-padded f (suc (suc (suc zero))) lo hi h = all-three f
+all-padded f (suc (suc (suc (suc n)))) lo hi h = absurd (omega arith)
 
 -- two numbers as one: p / 16 and p % 16
 pub any-pairs :
@@ -78,45 +136,23 @@ pub any-pairs :
 any-pairs f =
     same-test (any pair (upTo 256)) (any row (upTo 16))
     (λ h.
-    let w = found-at pair 256 h in
+    let w = any-at pair 256 h in
     let p = w .0 in
-    let l : p < 256 = w .1 in
-    some-at row 16 (p / 16) (omega arith) (some-at (f (p / 16)) 16 (p % 16) (omega arith) (w .2)))
+    let l : p < 256 = w .2 in
+    at-any row 16 (p / 16) (omega arith) (at-any (f (p / 16)) 16 (p % 16) (omega arith) (w .1)))
     (λ h.
-    let w = found-at row 16 h in
-    let v = found-at (f (w .0)) 16 (w .2) in
+    let w = any-at row 16 h in
+    let v = any-at (f (w .0)) 16 (w .1) in
     let a = w .0 in
     let b = v .0 in
-    let la : a < 16 = w .1 in
-    let lb : b < 16 = v .1 in
+    let la : a < 16 = w .2 in
+    let lb : b < 16 = v .2 in
     let high : (16 * a + b) / 16 ≡ a = omega arith in
     let low : (16 * a + b) % 16 ≡ b = omega arith in
-    some-at pair 256 (16 * a + b) (omega arith) (rw (high, low) (v .2)))
+    at-any pair 256 (16 * a + b) (omega arith) (rw (high, low) (v .1)))
   where
     pair : ℕ → Bool
     pair p = f (p / 16) (p % 16)
 
     row : ℕ → Bool
     row a = any (f a) (upTo 16)
-
--- Lists of lists, and of what passes a test
-
-pub any-flat :
-    {A B : Type 0} (f : B → Bool) (g : A → List B) (l : List A) → any f (flat g l) ≡ any (λ a. any f (g a)) l
-unfolding any flat
-any-flat f g [] = refl
-any-flat f g (x ∷ l) = any-append f (g x) (flat g l) ∙ rw (any-flat f g l)
-
-pub any-keep :
-    {A : Type 0} (f g : A → Bool) (l : List A) → any f (keep g l) ≡ any (λ x. g x && f x) l
-unfolding any keep
-any-keep f g [] = refl
-any-keep {A} f g (x ∷ l) = go (g x) (any-keep f g l)
-  where
-    go :
-        (b : Bool)
-        → any f (keep g l) ≡ any (λ y. g y && f y) l
-        → any f (elim b as (λ t. List A) [ true ↦ x ∷ keep g l | false ↦ keep g l ])
-        ≡ ((b && f x) || any (λ y. g y && f y) l)
-    go true more = rw more
-    go false more = more

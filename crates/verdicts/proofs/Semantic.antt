@@ -4,11 +4,11 @@ use native.Mathlib.Nat.{zero-add, add-zero}
 use native.Mathlib.Omega.{arith}
 use mathlib.Core.Path.{_≡_, refl, sym, ap, _∙_}
 use mathlib.Core.Logic.{_⊎_, inl, inr, ⊎-elim}
-use mathlib.Core.Bool.{Bool, true, false, _&&_, _||_, not, false≢true}
+use mathlib.Core.Bool.{Bool, true, false, _&&_, _||_, false≢true}
 use mathlib.Core.List.{List, [], _∷_, map}
 use lib.ListN.{getD}
 use lib.Dec.{eqb}
-use borrow.Author.Tests.{eqb-true, eqb-false, eq-eqb}
+use borrow.Author.Tests.{not-false, eqb-true, eqb-false, eq-eqb}
 use Rattle.book.specs.Lists.{any, from, upTo}
 use Rattle.book.specs.Sets.{has}
 use Rattle.book.specs.Rule.{coversUser, referenceCount, restrictionCount, restrictionMask}
@@ -17,8 +17,9 @@ use Rattle.verdicts.specs.Accesses.{Access, Accesses}
 use Rattle.verdicts.specs.Words.{offers}
 use Rattle.verdicts.specs.Breaking.{accepts, refusesAll, someChoiceRefused, breaks}
 use Rattle.verdicts.specs.Semantics.{Met, Applicable, SatisfiesRestriction, SatisfiesRule}
-use Rattle.verdicts.proofs.Choices.{at-any, any-at, someChosen, choice-operations}
-use Rattle.verdicts.proofs.Monotone.{in-offers, found-offers}
+use Rattle.verdicts.proofs.Quantifiers.{at-any, any-at}
+use Rattle.verdicts.proofs.Offers.{in-offers, found-offers}
+use Rattle.verdicts.proofs.Choices.{someChosen, choice-operations}
 
 -- Choices and vectors
 
@@ -89,10 +90,6 @@ listed P (suc n) i h =
     (first .0 ∷ rest .0, listed-at P n i (first .0) (rest .0) (first .1) (rest .1))
 
 -- Restrictions
-
-not-false : (a : Bool) → not a ≡ false → a ≡ true
-not-false true h = refl
-not-false false h = absurd (false≢true (sym h))
 
 or-either : (a b : Bool) → (a || b) ≡ true → (a ≡ true) ⊎ (b ≡ true)
 or-either true b h = inl refl

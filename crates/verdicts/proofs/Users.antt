@@ -1,13 +1,9 @@
--- Laws of users: a user is a leaf below the number of user categories, so a word of 64 bits tells every user.
--- Assumes nothing.
-use Prim.Native.Nat.{ℕ, _≤_, _<_}
-use native.Mathlib.Omega.{arith}
-use mathlib.Core.Path.{_≡_, _∙_}
-use mathlib.Core.Bool.{Bool, true, false, _||_, not}
+-- Laws of users: a user is a leaf of at most 64 user categories, so a word tells every user. Assumes nothing.
+use Prim.Native.Nat.{ℕ, _≤_}
+use mathlib.Core.Path.{_≡_, sym, _∙_}
+use mathlib.Core.Bool.{Bool, true, false}
 use mathlib.Core.List.{List}
-use lib.Dec.{eqb, ltb}
-use borrow.Author.Tests.{ltb-true, lt-ltb}
-use Rattle.book.specs.Lists.{all, upTo}
+use lib.Dec.{ltb}
 use Rattle.book.specs.Sets.{has, WordOf}
 use Rattle.book.specs.Hierarchies.{leaf, covers}
 use Rattle.book.specs.Head.{userCount, userParent, isUser}
@@ -15,36 +11,28 @@ use Rattle.book.specs.Rule.{userCategory, excludedUsers, coversUser}
 use Rattle.book.specs.Refusals.{firstFailing}
 use Rattle.book.specs.Answers.{refuse}
 use Rattle.book.specs.declared.Checked.the-variants.{Accepted, Refused}
-use Rattle.book.proofs.Lists.{and-left, and-second}
+use Rattle.book.proofs.Lists.{and-assoc}
+use Rattle.book.proofs.Hierarchies.{leaf-in-word}
 use Rattle.verdicts.specs.Answers.{userAnswer}
 
-user-within : (head : List ℕ) (user : ℕ) → isUser head user ≡ true → user < userCount head
-unfolding isUser leaf
-user-within head user h =
-    ltb-true user (userCount head)
-    (and-left (ltb user (userCount head))
-    (all (λ j. eqb j user || not (eqb (userParent head j) user)) (upTo (userCount head))) h)
+-- The code's tests
 
 module _ (head : List ℕ) (user word : ℕ) (t : Bool) (few : userCount head ≤ 64) (test : t ≡ has word user) where
   pub user-test : WordOf (leaf (userCount head) (userParent head)) word → t ≡ isUser head user
   unfolding isUser
-  user-test members =
-      test
-      ∙ members user
-      ∙ and-second (ltb user 64) (isUser head user)
-      (λ h. let l = user-within head user h in lt-ltb user 64 (omega arith))
+  user-test members = test ∙ members user ∙ leaf-in-word (userCount head) (userParent head) user few
 
   pub covered-test : (rule : List ℕ) → WordOf (coversUser head rule) word → t ≡ coversUser head rule user
-  unfolding coversUser
+  unfolding coversUser isUser
   covered-test rule members =
       test
       ∙ members user
-      ∙ and-second (ltb user 64) (coversUser head rule user)
-      (λ h.
-      let l =
-      user-within head user
-      (and-left (isUser head user) (covers (userParent head) (userCategory rule) (excludedUsers rule) user) h) in
-      lt-ltb user 64 (omega arith))
+      ∙ sym
+      (and-assoc (ltb user 64) (leaf (userCount head) (userParent head) user)
+      (covers (userParent head) (userCategory rule) (excludedUsers rule) user))
+      ∙ rw (leaf-in-word (userCount head) (userParent head) user few)
+
+-- The answer
 
 -- 20: "the user is no leaf"
 module _ (head : List ℕ) (user : ℕ) where

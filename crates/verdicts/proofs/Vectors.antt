@@ -1,56 +1,56 @@
--- The starred lines of document 01 on the small shop, as one list of cases. Assumes nothing.
+-- Theorems about the definitions, by computation: the starred lines of document 01 on plans for the small shop.
+-- Assumes nothing.
 use Prim.Native.Nat.{ℕ}
 use mathlib.Core.Path.{_≡_, refl}
-use mathlib.Core.List.{List, [], _∷_, _++_}
-use Rattle.book.specs.Blocks.{headOf}
+use mathlib.Core.List.{List, [], _∷_, map}
 use Rattle.book.specs.Lists.{all, any, upTo, from}
 use Rattle.book.specs.Sets.{has}
 use Rattle.book.specs.Hierarchies.{upwardIn, upward, under, leaf, covers, ownedBy, support}
 use Rattle.book.specs.Head.{isUser, isDataLeaf, supportOf, supports}
 use Rattle.book.specs.Rule.{coversUser, inLeafSet}
-use Rattle.book.specs.Blocks.{weighted, checkSum}
+use Rattle.book.specs.Blocks.{headOf, weighted, checkSum}
 use Rattle.book.specs.Answers.{withCheck, sealBytes}
 use Rattle.book.specs.Shop.{padded, block, users, categories, columns, functions, rule, rule0, rule1, rule2, shop}
 use Rattle.lineage.specs.Rows.{kindOf, kindAt}
 use Rattle.lineage.specs.Paths.{through, pathsBy, pathsIn, paths, labels, takes, firstOperation, carries}
 use Rattle.lineage.specs.Accesses.{reaches, gives, isAccess, wordOf}
+use Rattle.lineage.proofs.Vectors.{applyBoth, choose, output, condition, plan, state, city, price, avg, sum}
 use Rattle.verdicts.specs.Accesses.{accessesOf, flat, keep, everyAccess, actionFits, fits, fitting}
-use Rattle.verdicts.specs.Breaking.{choicesFrom, operations, accepts, refusesAll, someChoiceRefused, breaks, brokenMask}
+use Rattle.verdicts.specs.Breaking.{choicesFrom, operations, accepts, refusesAll, someChoiceRefused, breaks}
+use Rattle.verdicts.specs.Breaking.{brokenMask}
 
--- rows of a plan
-abbrev column : ℕ → List ℕ
-column c = 1 ∷ c ∷ 0 ∷ 0 ∷ []
-
-abbrev apply : ℕ → ℕ → ℕ → List ℕ
-apply f b c = 2 ∷ f ∷ b ∷ c ∷ []
-
-abbrev choose : ℕ → ℕ → ℕ → List ℕ
-choose a b c = 3 ∷ a ∷ b ∷ c ∷ []
-
-abbrev output : ℕ → List ℕ
-output r = 4 ∷ r ∷ 0 ∷ 0 ∷ []
-
-abbrev condition : ℕ → List ℕ
-condition r = 5 ∷ r ∷ 0 ∷ 0 ∷ []
-
--- columns 0 State, 1 City, 2 Price; functions 0 concat, 1 avg, 2 sum
-abbrev verdict : ℕ → List ℕ → ℕ
-verdict user plan = brokenMask shop 3 user (accessesOf (headOf shop) plan)
+-- the user, the rows of a plan, and the mask of the rules that they break
+unfoldable pub cases : List (ℕ × List (List ℕ) × ℕ)
+cases =
+    -- "Empty plan, user 1: 0."
+    (1, [], 0)
+    -- "State, City, avg(Price) output, user 1: 0."
+    ∷ (1, state ∷ city ∷ price ∷ avg 2 ∷ output 0 ∷ output 1 ∷ output 3 ∷ [], 0)
+    -- "State, sum(Price) output: user 1 gives 6, user 2 gives 2."
+    ∷ (1, state ∷ price ∷ sum 1 ∷ output 0 ∷ output 2 ∷ [], 6)
+    ∷ (2, state ∷ price ∷ sum 1 ∷ output 0 ∷ output 2 ∷ [], 2)
+    -- "State, Price output, user 2: 3."
+    ∷ (2, state ∷ price ∷ output 0 ∷ output 1 ∷ [], 3)
+    -- "State output, Price as condition, user 1: 2."
+    ∷ (1, state ∷ price ∷ output 0 ∷ condition 1 ∷ [], 2)
+    -- "sum(avg(Price)) output, user 2: 0; avg(sum(Price)): 2."
+    ∷ (2, price ∷ avg 0 ∷ sum 1 ∷ output 2 ∷ [], 0)
+    ∷ (2, price ∷ sum 0 ∷ avg 1 ∷ output 2 ∷ [], 2)
+    -- "avg(concat(State, Price)) output, user 1: 0."
+    ∷ (1, state ∷ price ∷ applyBoth 0 0 1 ∷ avg 2 ∷ output 3 ∷ [], 0)
+    -- "Price and avg(Price) both output, user 2: 2."
+    ∷ (2, price ∷ avg 0 ∷ output 0 ∷ output 1 ∷ [], 2)
+    -- "Choose on Price between State and State, no output: user 2 gives 2."
+    ∷ (2, price ∷ state ∷ choose 0 1 1 ∷ [], 2)
+    ∷ []
 
 pub starred :
     _≡_ {A = List ℕ}
-    (verdict 1 []
-    ∷ verdict 1 (column 0 ++ (column 1 ++ (column 2 ++ (apply 1 2 255 ++ (output 0 ++ (output 1 ++ output 3))))))
-    ∷ verdict 1 (column 0 ++ (column 2 ++ (apply 2 1 255 ++ (output 0 ++ output 2))))
-    ∷ verdict 2 (column 0 ++ (column 2 ++ (apply 2 1 255 ++ (output 0 ++ output 2))))
-    ∷ verdict 2 (column 0 ++ (column 2 ++ (output 0 ++ output 1)))
-    ∷ verdict 1 (column 0 ++ (column 2 ++ (output 0 ++ condition 1)))
-    ∷ verdict 2 (column 2 ++ (apply 1 0 255 ++ (apply 2 1 255 ++ output 2)))
-    ∷ verdict 2 (column 2 ++ (apply 2 0 255 ++ (apply 1 1 255 ++ output 2)))
-    ∷ verdict 1 (column 0 ++ (column 2 ++ (apply 0 0 1 ++ (apply 1 2 255 ++ output 3))))
-    ∷ verdict 2 (column 2 ++ (apply 1 0 255 ++ (output 0 ++ output 1)))
-    ∷ verdict 2 (column 2 ++ (column 0 ++ choose 0 1 1))
-    ∷ [])
-    (0 ∷ 0 ∷ 6 ∷ 2 ∷ 3 ∷ 2 ∷ 0 ∷ 2 ∷ 0 ∷ 2 ∷ 2 ∷ [])
-unfolding all any upTo from has upwardIn upward under leaf covers ownedBy support isUser isDataLeaf supportOf supports coversUser inLeafSet weighted checkSum withCheck sealBytes padded block users categories columns functions rule rule0 rule1 rule2 shop kindOf kindAt through pathsBy pathsIn paths labels takes firstOperation carries reaches gives isAccess wordOf accessesOf flat keep everyAccess actionFits fits fitting choicesFrom operations accepts refusesAll someChoiceRefused breaks brokenMask
+    (map (λ c. brokenMask shop 3 (c .0) (accessesOf (headOf shop) (plan (c .1)))) cases)
+    (map (λ c. c .2) cases)
+unfolding cases plan all any upTo from has upwardIn upward under leaf covers ownedBy support isUser isDataLeaf
+    supportOf supports coversUser inLeafSet weighted checkSum withCheck sealBytes padded block users categories
+    columns functions rule rule0 rule1 rule2 shop kindOf kindAt through pathsBy pathsIn paths labels takes
+    firstOperation carries reaches gives isAccess wordOf accessesOf flat keep everyAccess actionFits fits fitting
+    choicesFrom operations accepts refusesAll someChoiceRefused breaks brokenMask
 starred = refl

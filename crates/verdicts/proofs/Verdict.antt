@@ -1,5 +1,5 @@
--- What Judge's mask says: bit r is set exactly when r is a rule of the book and broken; the mask is empty exactly when the
--- query satisfies every rule in the sense of source document 000. Assumes nothing.
+-- What Judge's mask says: bit r is set exactly when r is a rule of the book and broken; the mask is empty exactly when
+-- the query satisfies every rule in the sense of source document 000. Assumes nothing.
 use Prim.Native.Nat.{ℕ, _<_}
 use mathlib.Core.Path.{_≡_, sym, _∙_}
 use mathlib.Core.Bool.{true, _&&_}
@@ -23,11 +23,11 @@ module _ (book : List ℕ) (n user : ℕ) (query : Accesses) where
   unfolding brokenMask
   mask-bit r = word-of (λ i. breaks (headOf book) (ruleAt book i) user query) n .1 r
 
-  module _ (few : (x : Access) → query x ≡ true → x .operation < 16) where
+  module _ (low : (x : Access) → query x ≡ true → x .operation < 16) where
     pub empty-satisfies :
         brokenMask book n user query ≡ 0 → (r : ℕ) → r < n → SatisfiesRule (headOf book) (ruleAt book r) user query
     empty-satisfies e r l =
-        not-broken-satisfies (headOf book) (ruleAt book r) user query few
+        not-broken-satisfies (headOf book) (ruleAt book r) user query low
         (sym (rw (lt-ltb r n l) at (mask-bit r)) ∙ rw (e, has-zero r))
 
     pub satisfies-empty :

@@ -1,6 +1,6 @@
 -- One arm for each action of the definition; the law `action-other` is the last. Assumes nothing.
 use Rattle.verdicts.specs.Accesses.{actionFits}
-use Rattle.verdicts.proofs.Offers.{action-other}
+use Rattle.verdicts.proofs.Accesses.{action-other}
 use Rattle.verdicts.proofs.breaking.action_fits.Statement.{statement}
 use Rattle.verdicts.proofs.breaking.action_fits.Tie as tie
 

@@ -7,7 +7,7 @@ use borrow.Author.Needs.{needs}
 use Rattle.verdicts.specs.Words.{heldBy}
 use Rattle.verdicts.proofs.Pairs.{pairRefused, refused-by-pairs, pair-apart, pair-taken, pair-refused}
 use Rattle.verdicts.proofs.Pairs.{NoneRefused, none-refused, more-refused}
-use Rattle.verdicts.proofs.Quantifiers.{some-at}
+use Rattle.verdicts.proofs.Quantifiers.{at-any}
 use Rattle.verdicts.proofs.breaking.breaks.Statement.{statement}
 use Rattle.verdicts.proofs.breaking.breaks.Tie as tie
 
@@ -22,7 +22,9 @@ loop-holds : tie.Need-loop-holds Inv-loop μ-loop
 loop-holds c =
     let a = c .before .before .before .before .before .args in
     let first = c .before .before .offered in
-    (search needs, none-refused (a .head .now) (a .rule .now) (first .result) (c .before .offered2 .result) (c .offered3 .result))
+    let second = c .before .offered2 in
+    let third = c .offered3 in
+    (search needs, none-refused (a .head .now) (a .rule .now) (first .result) (second .result) (third .result))
 
 returns : tie.Need-returns Inv-loop μ-loop
 returns c sound =
@@ -38,10 +40,10 @@ returns c sound =
     let accesses = heldBy (a .words) in
     sym
     (refused-by-pairs (a .head .now) (a .rule .now) accesses sound
-    ∙ some-at (pairRefused (a .head .now) (a .rule .now) accesses) 256 p small
-    (pair-refused (a .head .now) (a .rule .now) accesses p (first .result) (second .result) (x .result) (y .result) small
-    (first .ensures sound) (second .ensures sound) (x .ensures) (y .ensures) (third .result) (took .result) (third .ok)
-    (took .ok) (third .ensures sound) (took .ensures) (c .before .before .if1 .taken) (c .if2 .taken)))
+    ∙ at-any (pairRefused (a .head .now) (a .rule .now) accesses) 256 p small
+    (pair-refused (a .head .now) (a .rule .now) accesses p (first .result) (second .result) (x .result) (y .result)
+    small (first .ensures sound) (second .ensures sound) (x .ensures) (y .ensures) (third .result) (took .result)
+    (third .ok) (took .ok) (third .ensures sound) (took .ensures) (c .before .before .if1 .taken) (c .if2 .taken)))
 
 loop-again : tie.Need-loop-again Inv-loop μ-loop
 loop-again c =

@@ -31,8 +31,9 @@ loop-again c =
       search needs,
       search needs,
       beside-more (a .rule .now) (a .a) (a .b) (l .j) (l .found) (first .result) (second .result) (third .result)
-          (one .result) (c .word-if .result) (p .result) (q .result) (l .inv .2) (first .ensures .0) (second .ensures .0)
-          (third .ensures .0) (p .ensures) (q .ensures) (one .ensures (third .ensures .1)) (c .word-if .ensures),
+          (one .result) (c .word-if .result) (p .result) (q .result) (l .inv .2) (first .ensures .0)
+          (second .ensures .0) (third .ensures .0) (p .ensures) (q .ensures) (one .ensures (third .ensures .1))
+          (c .word-if .ensures),
     )
 
 returns : tie.Need-returns Inv-loop μ-loop

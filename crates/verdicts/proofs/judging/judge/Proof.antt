@@ -1,21 +1,9 @@
 -- The checks decide which of both answers it is (`judge-broken`, `judge-refused`). Assumes nothing.
 use mathlib.Core.Path.{sym, _∙_}
-use Rattle.verdicts.proofs.JudgeLaws.{judge-accepted, judge-broken, judge-refused}
 use borrow.Author.Needs.{needs}
+use Rattle.verdicts.proofs.JudgeLaws.{judge-accepted, judge-broken, judge-refused}
 use Rattle.verdicts.proofs.judging.judge.Statement.{statement}
 use Rattle.verdicts.proofs.judging.judge.Tie as tie
-
-judge-check-requires : tie.Need-judge-check-requires
-judge-check-requires c κs = search needs
-
-enum-known-checked : tie.Need-enum-known-checked
-enum-known-checked c = search needs
-
-enum-told : tie.Need-enum-told
-enum-told c = search needs
-
-mask-of-requires : tie.Need-mask-of-requires
-mask-of-requires c κs = search needs
 
 returns : tie.Need-returns
 returns c =
@@ -37,4 +25,4 @@ returns-2 c =
 pub judge-spec : {M : Type 1} → statement M
 judge-spec =
     tie.close
-    (tie.spec judge-check-requires enum-known-checked enum-told mask-of-requires returns returns-2)
+    (tie.spec (λ c κs. search needs) (λ c. search needs) (λ c. search needs) (λ c κs. search needs) returns returns-2)
