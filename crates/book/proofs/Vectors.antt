@@ -2,7 +2,7 @@
 -- accepted with its three rules. Assumes nothing.
 use Prim.Native.Nat.{ℕ}
 use mathlib.Core.Path.{_≡_, refl}
-use mathlib.Core.List.{List, [], _∷_, _++_}
+use mathlib.Core.List.{List, [], _∷_, _++_, map}
 use lib.ListN.{replicate}
 use Rattle.book.specs.Lists.{all, any, upTo, from}
 use Rattle.book.specs.Sets.{has}
@@ -23,11 +23,11 @@ use Rattle.book.specs.declared.Checked.{Checked}
 use Rattle.book.specs.declared.Checked.the-variants.{Accepted}
 
 -- "* A block of kind 4, all else zero, has check 4; a block with only byte 509 set, to 255, has 64,529."
-pub starred-checks :
-    _≡_ {A = List ℕ}
-    (checkSum (4 ∷ replicate 511 0) ∷ checkSum (replicate 509 0 ++ (255 ∷ 0 ∷ 0 ∷ [])) ∷ [])
-    (4 ∷ 64529 ∷ [])
-unfolding checkSum weighted
+unfoldable pub checkCases : List (List ℕ × ℕ)
+checkCases = (4 ∷ replicate 511 0, 4) ∷ (replicate 509 0 ++ (255 ∷ 0 ∷ 0 ∷ []), 64529) ∷ []
+
+pub starred-checks : _≡_ {A = List ℕ} (map (λ c. checkSum (c .0)) checkCases) (map (λ c. c .1) checkCases)
+unfolding checkCases checkSum weighted
 starred-checks = refl
 
 pub shop-accepted : _≡_ {A = Checked} (checkAnswer shop) (Accepted 3)

@@ -1,8 +1,8 @@
--- Theorems about the definitions, by computation: the starred lines of document 01 on plans for the small shop.
+-- Theorems about the definitions, by computation: all starred lines of document 01, as one list.
 -- Assumes nothing.
 use Prim.Native.Nat.{ℕ}
 use mathlib.Core.Path.{_≡_, refl}
-use mathlib.Core.List.{List, [], _∷_, map}
+use mathlib.Core.List.{List, [], _∷_, _++_, map}
 use Rattle.book.specs.Lists.{all, any, upTo, from}
 use Rattle.book.specs.Sets.{has}
 use Rattle.book.specs.Hierarchies.{upwardIn, upward, under, leaf, covers, ownedBy, support}
@@ -11,6 +11,7 @@ use Rattle.book.specs.Rule.{coversUser, inLeafSet}
 use Rattle.book.specs.Blocks.{headOf, weighted, checkSum}
 use Rattle.book.specs.Answers.{withCheck, sealBytes}
 use Rattle.book.specs.Shop.{padded, block, users, categories, columns, functions, rule, rule0, rule1, rule2, shop}
+use Rattle.book.proofs.Vectors.{checkCases}
 use Rattle.lineage.specs.Rows.{kindOf, kindAt}
 use Rattle.lineage.specs.Paths.{through, pathsBy, pathsIn, paths, labels, takes, firstOperation, carries}
 use Rattle.lineage.specs.Accesses.{reaches, gives, isAccess, wordOf}
@@ -46,9 +47,10 @@ cases =
 
 pub starred :
     _≡_ {A = List ℕ}
-    (map (λ c. brokenMask shop 3 (c .0) (accessesOf (headOf shop) (plan (c .1)))) cases)
-    (map (λ c. c .2) cases)
-unfolding cases plan all any upTo from has upwardIn upward under leaf covers ownedBy support isUser isDataLeaf
+    (map (λ c. brokenMask shop 3 (c .0) (accessesOf (headOf shop) (plan (c .1)))) cases
+    ++ map (λ c. checkSum (c .0)) checkCases)
+    (map (λ c. c .2) cases ++ map (λ c. c .1) checkCases)
+unfolding cases checkCases plan all any upTo from has upwardIn upward under leaf covers ownedBy support isUser isDataLeaf
     supportOf supports coversUser inLeafSet weighted checkSum withCheck sealBytes padded block users categories
     columns functions rule rule0 rule1 rule2 shop kindOf kindAt through pathsBy pathsIn paths labels takes
     firstOperation carries reaches gives isAccess wordOf accessesOf flat keep everyAccess actionFits fits fitting
