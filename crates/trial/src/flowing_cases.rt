@@ -15,7 +15,6 @@ use crate::tables::before;
 use crate::tables::number_or;
 use crate::tables::piece;
 use crate::tables::starts;
-use book::Refusal;
 use book::bytes::part;
 use book::sets::contains;
 use lineage::Flowed;
@@ -65,24 +64,11 @@ fn accesses(words: &[u64]) {
     }
 }
 
-// A refusal's place is a block for the book, a row for 22.
-fn refused(r: Refusal) {
-    if r.number < 10 {
-        lines::refusal(r, b"block");
-        return;
-    }
-    if r.number == 22 {
-        lines::refusal(r, b"row");
-        return;
-    }
-    lines::refusal(r, b"place");
-}
-
 fn answer(flowed: Flowed, words: &[u64]) {
     match flowed {
         Flowed::Done => accesses(words),
         Flowed::Refused(r) => {
-            refused(r);
+            lines::refused(r);
             say(
                 all_are(words, 40, ONES),
                 b", words unchanged",

@@ -33,6 +33,19 @@ pub fn refusal(r: Refusal, place: &[u8]) {
     number(r.place as u64);
 }
 
+// A refusal of a call that takes a plan: the place is a block for the book, a row for 22.
+pub fn refused(r: Refusal) {
+    if r.number < 10 {
+        refusal(r, b"block");
+        return;
+    }
+    if r.number == 22 {
+        refusal(r, b"row");
+        return;
+    }
+    refusal(r, b"place");
+}
+
 // The line of a case of Book check.
 pub fn checked(label: &[u8], answer: Checked) {
     text(label);

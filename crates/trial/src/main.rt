@@ -3,6 +3,7 @@
 mod books; // building books to try
 mod checking_cases; // Book check
 mod flowing_cases; // Flows
+mod judging_cases; // Judge
 mod lines; // printing
 mod plans; // building plans to try
 mod reading_cases; // what the crates above read in a book
@@ -13,5 +14,6 @@ fn main() {
     checking_cases::print();
     sealing_cases::print();
     flowing_cases::print();
+    judging_cases::print();
     reading_cases::print();
 }

@@ -69,10 +69,15 @@ fn with_digit(n: u32, digit: u8) -> u32 {
     if b'9' < digit {
         return n;
     }
-    if 100000 <= n {
+    if 429496729 < n {
         return n;
     }
-    10 * n + (digit - b'0') as u32
+    let tens = 10 * n;
+    let ones = (digit - b'0') as u32;
+    if 4294967295 - tens < ones {
+        return n;
+    }
+    tens + ones
 }
 
 // A decimal number; 0 where there are no digits.

@@ -1,4 +1,4 @@
--- One rule a turn. Assumes nothing.
+-- One rule a turn; the law `marks-more` is the step. Assumes nothing.
 use Prim.Native.Nat.{ℕ, _-_, _≤_, _<_}
 use mathlib.Core.Bool.{Bool, _&&_}
 use mathlib.Core.List.{List}
