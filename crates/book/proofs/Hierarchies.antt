@@ -12,14 +12,10 @@ use borrow.Author.Tests.{ltb-true, ltb-false, le-ltb, lt-ltb, eqb-true, eqb-fals
 use Rattle.book.specs.Lists.{any, all, upTo}
 use Rattle.book.specs.Sets.{has}
 use Rattle.book.specs.Hierarchies.{upwardIn, upward, under, ownedBy, support, covers, leaf, parentHolds}
-use Rattle.book.proofs.Lists.{and-left, and-second, and-false, or-end, or-true, eqb-sym, ltb-more}
+use Rattle.book.proofs.Lists.{and-left, and-second, and-false, or-end, or-true, eqb-sym, ltb-more, by-cases}
 use Rattle.book.proofs.Lists.{any-same, any-swap, all-more, all-none}
 
 -- The way up
-
-by-cases : (b : Bool) (x y : List ℕ) → (elim b as (λ t. List ℕ) [ true ↦ x | false ↦ y ]) ≡ cond b x y
-by-cases true x y = refl
-by-cases false x y = refl
 
 any-step : (f : ℕ → Bool) (c : ℕ) (b : Bool) (l : List ℕ) → any f (c ∷ cond b l []) ≡ (f c || (b && any f l))
 unfolding any

@@ -153,6 +153,13 @@ ltb-more j k n =
     (λ e. lt-ltb j k (omega (arith, ltb-true j (k + 1) e)))
     (λ e. lt-ltb j (k + 1) (omega (arith, ltb-true j k e)))
 
+-- Cases
+
+-- a case analysis on a test, as a function of the test that can be rewritten
+pub by-cases : {A : Type 0} (b : Bool) (x y : A) → (elim b as (λ t. A) [ true ↦ x | false ↦ y ]) ≡ cond b x y
+by-cases true x y = refl
+by-cases false x y = refl
+
 -- Quantifiers over a list
 
 module _ {A : Type 0} (f : A → Bool) where

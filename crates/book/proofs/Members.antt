@@ -69,6 +69,10 @@ has-and a b i =
     rw (and-shr, and-mod (a / 2 ^ i) (b / 2 ^ i) 1)
     (and-bit (a / 2 ^ i % 2) (b / 2 ^ i % 2) (omega arith) (omega arith))
 
+pub has-cond : (b : Bool) (w i : ℕ) → has (cond b w 0) i ≡ (b && has w i)
+has-cond true w i = refl
+has-cond false w i = has-zero i
+
 -- Within a width
 
 pub has-above : (n a i : ℕ) → a < 2 ^ n → n ≤ i → has a i ≡ false

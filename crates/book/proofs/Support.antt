@@ -11,7 +11,7 @@ use borrow.Author.Tests.{le-ltb, lt-ltb, eqb-true, eqb-false, eq-eqb}
 use Rattle.book.specs.Sets.{has}
 use Rattle.book.specs.Head.{dataParent, ownOperations, isDataLeaf, supportOf, supports}
 use Rattle.book.proofs.Lists.{ltb-more}
-use Rattle.book.proofs.Members.{has-zero, has-or, has-and}
+use Rattle.book.proofs.Members.{has-zero, has-or, has-and, has-cond}
 use Rattle.book.proofs.Hierarchies.{support-up}
 
 -- The recursion to the parent
@@ -41,10 +41,6 @@ supported-none head =
       bound = omega arith;
       at = λ k d l. rw (getD-replicate {A = ℕ} 16 k 0 0 l, has-zero d, le-ltb d 0 (omega arith));
     }
-
-has-cond : (b : Bool) (w d : ℕ) → has (cond b w 0) d ≡ (b && has w d)
-has-cond true w d = refl
-has-cond false w d = has-zero d
 
 here : (a b : Bool) → (false || (b && (a && true))) ≡ (a && b)
 here true true = refl

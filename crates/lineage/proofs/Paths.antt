@@ -9,7 +9,7 @@ use lib.Dec.{eqb, ltb}
 use borrow.Author.Tests.{ltb-true, eqb-true, eqb-false, ne-eqb, not-true}
 use Rattle.book.specs.Lists.{from, upTo, any}
 use Rattle.book.specs.Head.{operation}
-use Rattle.book.proofs.Lists.{and-false, and-left, and-never, and-where, any-append, any-one, any-nil, any-guarded}
+use Rattle.book.proofs.Lists.{and-false, and-left, and-never, and-where, any-append, any-one, any-nil, any-guarded, by-cases}
 use Rattle.book.proofs.Lists.{any-map, any-same, any-both, any-with, any-where, from-append, any-from-same}
 use Rattle.lineage.specs.Rows.{Kind, Column, Apply, Choose, Output, Condition, Unknown}
 use Rattle.lineage.specs.Rows.{rowCount, kindOf, kindAt, rowA, rowB, rowC, isValue}
@@ -17,10 +17,6 @@ use Rattle.lineage.specs.Paths.{Path, through, pathsBy, pathsIn, paths, 
 use Rattle.lineage.specs.Accesses.{reaches, gives, isAccess}
 
 -- The rows below: enough steps are as good as any
-
-by-cases : (b : Bool) (x y : List Path) → (elim b as (λ t. List Path) [ true ↦ x | false ↦ y ]) ≡ cond b x y
-by-cases true x y = refl
-by-cases false x y = refl
 
 guarded-same : (b : Bool) (x y : List Path) → (b ≡ true → x ≡ y) → cond b x [] ≡ cond b y []
 guarded-same true x y h = h refl

@@ -15,7 +15,7 @@ use borrow.Author.Tests.{lt-ltb, le-ltb, eqb-true, eqb-false}
 use Rattle.book.specs.Lists.{any, from, upTo}
 use Rattle.book.specs.Sets.{has}
 use Rattle.book.proofs.Lists.{and-end, and-false, and-or, or-end, any-more, any-none, ltb-more, upTo-more}
-use Rattle.book.proofs.Members.{has-zero, has-or, has-single, same-members}
+use Rattle.book.proofs.Members.{has-zero, has-or, has-single, same-members, has-cond}
 use Rattle.lineage.specs.Rows.{kindAt, kindByte, kindOf, rowA, rowCount}
 use Rattle.lineage.specs.Accesses.{accessWords, gives, isAccess, reaches, wordOf}
 use Rattle.lineage.specs.Table.{Gathered, Given, Reached}
@@ -42,10 +42,6 @@ plus-bit false n word h = rw (or-zero-l word) (omega arith)
 bit-fits : (b : Bool) (n : ℕ) → cond b (2 ^ n) 0 < 2 ^ suc n
 bit-fits true n = pow-lt {i = n} {j = suc n} (omega arith)
 bit-fits false n = pow-pos (suc n)
-
-has-bit : (b : Bool) (n d : ℕ) → has (cond b (2 ^ n) 0) d ≡ (b && eqb d n)
-has-bit true n d = has-single d n
-has-bit false n d = has-zero d
 
 below-or : (f : ℕ → Bool) (n d : ℕ) → ((f n && eqb d n) || (ltb d n && f d)) ≡ (ltb d (n + 1) && f d)
 below-or f n d = go (eqb d n) refl
@@ -76,7 +72,7 @@ word-of f (suc n) = step (word-of f n)
               (or-lt (suc n) (cond (f n) (2 ^ n) 0) (wordOf f (from 0 n)) (bit-fits (f n) n)
               (lt-trans (old .0) (pow-lt {i = n} {j = suc n} (omega arith)))),
           λ d.
-              rw (e, has-or (cond (f n) (2 ^ n) 0) (wordOf f (from 0 n)) d, has-bit (f n) n d, old .1 d)
+              rw (e, has-or (cond (f n) (2 ^ n) 0) (wordOf f (from 0 n)) d, has-cond (f n) (2 ^ n) d, has-single d n, old .1 d)
               (rw (add-one n) at (below-or f n d)),
         )
 
@@ -161,7 +157,7 @@ unfolding from
 length-from g i zero = refl
 length-from g i (suc n) = ap suc (length-from g (suc i) n)
 
-getD-from : (g : ℕ → ℕ) (i n j : ℕ) → j < n → getD (map g (from i n)) j 0 ≡ g (i + j)
+pub getD-from : (g : ℕ → ℕ) (i n j : ℕ) → j < n → getD (map g (from i n)) j 0 ≡ g (i + j)
 unfolding from
 getD-from g i zero j h = absurd (omega arith)
 getD-from g i (suc n) zero h = ap g (omega arith)

@@ -35,7 +35,7 @@ pathsIn (suc steps) plan i =
     (λ r. elim (ltb r i) as (λ b. List Path) [ true ↦ pathsIn steps plan r | false ↦ [] ])
     (rowA plan i) (rowB plan i) (rowC plan i)
 
--- "A path goes from a row down to a Column row": every row on it is lower than the one before, so i steps are enough
+-- "A path goes from a row down to a Column row": every row on it is lower than the one before, so it has at most i + 1 rows
 unfoldable pub paths : List ℕ → ℕ → List Path
 paths plan i = pathsIn (suc i) plan i
 

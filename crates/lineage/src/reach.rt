@@ -16,7 +16,6 @@ ghost use lib.Dec.{eqb, ltb};
 ghost use lib.ListN.{getD};
 ghost use Rattle.book.specs.Lists.{any};
 ghost use Rattle.book.specs.Sets.{WordOf};
-ghost use Rattle.book.specs.Sets.{has};
 ghost use Rattle.lineage.specs.Paths.{labels};
 ghost use Rattle.lineage.specs.Table.{Moved, PlanSound, Reached, RowReached, Stored, Supporting};
 

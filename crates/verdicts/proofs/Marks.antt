@@ -9,14 +9,13 @@ use borrow.Author.Tests.{lt-ltb, le-ltb, eqb-true, eqb-false}
 use Rattle.book.specs.Lists.{all, any, upTo}
 use Rattle.book.specs.Sets.{has, WordOf}
 use Rattle.book.proofs.Lists.{and-end, and-false, or-end, ltb-more, not-any}
-use Rattle.book.proofs.Members.{has-zero, has-or, empty-none}
+use Rattle.book.proofs.Members.{has-zero, has-or, empty-none, has-cond}
 
 -- Words
 
 -- a word, or the empty one
 pub has-if : (t : Bool) (word r j : ℕ) → r ≡ cond t word 0 → has r j ≡ (t && has word j)
-has-if true word r j e = rw e
-has-if false word r j e = rw (e, has-zero)
+has-if t word r j e = rw e (has-cond t word j)
 
 -- the code's `word != 0`
 pub not-empty : (n word : ℕ) → word < 2 ^ n → not (eqb word 0) ≡ any (has word) (upTo n)

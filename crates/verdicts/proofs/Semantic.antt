@@ -1,4 +1,5 @@
 -- The words of document 01 and the semantics of source document 000 say the same of a rule. Assumes nothing.
+use Rattle.lineage.proofs.Words.{getD-from}
 use Prim.Native.Nat.{ℕ, zero, suc, _+_, _≤_, _<_}
 use native.Mathlib.Nat.{zero-add, add-zero}
 use native.Mathlib.Omega.{arith}
@@ -68,15 +69,6 @@ chosen-list (suc n) i offer p h =
     and-both (offer i (found .0)) (someChosen n (suc i) offer (λ ks. p (found .0 ∷ ks))) (found .1) in
     let rest = chosen-list n (suc i) offer (λ ks. p (found .0 ∷ ks)) (b .1) in
     (found .0 ∷ rest .0, listed-at (λ j k. offer j k ≡ true) n i (found .0) (rest .0) (b .0) (rest .1), rest .2)
-
-pub vector-at :
-    (vector : ℕ → ℕ) (n i j : ℕ) → j < n → getD (map vector (from i n)) j 0 ≡ vector (i + j)
-unfolding from
-vector-at vector zero i j l = absurd (omega arith)
-vector-at vector (suc n) i zero l = rw add-zero
-vector-at vector (suc n) i (suc j) l =
-    let e : i + suc j ≡ suc i + j = omega arith in
-    rw e (vector-at vector n (suc i) j (omega arith))
 
 -- one of each as a list
 pub listed :
@@ -220,7 +212,7 @@ module _ (head rule : List ℕ) (user : ℕ) (query : Accesses) where
               a .0,
               a .2,
               λ i l.
-                  rw (vector-at vector (referenceCount rule) 0 i l, zero-add i)
+                  rw (getD-from vector 0 (referenceCount rule) i l, zero-add i)
                   at (accepts-satisfies head rule user query ks (a .0) (a .1) i l),
             )
 
