@@ -20,7 +20,7 @@ ghost use Rattle.lineage.specs.Paths.{labels};
 ghost use Rattle.lineage.specs.Table.{Moved, PlanSound, Reached, RowReached, Stored, Supporting};
 
 // The word at i, or 0 past the end.
-fn word_at(s: &[u64], i: usize) -> u64
+pub fn word_at(s: &[u64], i: usize) -> u64
     ensures { λ r. ⌜ r ≡ getD (now (s .entry)) i 0 ⌝ }
 {
     if i < s.len() {
@@ -52,7 +52,7 @@ fn joined(a: [u64; 16], b: [u64; 16]) -> [u64; 16]
 }
 
 // The labels of a column.
-fn label_set(head: &[u8], column: u8) -> u64
+pub fn label_set(head: &[u8], column: u8) -> u64
     ensures { λ r. ⌜ WordOf (λ d. any (eqb d) (labels (now (head .entry)) column)) r ⌝ }
 {
     single(label(head, column))

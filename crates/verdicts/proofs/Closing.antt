@@ -12,7 +12,7 @@ use Rattle.book.specs.Lists.{any, upTo}
 use Rattle.book.specs.Rule.{action, inLeafSet, referenceCount}
 use Rattle.book.proofs.Lists.{and-true, and-left, and-right, and-both, and-or, and-over, or-end, eqb-sym, same-test}
 use Rattle.book.proofs.Lists.{any-same, any-both, any-found, any-from-same, none-at, at-none}
-use Rattle.verdicts.specs.Accesses.{Access, Accesses, everyAccess, actionFits, fits}
+use Rattle.verdicts.specs.Accesses.{Access, Accesses, same, everyAccess, actionFits, fits}
 use Rattle.verdicts.specs.Words.{RuleSound, offers, offersOrNone}
 use Rattle.verdicts.specs.Breaking.{someChoiceRefused}
 use Rattle.verdicts.proofs.Quantifiers.{any-at, any-equal}
@@ -20,9 +20,6 @@ use Rattle.verdicts.proofs.Accesses.{access, known, every-known, in-eve
 use Rattle.verdicts.proofs.Choices.{someChosen, chosen-offers, onThree, refusesThree, refused-chosen}
 
 -- A set with one access added
-
-unfoldable pub same : Access → Access → Bool
-same x y = eqb (x .channel) (y .channel) && (eqb (x .leaf) (y .leaf) && eqb (x .operation) (y .operation))
 
 infixl 20 _with_
 unfoldable pub _with_ : Accesses → Access → Accesses

@@ -14,6 +14,9 @@ pub record Access : Type 0 where
   pub leaf : ℕ
   pub operation : ℕ
 
+unfoldable pub same : Access → Access → Bool
+same x y = eqb (x .channel) (y .channel) && (eqb (x .leaf) (y .leaf) && eqb (x .operation) (y .operation))
+
 -- a set of accesses
 abbrev pub Accesses : Type 0
 Accesses = Access → Bool

@@ -29,7 +29,7 @@ pub fn word_if(wanted: bool, word: u64) -> u64
     0
 }
 
-fn action_fits(action: usize, channel: usize) -> bool
+pub fn action_fits(action: usize, channel: usize) -> bool
     ensures { λ r. ⌜ r ≡ actionFits action channel ⌝ }
 {
     match action {
@@ -93,7 +93,7 @@ fn taken_beside(rule: &[u8], a: usize, b: usize) -> u64
 }
 
 // A mask as the operations it takes: a zero mask takes all sixteen.
-fn all_if_zero(mask: u64) -> u64
+pub fn all_if_zero(mask: u64) -> u64
     ensures { λ r. ⌜ (mask < 65536 → (k : ℕ) → has r k ≡ (ltb k 16 && maskTakes mask k)) ⌝ }
 {
     if mask == 0 {

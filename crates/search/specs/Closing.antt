@@ -1,0 +1,62 @@
+-- Which places break a rule beside two others, in the tables' terms. Assumes nothing.
+use Prim.Native.Nat.{ℕ, _<_}
+use mathlib.Core.Path.{_≡_}
+use mathlib.Core.Bool.{Bool, true, false, _&&_, _||_, not}
+use mathlib.Core.List.{List}
+use Rattle.book.specs.Lists.{any, upTo}
+use Rattle.book.specs.Sets.{has}
+use Rattle.search.specs.Places.{inPlaces, pastPlaces}
+use Rattle.search.specs.Table.{meets, takesAt}
+use Rattle.search.specs.declared.sifting.Remaining.{Remaining}
+
+-- some restriction takes p at reference i, b at k and c at l
+unfoldable pub acceptedAt : List ℕ → ℕ → ℕ → ℕ → ℕ → ℕ → ℕ → ℕ → Bool
+acceptedAt t q i k l b c p =
+    any (λ j. takesAt t q i j p && (takesAt t q k j b && takesAt t q l j c)) (upTo 8)
+
+-- b meets reference k, c meets l, and no restriction takes p at i beside them
+unfoldable pub closesAt : List ℕ → ℕ → ℕ → ℕ → ℕ → ℕ → ℕ → ℕ → Bool
+closesAt t q i k l b c p = meets t q k b && (meets t q l c && not (acceptedAt t q i k l b c p))
+
+-- in either order of b and c
+unfoldable pub closesBy : List ℕ → ℕ → ℕ → ℕ → ℕ → ℕ → ℕ → ℕ → Bool
+closesBy t q i k l b c p = closesAt t q i k l b c p || closesAt t q i k l c b p
+
+-- place p breaks rule q beside b and c
+unfoldable pub closes : List ℕ → ℕ → ℕ → ℕ → ℕ → Bool
+closes t q b c p =
+    (meets t q 0 p && closesBy t q 0 1 2 b c p)
+    || ((meets t q 1 p && closesBy t q 1 0 2 b c p) || (meets t q 2 p && closesBy t q 2 0 1 b c p))
+
+-- rule q took from a set the places that break it beside b and c, and is marked where it took any
+pub record Turned (t : List ℕ) (q b c : ℕ) (before after : Remaining) : Type 0 where
+  pub kept :
+      (p : ℕ) → p < pastPlaces → inPlaces (after .places) p ≡ (inPlaces (before .places) p && not (closes t q b c p))
+  pub more : (j : ℕ) → has (before .rules) j ≡ true → has (after .rules) j ≡ true
+  pub only : (j : ℕ) → has (after .rules) j ≡ true → has (before .rules) j ≡ false → j ≡ q
+  pub marked :
+      (p : ℕ)
+      → p < pastPlaces
+      → inPlaces (before .places) p ≡ true
+      → inPlaces (after .places) p ≡ false
+      → has (after .rules) q ≡ true
+
+-- rules of a set did so, one after the other; those that are done leave nothing that breaks them
+pub record Sifted (t : List ℕ) (rules : ℕ) (done : ℕ → Bool) (b c : ℕ) (before after : Remaining) : Type 0 where
+  pub within : (p : ℕ) → p < pastPlaces → inPlaces (after .places) p ≡ true → inPlaces (before .places) p ≡ true
+  pub passed :
+      (p q : ℕ)
+      → p < pastPlaces
+      → q < 32
+      → inPlaces (after .places) p ≡ true
+      → done q ≡ true
+      → closes t q b c p ≡ false
+  -- what is gone was taken by a rule that is marked
+  pub gone :
+      (p : ℕ)
+      → p < pastPlaces
+      → inPlaces (before .places) p ≡ true
+      → inPlaces (after .places) p ≡ false
+      → any (λ q. has (after .rules) q && closes t q b c p) (upTo 32) ≡ true
+  pub more : (j : ℕ) → has (before .rules) j ≡ true → has (after .rules) j ≡ true
+  pub only : (j : ℕ) → has (after .rules) j ≡ true → has (before .rules) j ≡ false → has rules j ≡ true

@@ -1,0 +1,11 @@
+pub mod Obtainable
+pub mod Choices
+pub mod Shown
+pub mod Alone
+pub mod Answers
+pub mod Demand
+pub mod Places
+pub mod Table
+pub mod Closing
+pub mod Search
+pub mod First

@@ -1,0 +1,73 @@
+// What breaks a rule beside two accesses, by the tables: a place stands for one reference, the two
+// given places for the others.
+use book::sets::contains;
+use lineage::reach::word_at;
+use verdicts::breaking::word_if;
+ghost use mathlib.Core.Path.{_≡_};
+ghost use mathlib.Core.Bool.{_&&_, _||_, not};
+ghost use Prim.Native.Nat.{ℕ, _+_, _*_, _%_, _<_};
+ghost use lib.ListN.{getD};
+ghost use Rattle.book.specs.Lists.{any, upTo};
+ghost use Rattle.book.specs.Sets.{has};
+ghost use Rattle.search.specs.Places.{inPlaces};
+ghost use Rattle.search.specs.Table.{meets, takesAt};
+ghost use Rattle.search.specs.Closing.{acceptedAt, closesAt, closesBy};
+
+// Whether place p meets reference i of rule q.
+fn meets(t: &[u64], q: u8, i: u8, p: usize) -> bool
+    ensures { λ r. ⌜ r ≡ meets (now (t .entry)) q i p ⌝ }
+{
+    contains(word_at(t, 128 * (q as usize) + 33 * (i as usize) + p / 64), p % 64)
+}
+
+// The operations that restriction j of rule q takes at reference i.
+fn taken_word(t: &[u64], q: u8, i: u8, j: u8) -> u64
+    ensures { λ r. ⌜ r ≡ getD (now (t .entry)) (128 * q + 99 + 8 * i + j) 0 ⌝ }
+{
+    word_at(t, 128 * (q as usize) + 99 + 8 * (i as usize) + j as usize)
+}
+
+// The operations that some restriction takes at reference i beside place b at k and place c at l.
+pub fn accepted_beside(t: &[u64], q: u8, i: u8, k: u8, l: u8, b: usize, c: usize) -> u64
+    ensures { λ r. ⌜ ((p : ℕ) → has r (p % 64) ≡ acceptedAt (now (t .entry)) q i k l b c p) ⌝ }
+{
+    let mut found = 0u64;
+    for j in 0..8u8 {
+        let first = contains(taken_word(t, q, k, j), b % 64);
+        let second = contains(taken_word(t, q, l, j), c % 64);
+        found = found | word_if(first & second, taken_word(t, q, i, j));
+    }
+    found
+}
+
+// The operations that break rule q at reference i, with b at k and c at l.
+fn closing_one(t: &[u64], q: u8, i: u8, k: u8, l: u8, b: usize, c: usize) -> u64
+    ensures { λ r. ⌜ ((p : ℕ) → has r (p % 64) ≡ closesAt (now (t .entry)) q i k l b c p) ⌝ }
+{
+    if meets(t, q, k, b) & meets(t, q, l, c) {
+        return !accepted_beside(t, q, i, k, l, b, c);
+    }
+    0
+}
+
+// In either order of b and c.
+pub fn closing_mask(t: &[u64], q: u8, i: u8, k: u8, l: u8, b: usize, c: usize) -> u64
+    ensures { λ r. ⌜ ((p : ℕ) → has r (p % 64) ≡ closesBy (now (t .entry)) q i k l b c p) ⌝ }
+{
+    closing_one(t, q, i, k, l, b, c) | closing_one(t, q, i, k, l, c, b)
+}
+
+// A set less the places that meet a reference of rule q with one of the operations given for it.
+pub fn less_closing(t: &[u64], q: u8, first: u64, second: u64, third: u64, set: [u64; 33]) -> [u64; 33]
+    ensures { λ r. ⌜ ((p : ℕ) → p < 2112 → inPlaces r p ≡ (inPlaces set p && not ((meets (now (t .entry)) q 0 p && has first (p % 64)) || ((meets (now (t .entry)) q 1 p && has second (p % 64)) || (meets (now (t .entry)) q 2 p && has third (p % 64)))))) ⌝ }
+{
+    let at = 128 * (q as usize);
+    let mut rest = set;
+    for w in 0..33usize {
+        let a = word_at(t, at + w) & first;
+        let b = word_at(t, at + 33 + w) & second;
+        let c = word_at(t, at + 66 + w) & third;
+        rest[w] = set[w] & !(a | b | c);
+    }
+    rest
+}

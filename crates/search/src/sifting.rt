@@ -1,0 +1,113 @@
+// Sets of places, less what breaks a rule beside two places.
+use crate::closing::closing_mask;
+use crate::closing::less_closing;
+use crate::places::is_empty;
+use crate::places::lowest;
+use crate::places::same;
+use book::sets::contains;
+use book::sets::single;
+use verdicts::breaking::word_if;
+ghost use mathlib.Core.Path.{_≡_};
+ghost use mathlib.Core.Bool.{true, false, _&&_};
+ghost use Prim.Native.Nat.{ℕ, _<_};
+ghost use lib.Dec.{ltb};
+ghost use lib.ListN.{getD};
+ghost use Rattle.book.specs.Sets.{has};
+ghost use Rattle.search.specs.Closing.{closes, Turned, Sifted};
+
+// What remains of a set of places; the rules that took some away, and which of them did so last.
+pub struct Remaining {
+    pub places: [u64; 33],
+    pub rules: u64,
+    pub last: u8,
+}
+
+// Rule q takes from a set what breaks it beside b and c.
+fn turn(t: &[u64], q: u8, b: usize, c: usize, before: Remaining) -> Remaining
+    ensures { λ r. ⌜ Turned (now (t .entry)) q b c before r ⌝ }
+{
+    let first = closing_mask(t, q, 0, 1, 2, b, c);
+    let second = closing_mask(t, q, 1, 0, 2, b, c);
+    let third = closing_mask(t, q, 2, 0, 1, b, c);
+    if (first | second | third) == 0 {
+        return before;
+    }
+    let old = before.places;
+    let places = less_closing(t, q, first, second, third, old);
+    if same(places, old) {
+        return before;
+    }
+    Remaining {
+        places,
+        rules: before.rules | single(q as usize),
+        last: q,
+    }
+}
+
+// Whether a rule of a set has anything to take beside b and c.
+fn touches(t: &[u64], rules: u64, q: u8, b: usize, c: usize) -> bool
+    ensures { λ r. ⌜ (r ≡ true → has rules q ≡ true) × (r ≡ false → has rules q ≡ true → (p : ℕ) → closes (now (t .entry)) q b c p ≡ false) ⌝ }
+{
+    if contains(rules, q as usize) {
+        let first = closing_mask(t, q, 0, 1, 2, b, c);
+        let second = closing_mask(t, q, 1, 0, 2, b, c);
+        let third = closing_mask(t, q, 2, 0, 1, b, c);
+        return (first | second | third) != 0;
+    }
+    false
+}
+
+// The rules of a set that have.
+fn touching(t: &[u64], rules: u64, b: usize, c: usize) -> u64
+    ensures { λ r. ⌜ ((q : ℕ) → has r q ≡ true → (q < 32) × (has rules q ≡ true)) × ((q p : ℕ) → q < 32 → has r q ≡ false → has rules q ≡ true → closes (now (t .entry)) q b c p ≡ false) ⌝ }
+{
+    let mut found = 0u64;
+    for q in 0..32u8 {
+        found = found | word_if(touches(t, rules, q, b, c), single(q as usize));
+    }
+    found
+}
+
+// The rule that took last has its turn first: it often takes all that is left.
+fn again(t: &[u64], rules: u64, b: usize, c: usize, before: Remaining) -> Remaining
+    ensures { λ r. ⌜ Sifted (now (t .entry)) rules (λ q. false) b c before r ⌝ }
+{
+    let q = before.last;
+    if (q < 32) & contains(rules, q as usize) {
+        return turn(t, q, b, c, before);
+    }
+    before
+}
+
+// Whether rule q took last, and left nothing.
+fn emptied(rest: Remaining, q: u8) -> bool
+    ensures { λ r. ⌜ (r ≡ true → (w : ℕ) → getD (rest .places) w 0 ≡ 0) ⌝ }
+{
+    if rest.last == q {
+        let places = rest.places;
+        return is_empty(places);
+    }
+    false
+}
+
+// A set less what breaks a rule of a set beside b and c. It ends where nothing is left.
+pub fn sift(t: &[u64], rules: u64, b: usize, c: usize, before: Remaining) -> Remaining
+    ensures { λ r. ⌜ Sifted (now (t .entry)) rules (has rules) b c before r ⌝ }
+{
+    let mut rest = again(t, rules, b, c, before);
+    let places = rest.places;
+    if is_empty(places) {
+        return rest;
+    }
+    let mut waiting = touching(t, rules, b, c);
+    while waiting != 0 {
+        let q = lowest(waiting) as u8;
+        let next = turn(t, q, b, c, rest);
+        rest = next;
+        waiting = waiting & !single(q as usize);
+        if emptied(rest, q) {
+            return rest;
+        }
+    }
+    rest
+}

@@ -1,0 +1,138 @@
+// The rules of a book as words, made once a call: for each rule and reference the places that meet
+// it, and for each restriction the operations that it takes there, four times over.
+use crate::obtaining::four;
+use book::fields::action;
+use book::fields::head_of;
+use book::fields::reference_count;
+use book::fields::restriction_count;
+use book::fields::restriction_mask;
+use book::fields::rule_at;
+use book::rules::covered_users;
+use book::rules::leaf_set;
+use book::sets::contains;
+use verdicts::breaking::action_fits;
+use verdicts::breaking::all_if_zero;
+use verdicts::breaking::word_if;
+ghost use mathlib.Core.Path.{_≡_};
+ghost use mathlib.Core.Bool.{_&&_, cond};
+ghost use Prim.Native.Nat.{ℕ, _+_, _*_, _/_, _%_, _≤_, _<_};
+ghost use lib.ListN.{getD};
+ghost use Rattle.book.specs.Sets.{has, WordOf};
+ghost use Rattle.book.specs.Blocks.{headOf, ruleAt};
+ghost use Rattle.book.specs.Rule.{inLeafSet};
+ghost use Rattle.verdicts.specs.Accesses.{actionFits};
+ghost use Rattle.search.specs.Table.{TableHolds, CoversHold, RuleWord, meetsReference, takesOperation};
+
+// All operations of one leaf, if it is in a set.
+fn if_leaf(leaves: u64, d: usize) -> u64
+    ensures { λ r. ⌜ (r ≡ cond (has leaves d) 65535 0) × (r < 65536) ⌝ }
+{
+    word_if(contains(leaves, d), 65535)
+}
+
+// Word w of the places of some leaves under an action, with every operation.
+fn fitting_word(action: usize, leaves: u64, w: usize) -> u64
+    ensures { λ r. ⌜ ((i : ℕ) → i < 64 → w < 32 → has r i ≡ (actionFits action (w / 16) && has leaves (w % 16 * 4 + i / 16))) ⌝ }
+{
+    if action_fits(action, w / 16) {
+        let d = w % 16 * 4;
+        return four(if_leaf(leaves, d), if_leaf(leaves, d + 1), if_leaf(leaves, d + 2), if_leaf(leaves, d + 3));
+    }
+    0
+}
+
+// Word w of the places that meet reference i, all of them where it is absent.
+fn reference_word(rule: &[u8], leaves: u64, i: u8, w: usize) -> u64
+    ensures { λ r. ⌜ ((p : ℕ) → p ≤ 2048 → p / 64 ≡ w → has r (p % 64) ≡ meetsReference (now (rule .entry)) leaves i p) ⌝ }
+{
+    if reference_count(rule) <= i as usize {
+        return 18446744073709551615;
+    }
+    if w < 32 {
+        return fitting_word(action(rule, i), leaves, w);
+    }
+    0
+}
+
+// The operations that restriction j takes at reference i, four times over.
+fn restriction_word(rule: &[u8], i: u8, j: u8) -> u64
+    ensures { λ r. ⌜ ((p : ℕ) → has r (p % 64) ≡ takesOperation (now (rule .entry)) i j p) ⌝ }
+{
+    if restriction_count(rule) <= j as usize {
+        return 0;
+    }
+    let mask = all_if_zero(restriction_mask(rule, j, i));
+    four(mask, mask, mask, mask)
+}
+
+// Word k of a rule's 128 words: three times 33 words of places, then 24 of restrictions.
+fn rule_word(rule: &[u8], leaves: u64, k: usize) -> u64
+    ensures { λ r. ⌜ RuleWord (now (rule .entry)) leaves k r ⌝ }
+{
+    if k < 99 {
+        return reference_word(rule, leaves, (k / 33) as u8, k % 33);
+    }
+    if k < 123 {
+        return restriction_word(rule, ((k - 99) / 8) as u8, ((k - 99) % 8) as u8);
+    }
+    0
+}
+
+// The leaf sets of the references of the first n rules, three for each.
+fn leaf_sets(book: &[u8], n: u8) -> [u64; 96]
+    ensures { λ r. ⌜ (n ≤ 32 → (m : ℕ) → m < 3 * n → WordOf (inLeafSet (headOf (now (book .entry))) (ruleAt (now (book .entry)) (m / 3)) (m % 3)) (getD r m 0)) ⌝ }
+{
+    let head = head_of(book);
+    let mut sets = [0u64; 96];
+    if 32 < n {
+        return sets;
+    }
+    let count = 3 * (n as usize);
+    for m in 0..count {
+        sets[m] = leaf_set(head, rule_at(book, (m / 3) as u8), (m % 3) as u8);
+    }
+    sets
+}
+
+// The leaf set that word k of rule q is about.
+fn leaves_for(sets: [u64; 96], q: usize, k: usize) -> u64
+    ensures { λ r. ⌜ (q < 32 → k < 99 → r ≡ getD sets (3 * q + k / 33) 0) ⌝ }
+{
+    if (q < 32) & (k < 99) {
+        return sets[3 * q + k / 33];
+    }
+    0
+}
+
+// The tables of the first n rules.
+pub fn table(book: &[u8], n: u8) -> [u64; 4096]
+    ensures { λ r. ⌜ (n ≤ 32 → TableHolds (now (book .entry)) n r) ⌝ }
+{
+    let sets = leaf_sets(book, n);
+    let mut t = [0u64; 4096];
+    if 32 < n {
+        return t;
+    }
+    let count = 128 * (n as usize);
+    for m in 0..count {
+        let leaves = leaves_for(sets, m / 128, m % 128);
+        t[m] = rule_word(rule_at(book, (m / 128) as u8), leaves, m % 128);
+    }
+    t
+}
+
+// For each of the first n rules the users that it covers.
+pub fn covered_by(book: &[u8], n: u8) -> [u64; 32]
+    ensures { λ r. ⌜ (n ≤ 32 → CoversHold (now (book .entry)) n r) ⌝ }
+{
+    let head = head_of(book);
+    let mut covered = [0u64; 32];
+    if 32 < n {
+        return covered;
+    }
+    let count = n as usize;
+    for r in 0..count {
+        covered[r] = covered_users(head, rule_at(book, r as u8));
+    }
+    covered
+}

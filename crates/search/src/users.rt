@@ -1,0 +1,90 @@
+// The first user for whom a rule is broken alone. A search that ends with nothing leaves the rules
+// that mattered; a later user whom all of these cover needs no search.
+use crate::searching::Sought;
+use crate::searching::search;
+use book::sets::contains;
+use book::sets::single;
+use verdicts::breaking::word_if;
+ghost use mathlib.Core.Path.{_≡_};
+ghost use mathlib.Core.Bool.{true, false, _&&_};
+ghost use Prim.Native.Nat.{ℕ, _<_};
+ghost use lib.Dec.{ltb};
+ghost use lib.ListN.{getD};
+ghost use Rattle.book.specs.Sets.{has};
+ghost use Rattle.search.specs.Search.{coversIn, othersFor, Settles, SearchedFor, NeedsFirst};
+
+// Nobody; or the first user, and the three places of its first choice.
+pub enum Needs {
+    Nobody,
+    User { user: u8, first: usize, second: usize, third: usize },
+}
+
+// A mask that settles nothing.
+const UNSETTLED: u64 = 18446744073709551615;
+
+// Whether rule q covers user u.
+fn covers(covered: [u64; 32], q: u8, u: u8) -> bool
+    ensures { λ r. ⌜ r ≡ coversIn covered q u ⌝ }
+{
+    if q < 32 {
+        return contains(covered[q as usize], u as usize);
+    }
+    false
+}
+
+// The rules other than r that cover user u.
+fn others(covered: [u64; 32], r: u8, u: u8) -> u64
+    ensures { λ w. ⌜ ((q : ℕ) → has w q ≡ (ltb q 32 && othersFor r covered u q)) ⌝ }
+{
+    let mut found = 0u64;
+    for q in 0..32u8 {
+        let other = covers(covered, q, u) & (q != r);
+        found = found | word_if(other, single(q as usize));
+    }
+    found
+}
+
+// Whether all rules of one of the masks are in a set.
+fn settled(masks: [u64; 32], rules: u64) -> bool
+    ensures { λ r. ⌜ (r ≡ true → (i : ℕ) × (i < 32) × ((q : ℕ) → has (getD masks i 0) q ≡ true → has rules q ≡ true)) ⌝ }
+{
+    for i in 0..32usize {
+        if masks[i] & !rules == 0 {
+            return true;
+        }
+    }
+    false
+}
+
+// The search for user u, given masks from the users before.
+fn search_for(t: &[u64], r: u8, n: u8, had: [u64; 32], covered: [u64; 32], masks: [u64; 32], u: u8) -> Sought
+    ensures { λ s. ⌜ (((i : ℕ) → i < 32 → Settles (now (t .entry)) r n had (getD masks i 0)) → SearchedFor (now (t .entry)) r n had covered u s) ⌝ }
+{
+    let rules = others(covered, r, u);
+    if !covers(covered, r, u) {
+        return Sought::Nothing { rules: UNSETTLED, last: 0 };
+    }
+    if settled(masks, rules) {
+        return Sought::Nothing { rules: UNSETTLED, last: 0 };
+    }
+    search(t, r, n, had, rules)
+}
+
+// The first user, and the first choice for it, by the tables.
+pub fn first_user(t: &[u64], r: u8, n: u8, had: [u64; 32], covered: [u64; 32]) -> Needs
+    ensures { λ s. ⌜ NeedsFirst (now (t .entry)) r n had covered s ⌝ }
+{
+    let mut masks = [UNSETTLED; 32];
+    for u in 0..32u8 {
+        let sought = search_for(t, r, n, had, covered, masks, u);
+        match sought {
+            Sought::Found { first, second, third } => {
+                return Needs::User { user: u, first, second, third };
+            }
+            Sought::Nothing { rules, last: _ } => {
+                masks[u as usize] = rules;
+            }
+        }
+    }
+    Needs::Nobody
+}
