@@ -17,7 +17,10 @@ ghost use Rattle.search.specs.Closing.{acceptedAt, closesAt, closesBy};
 fn meets(t: &[u64], q: u8, i: u8, p: usize) -> bool
     ensures { λ r. ⌜ r ≡ meets (now (t .entry)) q i p ⌝ }
 {
-    contains(word_at(t, 128 * (q as usize) + 33 * (i as usize) + p / 64), p % 64)
+    contains(
+        word_at(t, 128 * (q as usize) + 33 * (i as usize) + p / 64),
+        p % 64,
+    )
 }
 
 // The operations that restriction j of rule q takes at reference i.
@@ -58,7 +61,14 @@ pub fn closing_mask(t: &[u64], q: u8, i: u8, k: u8, l: u8, b: usize, c: usize) -
 }
 
 // A set less the places that meet a reference of rule q with one of the operations given for it.
-pub fn less_closing(t: &[u64], q: u8, first: u64, second: u64, third: u64, set: [u64; 33]) -> [u64; 33]
+pub fn less_closing(
+    t: &[u64],
+    q: u8,
+    first: u64,
+    second: u64,
+    third: u64,
+    set: [u64; 33],
+) -> [u64; 33]
     ensures { λ r. ⌜ ((p : ℕ) → p < 2112 → inPlaces r p ≡ (inPlaces set p && not ((meets (now (t .entry)) q 0 p && has first (p % 64)) || ((meets (now (t .entry)) q 1 p && has second (p % 64)) || (meets (now (t .entry)) q 2 p && has third (p % 64)))))) ⌝ }
 {
     let at = 128 * (q as usize);

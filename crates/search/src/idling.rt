@@ -61,7 +61,13 @@ fn needs(book: &[u8], rule: u8) -> Needs
     let n = rule_total(book);
     let t = table(book, n);
     let references = reference_count(rule_at(book, rule)) as u8;
-    first_user(&t, rule, references, obtainable(head_of(book)), covered_by(book, n))
+    first_user(
+        &t,
+        rule,
+        references,
+        obtainable(head_of(book)),
+        covered_by(book, n),
+    )
 }
 
 // The answer for what was found, with the plan in the buffer.
@@ -70,7 +76,12 @@ fn shown(head: &[u8], found: Needs, buffer: &mut [u8]) -> Idleness
 {
     match found {
         Needs::Nobody => Idleness::Idle,
-        Needs::User { user, first, second, third } => {
+        Needs::User {
+            user,
+            first,
+            second,
+            third,
+        } => {
             let rows = row_total(first, second, third);
             write_plan(buffer, shown_plan(head, first, second, third), 4 * rows);
             Idleness::Needed {

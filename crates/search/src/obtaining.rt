@@ -43,7 +43,7 @@ fn operations_of(head: &[u8]) -> u64
 
 // The operations with which an access of label d can be had.
 fn operations_for(head: &[u8], labels: u64, operations: u64, d: u8) -> u64
-    ensures { λ r. ⌜ (r < 65536) × (WordOf (labelled (now (head .entry))) labels → WordOf (λ k. any (λ f. eqb (operation (now (head .entry)) f) k) (upTo (functionCount (now (head .entry))))) operations → d < 64 → (k : ℕ) → k < 16 → has r k ≡ (labelled (now (head .entry)) d && operated (now (head .entry)) d k)) ⌝ }
+    ensures { λ r. ⌜ (WordOf (labelled (now (head .entry))) labels → WordOf (λ k. any (λ f. eqb (operation (now (head .entry)) f) k) (upTo (functionCount (now (head .entry))))) operations → d < 64 → (k : ℕ) → k < 16 → has r k ≡ (labelled (now (head .entry)) d && operated (now (head .entry)) d k)) ⌝ }
 {
     if contains(labels, d as usize) {
         return 1 | support(head, d) & operations;
@@ -51,14 +51,11 @@ fn operations_for(head: &[u8], labels: u64, operations: u64, d: u8) -> u64
     0
 }
 
-// Four masks of 16 bits as one word.
+// Four masks of 16 bits as one word, what is above them cut off.
 pub fn four(a: u64, b: u64, c: u64, d: u64) -> u64
-    ensures { λ r. ⌜ (a < 65536 → b < 65536 → c < 65536 → d < 65536 → (i : ℕ) → i < 64 → has r i ≡ has (cond (ltb i 16) a (cond (ltb i 32) b (cond (ltb i 48) c d))) (i % 16)) ⌝ }
+    ensures { λ r. ⌜ ((i : ℕ) → i < 64 → has r i ≡ has (cond (ltb i 16) a (cond (ltb i 32) b (cond (ltb i 48) c d))) (i % 16)) ⌝ }
 {
-    if (65536 <= a) | (65536 <= b) | (65536 <= c) | (65536 <= d) {
-        return 0;
-    }
-    a + 65536 * b + 4294967296 * c + 281474976710656 * d
+    a % 65536 + 65536 * (b % 65536) + 4294967296 * (c % 65536) + 281474976710656 * (d % 65536)
 }
 
 // The set of the accesses that can be had, bit p % 64 of word p / 64 for the one at place p.

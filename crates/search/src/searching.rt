@@ -10,7 +10,7 @@ use crate::sifting::Remaining;
 use crate::sifting::sift;
 use lineage::reach::word_at;
 ghost use mathlib.Core.Path.{_≡_};
-ghost use mathlib.Core.Bool.{_&&_, not};
+ghost use mathlib.Core.Bool.{true, _&&_, not};
 ghost use Prim.Native.Nat.{ℕ, _+_, _*_, _%_, _<_};
 ghost use lib.ListN.{getD};
 ghost use Rattle.book.specs.Sets.{has};
@@ -19,8 +19,15 @@ ghost use Rattle.search.specs.Search.{referenceAt, candidate, solves, so
 
 // The first three places; or the rules that took places away, and which of them did so last.
 pub enum Sought {
-    Found { first: usize, second: usize, third: usize },
-    Nothing { rules: u64, last: u8 },
+    Found {
+        first: usize,
+        second: usize,
+        third: usize,
+    },
+    Nothing {
+        rules: u64,
+        last: u8,
+    },
 }
 
 // The reference that stands i-th.
@@ -62,7 +69,15 @@ fn less_operations(set: [u64; 33], operations: u64) -> [u64; 33]
 fn thirds(t: &[u64], r: u8, n: u8, rules: u64, a: usize, y: usize, before: Remaining) -> Remaining
     ensures { λ s. ⌜ Thirds (now (t .entry)) r n rules a y before s ⌝ }
 {
-    let accepted = accepted_beside(t, r, reference_at(n, 2), reference_at(n, 0), reference_at(n, 1), a, y);
+    let accepted = accepted_beside(
+        t,
+        r,
+        reference_at(n, 2),
+        reference_at(n, 0),
+        reference_at(n, 1),
+        a,
+        y,
+    );
     let all = before.places;
     let places = less_operations(all, accepted);
     let refused = Remaining {
@@ -74,8 +89,16 @@ fn thirds(t: &[u64], r: u8, n: u8, rules: u64, a: usize, y: usize, before: Remai
 }
 
 // The first second and third place beside first place a.
-fn beside(t: &[u64], r: u8, n: u8, rules: u64, a: usize, seconds: [u64; 33], before: Remaining) -> Sought
-    ensures { λ s. ⌜ Searched (solvesBeside (now (t .entry)) r n a seconds (before .places)) rules (before .rules) s ⌝ }
+fn beside(
+    t: &[u64],
+    r: u8,
+    n: u8,
+    rules: u64,
+    a: usize,
+    seconds: [u64; 33],
+    before: Remaining,
+) -> Sought
+    ensures { λ s. ⌜ (((j : ℕ) → has (before .rules) j ≡ true → has rules j ≡ true) → Searched (solvesBeside (now (t .entry)) r n a seconds (before .places)) rules (before .rules) s) ⌝ }
 {
     let places = before.places;
     let mut seen = before.rules;
@@ -85,12 +108,20 @@ fn beside(t: &[u64], r: u8, n: u8, rules: u64, a: usize, seconds: [u64; 33], bef
     }
     let mut y = first_from(seconds, 0);
     while y < PAST_PLACES {
-        let from = Remaining { places, rules: seen, last };
+        let from = Remaining {
+            places,
+            rules: seen,
+            last,
+        };
         let rest = thirds(t, r, n, rules, a, y, from);
         let open = rest.places;
         let x = first_from(open, 0);
         if x < PAST_PLACES {
-            return Sought::Found { first: a, second: y, third: x };
+            return Sought::Found {
+                first: a,
+                second: y,
+                third: x,
+            };
         }
         seen = rest.rules;
         last = rest.last;
@@ -100,8 +131,16 @@ fn beside(t: &[u64], r: u8, n: u8, rules: u64, a: usize, seconds: [u64; 33], bef
 }
 
 // The same where the sets still hold what breaks a rule beside a: it is dropped once.
-fn beside_first(t: &[u64], r: u8, n: u8, rules: u64, a: usize, seconds: [u64; 33], before: Remaining) -> Sought
-    ensures { λ s. ⌜ Searched (solvesFirst (now (t .entry)) r n a seconds (before .places)) rules (before .rules) s ⌝ }
+fn beside_first(
+    t: &[u64],
+    r: u8,
+    n: u8,
+    rules: u64,
+    a: usize,
+    seconds: [u64; 33],
+    before: Remaining,
+) -> Sought
+    ensures { λ s. ⌜ (((j : ℕ) → has (before .rules) j ≡ true → has rules j ≡ true) → Searched (solvesFirst (now (t .entry)) r n a seconds (before .places)) rules (before .rules) s) ⌝ }
 {
     let from = Remaining {
         places: seconds,
@@ -121,21 +160,44 @@ fn beside_first(t: &[u64], r: u8, n: u8, rules: u64, a: usize, seconds: [u64; 33
 }
 
 // The first three places in three sets.
-fn among(t: &[u64], r: u8, n: u8, rules: u64, firsts: [u64; 33], seconds: [u64; 33], before: Remaining) -> Sought
-    ensures { λ s. ⌜ Searched (solvesIn (now (t .entry)) r n firsts seconds (before .places)) rules (before .rules) s ⌝ }
+fn among(
+    t: &[u64],
+    r: u8,
+    n: u8,
+    rules: u64,
+    firsts: [u64; 33],
+    seconds: [u64; 33],
+    before: Remaining,
+) -> Sought
+    ensures { λ s. ⌜ (((j : ℕ) → has (before .rules) j ≡ true → has rules j ≡ true) → Searched (solvesIn (now (t .entry)) r n firsts seconds (before .places)) rules (before .rules) s) ⌝ }
 {
     let places = before.places;
     let mut seen = before.rules;
     let mut last = before.last;
     let mut a = first_from(firsts, 0);
     while a < PAST_PLACES {
-        let from = Remaining { places, rules: seen, last };
+        let from = Remaining {
+            places,
+            rules: seen,
+            last,
+        };
         let sought = beside_first(t, r, n, rules, a, seconds, from);
         match sought {
-            Sought::Found { first, second, third } => {
-                return Sought::Found { first, second, third };
+            Sought::Found {
+                first,
+                second,
+                third,
+            } => {
+                return Sought::Found {
+                    first,
+                    second,
+                    third,
+                };
             }
-            Sought::Nothing { rules: more, last: next } => {
+            Sought::Nothing {
+                rules: more,
+                last: next,
+            } => {
                 seen = more;
                 last = next;
             }
@@ -146,11 +208,24 @@ fn among(t: &[u64], r: u8, n: u8, rules: u64, firsts: [u64; 33], seconds: [u64; 
 }
 
 // The candidates of the reference that stands i-th, less what breaks a rule by itself.
-fn alone(t: &[u64], r: u8, n: u8, had: [u64; 32], rules: u64, i: u8, seen: u64, last: u8) -> Remaining
+fn alone(
+    t: &[u64],
+    r: u8,
+    n: u8,
+    had: [u64; 32],
+    rules: u64,
+    i: u8,
+    seen: u64,
+    last: u8,
+) -> Remaining
     ensures { λ s. ⌜ Possible (now (t .entry)) r n had rules i seen s ⌝ }
 {
     let places = candidates(t, r, n, had, i);
-    let from = Remaining { places, rules: seen, last };
+    let from = Remaining {
+        places,
+        rules: seen,
+        last,
+    };
     sift(t, rules, NOWHERE, NOWHERE, from)
 }
 

@@ -24,7 +24,7 @@ pub struct Remaining {
 
 // Rule q takes from a set what breaks it beside b and c.
 fn turn(t: &[u64], q: u8, b: usize, c: usize, before: Remaining) -> Remaining
-    ensures { λ r. ⌜ Turned (now (t .entry)) q b c before r ⌝ }
+    ensures { λ r. ⌜ (q < 32 → Turned (now (t .entry)) q b c before r) ⌝ }
 {
     let first = closing_mask(t, q, 0, 1, 2, b, c);
     let second = closing_mask(t, q, 1, 0, 2, b, c);

@@ -16,16 +16,17 @@ use verdicts::breaking::word_if;
 ghost use mathlib.Core.Path.{_≡_};
 ghost use mathlib.Core.Bool.{_&&_, cond};
 ghost use Prim.Native.Nat.{ℕ, _+_, _*_, _/_, _%_, _≤_, _<_};
+ghost use lib.Dec.{ltb};
 ghost use lib.ListN.{getD};
 ghost use Rattle.book.specs.Sets.{has, WordOf};
 ghost use Rattle.book.specs.Blocks.{headOf, ruleAt};
-ghost use Rattle.book.specs.Rule.{inLeafSet};
+ghost use Rattle.book.specs.Rule.{coversUser, inLeafSet};
 ghost use Rattle.verdicts.specs.Accesses.{actionFits};
 ghost use Rattle.search.specs.Table.{TableHolds, CoversHold, RuleWord, meetsReference, takesOperation};
 
 // All operations of one leaf, if it is in a set.
 fn if_leaf(leaves: u64, d: usize) -> u64
-    ensures { λ r. ⌜ (r ≡ cond (has leaves d) 65535 0) × (r < 65536) ⌝ }
+    ensures { λ r. ⌜ r ≡ cond (has leaves d) 65535 0 ⌝ }
 {
     word_if(contains(leaves, d), 65535)
 }
@@ -36,7 +37,12 @@ fn fitting_word(action: usize, leaves: u64, w: usize) -> u64
 {
     if action_fits(action, w / 16) {
         let d = w % 16 * 4;
-        return four(if_leaf(leaves, d), if_leaf(leaves, d + 1), if_leaf(leaves, d + 2), if_leaf(leaves, d + 3));
+        return four(
+            if_leaf(leaves, d),
+            if_leaf(leaves, d + 1),
+            if_leaf(leaves, d + 2),
+            if_leaf(leaves, d + 3),
+        );
     }
     0
 }
@@ -98,10 +104,13 @@ fn leaf_sets(book: &[u8], n: u8) -> [u64; 96]
 fn leaves_for(sets: [u64; 96], q: usize, k: usize) -> u64
     ensures { λ r. ⌜ (q < 32 → k < 99 → r ≡ getD sets (3 * q + k / 33) 0) ⌝ }
 {
-    if (q < 32) & (k < 99) {
-        return sets[3 * q + k / 33];
+    if 32 <= q {
+        return 0;
     }
-    0
+    if 99 <= k {
+        return 0;
+    }
+    sets[3 * q + k / 33]
 }
 
 // The tables of the first n rules.
@@ -121,18 +130,23 @@ pub fn table(book: &[u8], n: u8) -> [u64; 4096]
     t
 }
 
+// The users that rule r covers, if it is one of the first n.
+fn covered_at(book: &[u8], n: u8, r: u8) -> u64
+    ensures { λ w. ⌜ ((u : ℕ) → u < 32 → has w u ≡ (ltb r n && coversUser (headOf (now (book .entry))) (ruleAt (now (book .entry)) r) u)) ⌝ }
+{
+    if n <= r {
+        return 0;
+    }
+    covered_users(head_of(book), rule_at(book, r))
+}
+
 // For each of the first n rules the users that it covers.
 pub fn covered_by(book: &[u8], n: u8) -> [u64; 32]
-    ensures { λ r. ⌜ (n ≤ 32 → CoversHold (now (book .entry)) n r) ⌝ }
+    ensures { λ r. ⌜ CoversHold (now (book .entry)) n r ⌝ }
 {
-    let head = head_of(book);
     let mut covered = [0u64; 32];
-    if 32 < n {
-        return covered;
-    }
-    let count = n as usize;
-    for r in 0..count {
-        covered[r] = covered_users(head, rule_at(book, r as u8));
+    for r in 0..32usize {
+        covered[r] = covered_at(book, n, r as u8);
     }
     covered
 }

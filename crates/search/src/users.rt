@@ -16,7 +16,12 @@ ghost use Rattle.search.specs.Search.{coversIn, othersFor, Settles, Sear
 // Nobody; or the first user, and the three places of its first choice.
 pub enum Needs {
     Nobody,
-    User { user: u8, first: usize, second: usize, third: usize },
+    User {
+        user: u8,
+        first: usize,
+        second: usize,
+        third: usize,
+    },
 }
 
 // A mask that settles nothing.
@@ -57,15 +62,29 @@ fn settled(masks: [u64; 32], rules: u64) -> bool
 }
 
 // The search for user u, given masks from the users before.
-fn search_for(t: &[u64], r: u8, n: u8, had: [u64; 32], covered: [u64; 32], masks: [u64; 32], u: u8) -> Sought
+fn search_for(
+    t: &[u64],
+    r: u8,
+    n: u8,
+    had: [u64; 32],
+    covered: [u64; 32],
+    masks: [u64; 32],
+    u: u8,
+) -> Sought
     ensures { λ s. ⌜ (((i : ℕ) → i < 32 → Settles (now (t .entry)) r n had (getD masks i 0)) → SearchedFor (now (t .entry)) r n had covered u s) ⌝ }
 {
     let rules = others(covered, r, u);
     if !covers(covered, r, u) {
-        return Sought::Nothing { rules: UNSETTLED, last: 0 };
+        return Sought::Nothing {
+            rules: UNSETTLED,
+            last: 0,
+        };
     }
     if settled(masks, rules) {
-        return Sought::Nothing { rules: UNSETTLED, last: 0 };
+        return Sought::Nothing {
+            rules: UNSETTLED,
+            last: 0,
+        };
     }
     search(t, r, n, had, rules)
 }
@@ -78,8 +97,17 @@ pub fn first_user(t: &[u64], r: u8, n: u8, had: [u64; 32], covered: [u64; 32]) -
     for u in 0..32u8 {
         let sought = search_for(t, r, n, had, covered, masks, u);
         match sought {
-            Sought::Found { first, second, third } => {
-                return Needs::User { user: u, first, second, third };
+            Sought::Found {
+                first,
+                second,
+                third,
+            } => {
+                return Needs::User {
+                    user: u,
+                    first,
+                    second,
+                    third,
+                };
             }
             Sought::Nothing { rules, last: _ } => {
                 masks[u as usize] = rules;

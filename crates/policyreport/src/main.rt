@@ -1,0 +1,88 @@
+// The report: reads small.book and prints one line a rule, idle or the first user and plan that
+// break it alone.
+use book::Checked;
+use book::Refusal;
+use book::check;
+use libc::STDOUT_FILENO;
+use search::Idleness;
+use search::idle;
+
+// One byte more than the longest book: a longer file is refused for its length.
+const MOST: usize = 18433;
+
+fn text(bytes: &[u8]) {
+    io::write_all(STDOUT_FILENO, bytes);
+}
+
+fn number(n: u32) {
+    io::print_decimal(STDOUT_FILENO, n as u64);
+}
+
+fn digit(n: u8) {
+    if n < 10 {
+        text(&[48 + n]);
+        return;
+    }
+    if n < 16 {
+        text(&[87 + n]);
+    }
+}
+
+// The rows of a plan, eight hexadecimal digits each.
+fn rows(plan: &[u8], count: u32) {
+    for i in 0..36usize {
+        if (i < 4 * (count as usize)) & (i < plan.len()) {
+            if i % 4 == 0 {
+                text(b" ");
+            }
+            digit(plan[i] / 16);
+            digit(plan[i] % 16);
+        }
+    }
+}
+
+// The line of a rule.
+fn line(book: &[u8], rule: u32) {
+    let mut plan = [0u8; 36];
+    let answer = idle(book, rule, &mut plan);
+    text(b"rule ");
+    number(rule);
+    match answer {
+        Idleness::Idle => text(b" idle"),
+        Idleness::Needed { user, rows: count } => {
+            text(b" user ");
+            number(user);
+            text(b" plan");
+            rows(&plan, count);
+        }
+        Idleness::Refused(_) => text(b" refused"),
+    }
+    text(b"\n");
+}
+
+fn refused(refusal: Refusal) {
+    text(b"refused ");
+    number(refusal.number);
+    text(b" block ");
+    number(refusal.place);
+    text(b"\n");
+}
+
+fn report(book: &[u8]) {
+    match check(book) {
+        Checked::Refused(refusal) => refused(refusal),
+        Checked::Accepted(n) => {
+            for r in 0..n {
+                line(book, r);
+            }
+        }
+    }
+}
+
+fn main() {
+    let mut bytes = [0u8; 18433];
+    let file = os::open_read(b"small.book");
+    let n = io::read_full(file, &mut bytes);
+    libc::close(file);
+    report(&bytes[..n]);
+}

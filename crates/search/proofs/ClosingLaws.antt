@@ -1,0 +1,145 @@
+-- Laws of the tables: the operations that some restriction takes beside two places, those that break a rule, and sets
+-- less the places that do. Assumes nothing.
+use Prim.Native.Nat.{ℕ, _+_, _*_, _-_, _/_, _%_, _^_, _<_}
+use native.Mathlib.Omega.{arith}
+use native.Mathlib.Nat.{lt-of-le-of-lt}
+use mathlib.Core.Path.{_≡_, refl, sym, ap}
+use mathlib.Core.Bool.{Bool, true, false, _&&_, _||_, not, cond, false≢true}
+use mathlib.Core.List.{List}
+use lib.ListN.{getD}
+use lib.Bits.{bitAnd, bitOr, and-le-r, or-lt}
+use borrow.Author.Tests.{lt-ltb}
+use Rattle.book.specs.Lists.{any, upTo}
+use Rattle.book.specs.Sets.{has}
+use Rattle.book.proofs.Lists.{and-left, and-right, any-none, any-more, or-assoc}
+use Rattle.book.proofs.Members.{has-zero, has-or, has-and, has-not, has-minus}
+use Rattle.lineage.proofs.Tables.{Filled}
+use Rattle.verdicts.proofs.Marks.{has-if}
+use Rattle.search.specs.Places.{inPlaces}
+use Rattle.search.specs.Table.{meets, takesAt}
+use Rattle.search.specs.Closing.{acceptedAt, closesAt}
+
+module _ (t : List ℕ) (q i k l b c : ℕ) where
+  -- The restrictions
+
+  -- restriction j takes p at i, b at k and c at l
+  abbrev pub taking : ℕ → ℕ → Bool
+  taking p j = takesAt t q i j p && (takesAt t q k j b && takesAt t q l j c)
+
+  -- the operations that one of the first n restrictions takes at i
+  abbrev pub Accepting : ℕ → ℕ → Type 0
+  Accepting n word = (p : ℕ) → has word (p % 64) ≡ any (taking p) (upTo n)
+
+  pub accepting-none : Accepting 0 0
+  accepting-none p = rw (has-zero, any-none (taking p))
+
+  pub accepting-more :
+      (j word first second third r : ℕ) (x y : Bool)
+      → Accepting j word
+      → first ≡ getD t (128 * q + 99 + 8 * k + j) 0
+      → second ≡ getD t (128 * q + 99 + 8 * l + j) 0
+      → third ≡ getD t (128 * q + 99 + 8 * i + j) 0
+      → x ≡ has first (b % 64)
+      → y ≡ has second (c % 64)
+      → r ≡ cond (x && y) third 0
+      → Accepting (j + 1) (bitOr word r)
+  unfolding takesAt
+  accepting-more j word first second third r x y old ef es et ex ey er p =
+      rw (has-or, old p, has-if (x && y) third r (p % 64) er, ex, ey, ef, es, et, any-more (taking p) j)
+      (ap (λ (z : Bool). any (taking p) (upTo j) || z)
+      (swap (takesAt t q k j b && takesAt t q l j c) (takesAt t q i j p)))
+    where
+      swap : (u v : Bool) → (u && v) ≡ (v && u)
+      swap true true = refl
+      swap true false = refl
+      swap false true = refl
+      swap false false = refl
+
+  pub accepting-end : (n word : ℕ) → n ≡ 8 → Accepting n word → (p : ℕ)
+      → has word (p % 64) ≡ acceptedAt t q i k l b c p
+  unfolding acceptedAt
+  accepting-end n word e old p = rw (← e) (old p)
+
+  -- What breaks the rule
+
+  pub closing-taken :
+      (x y : Bool) (word p : ℕ)
+      → x ≡ meets t q k b
+      → y ≡ meets t q l c
+      → (x && y) ≡ true
+      → word < 2 ^ 64
+      → has word (p % 64) ≡ acceptedAt t q i k l b c p
+      → has ((2 ^ 64 - 1) - word) (p % 64) ≡ closesAt t q i k l b c p
+  unfolding closesAt
+  closing-taken x y word p ex ey both fits e =
+      rw (
+        has-not 64 word (p % 64) fits,
+        lt-ltb (p % 64) 64 (omega arith),
+        ← ex,
+        ← ey,
+        and-left x y both,
+        and-right x y both,
+        e,
+      )
+
+  pub closing-left :
+      (x y : Bool) (p : ℕ)
+      → x ≡ meets t q k b
+      → y ≡ meets t q l c
+      → (x && y) ≡ false
+      → has 0 (p % 64) ≡ closesAt t q i k l b c p
+  unfolding closesAt
+  closing-left x y p ex ey both = rw (has-zero, ← ex, ← ey) (go x y both)
+    where
+      go : (u v : Bool) → (u && v) ≡ false → false ≡ (u && (v && not (acceptedAt t q i k l b c p)))
+      go true true e = absurd (false≢true (sym e))
+      go true false e = refl
+      go false v e = refl
+
+-- Sets less what breaks a rule
+
+module _ (t : List ℕ) (q first second third : ℕ) where
+  -- word w of a set, less the places that meet a reference with one of the operations given for it
+  abbrev pub lessWord : List ℕ → ℕ → ℕ
+  lessWord set w =
+      bitAnd (getD set w 0) ((2 ^ 64 - 1)
+      - bitOr (bitOr (bitAnd (getD t (128 * q + w) 0) first) (bitAnd (getD t (128 * q + 33 + w) 0) second))
+      (bitAnd (getD t (128 * q + 66 + w) 0) third))
+
+  pub less-places :
+      (set rest : List ℕ) (w p : ℕ)
+      → first < 2 ^ 64
+      → second < 2 ^ 64
+      → third < 2 ^ 64
+      → getD set (p / 64) 0 < 2 ^ 64
+      → Filled 33 (lessWord set) rest w
+      → p / 64 < w
+      → inPlaces rest p
+      ≡ (inPlaces set p
+      && not
+      ((meets t q 0 p && has first (p % 64))
+      || ((meets t q 1 p && has second (p % 64)) || (meets t q 2 p && has third (p % 64)))))
+  unfolding inPlaces meets
+  less-places set rest w p lf ls lt fits filled below =
+      let a = getD t (128 * q + p / 64) 0 in
+      let b = getD t (128 * q + 33 + p / 64) 0 in
+      let c = getD t (128 * q + 66 + p / 64) 0 in
+      let small : bitOr (bitOr (bitAnd a first) (bitAnd b second)) (bitAnd c third) < 2 ^ 64 =
+      or-lt 64 (bitOr (bitAnd a first) (bitAnd b second)) (bitAnd c third)
+      (or-lt 64 (bitAnd a first) (bitAnd b second) (lt-of-le-of-lt (and-le-r a first) lf)
+      (lt-of-le-of-lt (and-le-r b second) ls))
+      (lt-of-le-of-lt (and-le-r c third) lt) in
+      let ea : 128 * q + 33 * 0 + p / 64 ≡ 128 * q + p / 64 = omega arith in
+      let eb : 128 * q + 33 * 1 + p / 64 ≡ 128 * q + 33 + p / 64 = omega arith in
+      let ec : 128 * q + 33 * 2 + p / 64 ≡ 128 * q + 66 + p / 64 = omega arith in
+      rw (filled .at (p / 64) below, ea, eb, ec)
+      (rw (
+        has-minus 64 (getD set (p / 64) 0) (bitOr (bitOr (bitAnd a first) (bitAnd b second)) (bitAnd c third))
+            (p % 64) fits small,
+        has-or,
+        has-or,
+        has-and,
+        has-and,
+        has-and,
+        or-assoc,
+      ))

@@ -1,0 +1,214 @@
+-- Demand 3: what Idle's answer says, for every accepted book, rule and buffer that is long enough. Assumes nothing.
+use Prim.Native.Nat.{ℕ, _*_, _^_, _≤_, _<_}
+use native.Mathlib.Omega.{arith}
+use mathlib.Core.Path.{_≡_, refl, sym, ap, subst, _∙_}
+use mathlib.Core.Logic.{inl, inr, ⊎-elim}
+use mathlib.Core.Bool.{Bool, true, false, false≢true}
+use mathlib.Core.List.{List, _++_}
+use lib.ListN.{length, take, drop}
+use lib.Seq.{take-append-seam, drop-append-seam}
+use lib.Dec.{eqb}
+use lib.Pow.{pow-lt}
+use borrow.Author.Tests.{eqb-true, eqb-false, le-leb, lt-ltb}
+use Rattle.book.specs.Blocks.{headOf, ruleAt}
+use Rattle.book.specs.Head.{isUser}
+use Rattle.book.specs.Refusals.{firstFailing}
+use Rattle.book.specs.Answers.{checkAnswer, orElse, refuse, ruleCount}
+use Rattle.book.specs.declared.Checked.the-variants.{Accepted}
+use Rattle.book.proofs.Accepted.{accepted-head, accepted-rule, accepted-rules}
+use Rattle.book.proofs.Members.{has-single, same-members}
+use Rattle.lineage.specs.Rows.{rowCount}
+use Rattle.lineage.specs.Answers.{leaving}
+use Rattle.lineage.proofs.Words.{word-of}
+use Rattle.verdicts.specs.Accesses.{Accesses, accessesOf}
+use Rattle.verdicts.specs.Breaking.{breaks, brokenMask}
+use Rattle.verdicts.specs.Answers.{judgeAnswer, judgeCheck}
+use Rattle.verdicts.specs.declared.Judged.the-variants.{Broken}
+use Rattle.verdicts.proofs.JudgeLaws.{judge-broken}
+use Rattle.verdicts.proofs.Users.{user-accepted}
+use Rattle.verdicts.proofs.Verdict.{mask-bit}
+use Rattle.search.specs.Choices.{Candidate, candidateBefore}
+use Rattle.search.specs.Shown.{shownPlan}
+use Rattle.search.specs.Alone.{First, none, shown, breaksAlone, candidateAlone, firstAlone, planBreaksAlone}
+use Rattle.search.specs.Answers.{bufferAnswer, idleAnswer, idleBuffer, idleCheck, idlenessOf, refusedOr, ruleAnswer}
+use Rattle.search.specs.Answers.{written}
+use Rattle.search.specs.Demand.{AcceptedPlan, Demand3, NobodyAlone, ShownFirst, ShownIn}
+use Rattle.search.specs.declared.Idleness.the-variants.{Idle, Needed}
+use Rattle.search.proofs.ShownPlans.{shown-accepted, shown-few, shown-whole}
+use Rattle.search.proofs.Orders.{candidate, none-alone, shown-alone}
+use Rattle.search.proofs.AloneLaws.{alone-breaks, alone-spares, plan-candidate}
+
+-- Judge's mask
+
+-- one rule broken alone is a mask of one bit
+pub alone-mask :
+    (book : List ℕ) (r user : ℕ) (D : Accesses)
+    → r < ruleCount book
+    → breaksAlone book r user D ≡ true
+    → brokenMask book (ruleCount book) user D ≡ 2 ^ r
+unfolding brokenMask
+alone-mask book r user D l h =
+    let n = ruleCount book in
+    let broken : ℕ → Bool = λ q. breaks (headOf book) (ruleAt book q) user D in
+    same-members n (brokenMask book n user D) (2 ^ r) (word-of broken n .0) (pow-lt l)
+    (λ q k. mask-bit book n user D q ∙ rw (lt-ltb q n k, has-single q r) (bit q k (eqb q r) refl))
+  where
+    bit : (q : ℕ) → q < ruleCount book → (b : Bool) → eqb q r ≡ b → breaks (headOf book) (ruleAt book q) user D ≡ b
+    bit q k true e = rw (eqb-true q r e) (alone-breaks book r user D h)
+    bit q k false e = alone-spares book r user D h q k (eqb-false q r e)
+
+pub judged-alone :
+    (book : List ℕ) (n : ℕ)
+    → checkAnswer book ≡ Accepted n
+    → (r user : ℕ) (plan : List ℕ)
+    → r < ruleCount book
+    → isUser (headOf book) user ≡ true
+    → AcceptedPlan (headOf book) plan
+    → planBreaksAlone book r user plan ≡ true
+    → judgeAnswer book user plan ≡ Broken (2 ^ r)
+unfolding judgeCheck orElse planBreaksAlone
+judged-alone book n accepted r user plan l u plans h =
+    let check : judgeCheck book user plan ≡ Accepted (plans .0) =
+    rw (accepted, ← user-accepted (headOf book) user u) (plans .1) in
+    sym
+    (judge-broken book user plan (plans .0) (2 ^ r) check
+    (sym (alone-mask book r user (accessesOf (headOf book) plan) l h)))
+
+-- The answer and the buffer of an accepted call
+
+module _
+    (book : List ℕ)
+    (n : ℕ)
+    (accepted : checkAnswer book ≡ Accepted n)
+    (r : ℕ)
+    (l : r < ruleCount book)
+    (buffer : List ℕ)
+    (long : 36 ≤ length buffer)
+  where
+    pub idle-accepted : idleCheck book r buffer ≡ Accepted 0
+    unfolding idleCheck orElse ruleAnswer bufferAnswer refuse firstFailing
+    idle-accepted = rw (accepted, lt-ltb r (ruleCount book) l, le-leb 36 (length buffer) long)
+
+    pub idle-answer : idleAnswer book r buffer ≡ idlenessOf (headOf book) (firstAlone book r)
+    unfolding idleAnswer refusedOr
+    idle-answer = rw idle-accepted
+
+    pub idle-buffer : idleBuffer book r buffer ≡ written (headOf book) (firstAlone book r) buffer
+    unfolding idleBuffer leaving
+    idle-buffer = rw idle-accepted
+
+-- What is shown
+
+module _ (book : List ℕ) (n : ℕ) (accepted : checkAnswer book ≡ Accepted n) (r : ℕ) (l : r < ruleCount book) where
+  -- no choice breaks r alone, so no accepted plan does
+  pub none-nobody : firstAlone book r ≡ none → NobodyAlone book r
+  none-nobody e user plan u plans = go (planBreaksAlone book r user plan) refl
+    where
+      go : (b : Bool) → planBreaksAlone book r user plan ≡ b → b ≡ false
+      go false h = refl
+      go true h =
+          let c = plan-candidate book n accepted r l user plan plans h in
+          absurd (false≢true (sym (none-alone book n accepted r l e (candidate user (c .0)) u (c .1)) ∙ c .2))
+
+  module _ (c : Candidate) (e : firstAlone book r ≡ shown c) where
+    pub shown-plan : ShownFirst book r (c .user) (shownPlan (headOf book) (c .choice))
+    unfolding candidateAlone
+    shown-plan =
+        let s = shown-alone book n accepted r l c e in
+        let m = accepted-rules book n accepted in
+        let most = accepted-rule book n accepted r (omega arith) .references-most in
+        let plan = shownPlan (headOf book) (c .choice) in
+        let plans : AcceptedPlan (headOf book) plan = (
+          rowCount plan,
+          shown-accepted (headOf book) (ruleAt book r) (accepted-head book n accepted) most (c .choice) (s .1),
+        ) in
+        record {
+          a-user = s .0;
+          accepted = plans;
+          form = record { choice = c .choice; chosen = s .1; rows = refl };
+          alone = s .2;
+          first =
+              λ other later form u h.
+              ⊎-elim
+              (λ (q : candidate other (form .choice) ≡ c).
+              inl (
+                ap (λ (d : Candidate). d .user) q,
+                form .rows ∙ ap (λ (d : Candidate). shownPlan (headOf book) (d .choice)) q,
+              ))
+              (λ (b : candidateBefore c (candidate other (form .choice)) ≡ true). inr b)
+              (s .3 (candidate other (form .choice)) u (form .chosen)
+              (subst (λ (p : List ℕ). planBreaksAlone book r other p ≡ true) (form .rows) h));
+          judged = judged-alone book n accepted r (c .user) plan l (s .0) plans (s .2);
+        }
+
+    pub shown-in :
+        (buffer : List ℕ)
+        → ShownIn book r buffer (written (headOf book) (shown c) buffer) (c .user)
+        (rowCount (shownPlan (headOf book) (c .choice)))
+    unfolding written
+    shown-in buffer =
+        let s = shown-alone book n accepted r l c e in
+        let m = accepted-rules book n accepted in
+        let most = accepted-rule book n accepted r (omega arith) .references-most in
+        let holds = accepted-head book n accepted in
+        in-front (shownPlan (headOf book) (c .choice)) buffer
+        (shown-whole (headOf book) (ruleAt book r) holds most (c .choice) (s .1))
+        (shown-few (headOf book) (ruleAt book r) holds most (c .choice) (s .1)) shown-plan
+      where
+        in-front :
+            (plan buffer : List ℕ)
+            → length plan ≡ 4 * rowCount plan
+            → rowCount plan ≤ 9
+            → ShownFirst book r (c .user) plan
+            → ShownIn book r buffer (plan ++ drop (length plan) buffer) (c .user) (rowCount plan)
+        in-front plan buffer whole few shows =
+            let front : take (4 * rowCount plan) (plan ++ drop (length plan) buffer) ≡ plan =
+            rw (← whole) (take-append-seam plan (drop (length plan) buffer)) in
+            record {
+              few = few;
+              long = rw front whole;
+              rest = rw (← whole) (drop-append-seam plan (drop (length plan) buffer));
+              shows = rw front shows;
+            }
+
+-- Demand 3
+
+unlike : (user rows : ℕ) → Needed user rows ≡ Idle → ⊥
+unlike user rows e =
+    let z : _≡_ {A = ℕ} 0 1 = cc in
+    omega arith
+
+pub demand :
+    (book : List ℕ) (n : ℕ)
+    → checkAnswer book ≡ Accepted n
+    → (r : ℕ)
+    → r < ruleCount book
+    → (buffer : List ℕ)
+    → 36 ≤ length buffer
+    → Demand3 book r buffer (idleBuffer book r buffer) (idleAnswer book r buffer)
+unfolding written idlenessOf
+demand book n accepted r l buffer long =
+    rw (idle-buffer book n accepted r l buffer long, idle-answer book n accepted r l buffer long)
+    (go (firstAlone book r) refl)
+  where
+    go :
+        (f : First Candidate)
+        → firstAlone book r ≡ f
+        → Demand3 book r buffer (written (headOf book) f buffer) (idlenessOf (headOf book) f)
+    go none e =
+        record {
+          idle-nobody = λ i. none-nobody book n accepted r l e;
+          nobody-idle = λ h. refl;
+          idle-keeps = λ i. refl;
+          otherwise = λ h. absurd (h refl);
+        }
+    go (shown c) e =
+        let plan = shownPlan (headOf book) (c .choice) in
+        let first = shown-plan book n accepted r l c e in
+        record {
+          idle-nobody = λ i. absurd (unlike (c .user) (rowCount plan) i);
+          nobody-idle =
+              λ h. absurd (false≢true (sym (h (c .user) plan (first .a-user) (first .accepted)) ∙ first .alone));
+          idle-keeps = λ i. absurd (unlike (c .user) (rowCount plan) i);
+          otherwise = λ h. (c .user, rowCount plan, refl, shown-in book n accepted r l c e buffer);
+        }

@@ -1,0 +1,247 @@
+-- Laws of a plan with one row more: it stands where the row holds, and what the row reaches and gives. Assumes nothing.
+use Prim.Native.Nat.{ℕ, zero, suc, _+_, _*_, _<_}
+use native.Mathlib.Omega.{arith}
+use mathlib.Core.Path.{_≡_, refl, ap, _∙_}
+use mathlib.Core.Bool.{Bool, true, false, _&&_, _||_, not, cond}
+use mathlib.Core.List.{List, [], _∷_, _++_}
+use lib.ListN.{length, length-append}
+use lib.Seq.{getD-append-add}
+use lib.Dec.{eqb, ltb}
+use borrow.Author.Tests.{ltb-true, ltb-false, lt-ltb, le-ltb, eqb-true}
+use Rattle.book.specs.Lists.{any, from}
+use Rattle.book.specs.Head.{columnCount, functionCount, label, operation}
+use Rattle.book.proofs.Lists.{and-where, and-false, any-one, or-end}
+use Rattle.lineage.specs.Rows.{Kind, Column, Apply, Choose, Output, Condition, Unknown}
+use Rattle.lineage.specs.Rows.{rowCount, kindOf, kindAt, rowA, rowB, rowC, isValue, names, soundAs, rowHolds}
+use Rattle.lineage.specs.Paths.{labels, takes}
+use Rattle.lineage.specs.Accesses.{reaches, gives, isAccess}
+use Rattle.lineage.proofs.Paths.{kind-prefix, a-prefix, b-prefix, c-prefix, reaches-prefix, access-append}
+use Rattle.lineage.proofs.Paths.{reaches-column, reaches-apply}
+use Rattle.lineage.proofs.Accepted.{gives-lower, labelled-by}
+use Rattle.search.specs.Shown.{lastRow}
+
+-- The bytes of the row
+
+abbrev pub row : ℕ → ℕ → ℕ → ℕ → List ℕ
+row kind a b c = kind ∷ a ∷ b ∷ c ∷ []
+
+module _ (p : List ℕ) (n kind a b c : ℕ) (whole : length p ≡ 4 * n) where
+  row-kind : kindAt (p ++ row kind a b c) n ≡ kindOf kind
+  unfolding kindAt
+  row-kind =
+      let e : 4 * n ≡ length p + 0 = omega arith in
+      rw e (ap kindOf (getD-append-add p (row kind a b c) 0 0))
+
+  row-a : rowA (p ++ row kind a b c) n ≡ a
+  row-a =
+      let e : 4 * n + 1 ≡ length p + 1 = omega arith in
+      rw e (getD-append-add p (row kind a b c) 1 0)
+
+  row-b : rowB (p ++ row kind a b c) n ≡ b
+  row-b =
+      let e : 4 * n + 2 ≡ length p + 2 = omega arith in
+      rw e (getD-append-add p (row kind a b c) 2 0)
+
+  row-c : rowC (p ++ row kind a b c) n ≡ c
+  row-c =
+      let e : 4 * n + 3 ≡ length p + 3 = omega arith in
+      rw e (getD-append-add p (row kind a b c) 3 0)
+
+-- The rows before it
+
+module _ (head p t : List ℕ) (i : ℕ) (l : i < rowCount p) where
+  names-prefix : (r : ℕ) → names (p ++ t) i r ≡ names p i r
+  unfolding names
+  names-prefix r =
+      and-where (ltb r i) (isValue (kindAt (p ++ t) r)) (isValue (kindAt p r))
+      (λ e. let m : r < i = ltb-true r i e in ap isValue (kind-prefix p t r (omega arith)))
+
+  sound-prefix : (kind : Kind) (a b c : ℕ) → soundAs kind head (p ++ t) i a b c ≡ soundAs kind head p i a b c
+  unfolding soundAs
+  sound-prefix Column a b c = refl
+  sound-prefix Apply a b c = rw (names-prefix b, names-prefix c)
+  sound-prefix Choose a b c = rw (names-prefix a, names-prefix b, names-prefix c)
+  sound-prefix Output a b c = rw (names-prefix a)
+  sound-prefix Condition a b c = rw (names-prefix a)
+  sound-prefix Unknown a b c = refl
+
+  holds-prefix : rowHolds head (p ++ t) i ≡ rowHolds head p i
+  unfolding rowHolds
+  holds-prefix =
+      rw (kind-prefix p t i l, a-prefix p t i l, b-prefix p t i l, c-prefix p t i l)
+      (sound-prefix (kindAt p i) (rowA p i) (rowB p i) (rowC p i))
+
+-- A plan that stands: n rows, each of which holds
+
+pub record Standing (head p : List ℕ) (n : ℕ) : Type 0 where
+  pub whole : length p ≡ 4 * n
+  pub rows : (i : ℕ) → i < n → rowHolds head p i ≡ true
+
+pub standing-none : (head : List ℕ) → Standing head [] 0
+standing-none head = record { whole = refl; rows = λ i l. absurd (omega arith) }
+
+module _ (head p : List ℕ) (n kind a b c : ℕ) (stands : Standing head p n) where
+  pub standing-more :
+      soundAs (kindOf kind) head (p ++ row kind a b c) n a b c ≡ true → Standing head (p ++ row kind a b c) (suc n)
+  unfolding rowHolds
+  standing-more h =
+      let w = stands .whole in
+      record {
+        whole = omega (arith, length-append p (row kind a b c));
+        rows = λ i l. go i l (ltb i n) refl;
+      }
+    where
+      go : (i : ℕ) → i < suc n → (t : Bool) → ltb i n ≡ t → rowHolds head (p ++ row kind a b c) i ≡ true
+      go i l true e =
+          let m = ltb-true i n e in
+          let w = stands .whole in
+          holds-prefix head p (row kind a b c) i (omega arith) ∙ stands .rows i m
+      go i l false e =
+          let m = ltb-false i n e in
+          let w = stands .whole in
+          let q : i ≡ n = omega arith in
+          rw (q, row-kind p n kind a b c w, row-a p n kind a b c w, row-b p n kind a b c w, row-c p n kind a b c w) h
+
+  -- what it gives, besides what was given before
+  pub row-gives :
+      (s d k : ℕ)
+      → isAccess head (p ++ row kind a b c) s d k
+      ≡ (isAccess head p s d k || (gives (kindOf kind) s && reaches head (p ++ row kind a b c) a d k))
+  unfolding from
+  row-gives s d k =
+      let w = stands .whole in
+      let m : rowCount p ≡ n = omega arith in
+      access-append p (row kind a b c) head s d k (omega arith)
+      (λ i s l g.
+      let low : rowA p i < i = gives-lower head p i (stands .rows i (omega arith)) s g in
+      omega arith)
+      ∙ rw (m, any-one, row-kind p n kind a b c w, row-a p n kind a b c w)
+
+-- A plan whose last row is a value that one label reaches, with one operation; it gives what another plan gives
+
+pub record Reaching (head before p : List ℕ) (n d₀ k₀ : ℕ) : Type 0 where
+  pub stands : Standing head p (suc n)
+  pub value : isValue (kindAt p n) ≡ true
+  pub reached : (d k : ℕ) → reaches head p n d k ≡ (eqb d d₀ && eqb k k₀)
+  pub given : (s d k : ℕ) → isAccess head p s d k ≡ isAccess head before s d k
+
+names-last :
+    (p t : List ℕ) (n : ℕ) → length p ≡ 4 * suc n → isValue (kindAt p n) ≡ true → names (p ++ t) (suc n) n ≡ true
+unfolding names
+names-last p t n w v = rw (lt-ltb n (suc n) (omega arith), kind-prefix p t n (omega arith)) v
+
+-- a column with the label
+any-label :
+    (head : List ℕ) (d₀ column : ℕ) → any (eqb d₀) (labels head column) ≡ true → (d : ℕ)
+    → any (eqb d) (labels head column) ≡ eqb d d₀
+unfolding labels
+any-label head d₀ column h d =
+    let l = labelled-by head d₀ column h in
+    rw (l .1, l .0) (any-one (eqb d) (label head column))
+
+module _ (head p : List ℕ) (n d₀ column : ℕ) (stands : Standing head p n) where
+  pub after-column :
+      column < columnCount head
+      → any (eqb d₀) (labels head column) ≡ true
+      → Reaching head p (p ++ row 1 column 0 0) n d₀ 0
+  unfolding kindOf isValue soundAs gives
+  after-column l h =
+      let w = stands .whole in
+      let kind = row-kind p n 1 column 0 0 w in
+      record {
+        stands = standing-more head p n 1 column 0 0 stands (rw (lt-ltb column (columnCount head) l));
+        value = rw kind;
+        reached = λ d k.
+            reaches-column head (p ++ row 1 column 0 0) n d k kind
+            ∙ rw (row-a p n 1 column 0 0 w, any-label head d₀ column h d);
+        given = λ s d k. row-gives head p n 1 column 0 0 stands s d k ∙ or-end (isAccess head p s d k);
+      }
+
+-- the operation that a label takes in place of none
+taken-instead :
+    (zero-is here is-label takes-it : Bool)
+    → (is-label ≡ true → takes-it ≡ true)
+    → (((is-label && zero-is) || false) && not (zero-is && takes-it)
+    || (here && (takes-it && ((is-label && true) || false))))
+    ≡ (is-label && here)
+taken-instead z here true t h = rw (h refl) (go z here)
+  where
+    go : (z here : Bool) → ((z || false) && not (z && true) || (here && true)) ≡ here
+    go true true = refl
+    go true false = refl
+    go false true = refl
+    go false false = refl
+taken-instead z here false t h = rw (and-false t) (and-false here)
+
+module _ (head before p : List ℕ) (n d₀ k₀ function : ℕ) (old : Reaching head before p n d₀ 0) where
+  pub after-apply :
+      n < 255
+      → function < functionCount head
+      → operation head function ≡ k₀
+      → takes head d₀ k₀ ≡ true
+      → Reaching head before (p ++ row 2 function n 255) (suc n) d₀ k₀
+  unfolding kindOf isValue soundAs gives
+  after-apply few l o h =
+      let w = old .stands .whole in
+      let t = row 2 function n 255 in
+      let kind = row-kind p (suc n) 2 function n 255 w in
+      record {
+        stands =
+            standing-more head p (suc n) 2 function n 255 (old .stands)
+            (rw (lt-ltb function (functionCount head) l, names-last p t n w (old .value)));
+        value = rw kind;
+        reached = λ d k.
+            reaches-apply head (p ++ t) (suc n) d k kind
+            ∙ rw (
+              row-a p (suc n) 2 function n 255 w,
+              row-b p (suc n) 2 function n 255 w,
+              row-c p (suc n) 2 function n 255 w,
+              lt-ltb n (suc n) (omega arith),
+              le-ltb 255 (suc n) (omega arith),
+              o,
+              reaches-prefix p t head n d k (omega arith),
+              reaches-prefix p t head n d 0 (omega arith),
+              old .reached d k,
+              old .reached d 0,
+            )
+            (taken-instead (eqb k 0) (eqb k k₀) (eqb d d₀) (takes head d k₀) (λ e. rw (eqb-true d d₀ e) h));
+        given = λ s d k.
+            row-gives head p (suc n) 2 function n 255 (old .stands) s d k
+            ∙ or-end (isAccess head p s d k)
+            ∙ old .given s d k;
+      }
+
+-- an Output or a Condition row gives what reaches the row that it names
+gives-last : (s₀ s : ℕ) → s₀ < 2 → gives (kindOf (cond (eqb s₀ 0) 4 5)) s ≡ eqb s s₀
+unfolding gives kindOf
+gives-last zero s l = refl
+gives-last (suc zero) s l = refl
+gives-last (suc (suc s₀)) s l = absurd (omega arith)
+
+last-sound :
+    (head p : List ℕ) (s₀ i r : ℕ) → names p i r ≡ true → soundAs (kindOf (cond (eqb s₀ 0) 4 5)) head p i r 0 0 ≡ true
+unfolding soundAs kindOf
+last-sound head p s₀ i r h = go (eqb s₀ 0)
+  where
+    go : (b : Bool) → soundAs (kindOf (cond b 4 5)) head p i r 0 0 ≡ true
+    go true = rw h
+    go false = rw h
+
+module _ (head before p : List ℕ) (n d₀ k₀ s₀ : ℕ) (old : Reaching head before p n d₀ k₀) where
+  pub after-last :
+      s₀ < 2
+      → Standing head (p ++ lastRow n s₀) (suc (suc n))
+      × ((s d k : ℕ)
+      → isAccess head (p ++ lastRow n s₀) s d k
+      ≡ (isAccess head before s d k || (eqb s s₀ && (eqb d d₀ && eqb k k₀))))
+  unfolding lastRow
+  after-last l =
+      let w = old .stands .whole in
+      let kind : ℕ = cond (eqb s₀ 0) 4 5 in
+      let t = row kind n 0 0 in (
+        standing-more head p (suc n) kind n 0 0 (old .stands)
+            (last-sound head (p ++ t) s₀ (suc n) n (names-last p t n w (old .value))),
+        λ s d k.
+            row-gives head p (suc n) kind n 0 0 (old .stands) s d k
+            ∙ rw (old .given s d k, gives-last s₀ s l, reaches-prefix p t head n d k (omega arith), old .reached d k),
+      )

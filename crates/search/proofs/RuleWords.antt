@@ -1,0 +1,174 @@
+-- What the words of a rule say, and the tables of them. Assumes nothing.
+use Prim.Native.Nat.{ℕ, _+_, _-_, _*_, _/_, _%_, _^_, _≤_, _<_}
+use native.Mathlib.Omega.{arith}
+use mathlib.Core.Path.{_≡_, refl, sym, ap, _∙_}
+use mathlib.Core.Bool.{Bool, true, false, _&&_, _||_, cond}
+use mathlib.Core.List.{List}
+use lib.ListN.{getD}
+use lib.Dec.{eqb, ltb}
+use borrow.Author.Tests.{lt-ltb, le-ltb, ltb-true, ltb-false}
+use Rattle.book.specs.Sets.{has, WordOf}
+use Rattle.book.specs.Blocks.{headOf, ruleAt}
+use Rattle.book.specs.Rule.{action, referenceCount, restrictionCount, restrictionMask, coversUser, inLeafSet}
+use Rattle.book.proofs.Lists.{and-false}
+use Rattle.book.proofs.Members.{has-cond, has-below, has-zero}
+use Rattle.verdicts.specs.Accesses.{Access, actionFits, fits}
+use Rattle.verdicts.specs.Words.{maskTakes}
+use Rattle.search.specs.Places.{accessAt, nowhere}
+use Rattle.search.specs.Table.{meets, takesAt, meetsReference, takesOperation, RuleWord, TableHolds, CoversHold}
+use Rattle.search.proofs.Building.{Built}
+
+-- Words
+
+-- all operations of a leaf, or none
+pub leaf-mask : (t : Bool) (word k : ℕ) → word ≡ cond t 65535 0 → k < 16 → has word k ≡ t
+leaf-mask t word k e l =
+    rw e (has-cond t 65535 k ∙ ap (λ (b : Bool). t && b) (has-below 16 k ∙ lt-ltb k 16 l) ∙ end t)
+  where
+    end : (b : Bool) → (b && true) ≡ b
+    end true = refl
+    end false = refl
+
+-- every place meets an absent reference
+pub all-ones : (i : ℕ) → i < 64 → has 18446744073709551615 i ≡ true
+all-ones i l = has-below 64 i ∙ lt-ltb i 64 l
+
+module _ (rule : List ℕ) (leaves i p : ℕ) where
+  pub meets-absent : referenceCount rule ≤ i → has 18446744073709551615 (p % 64) ≡ meetsReference rule leaves i p
+  unfolding meetsReference
+  meets-absent h = rw (le-ltb i (referenceCount rule) h) (all-ones (p % 64) (omega arith))
+
+  -- a word of the places of the first 32 words
+  pub meets-word :
+      (word w a : ℕ)
+      → i < referenceCount rule
+      → a ≡ action rule i
+      → p / 64 ≡ w
+      → w < 32
+      → has word (p % 64) ≡ (actionFits a (w / 16) && has leaves (w % 16 * 4 + p % 64 / 16))
+      → has word (p % 64) ≡ meetsReference rule leaves i p
+  unfolding meetsReference
+  meets-word word w a h e at l said =
+      let d : w % 16 * 4 + p % 64 / 16 ≡ p / 16 % 64 = omega arith in
+      let s : w / 16 ≡ p / 1024 = omega arith in
+      said ∙ rw (lt-ltb i (referenceCount rule) h, lt-ltb p nowhere (omega arith), d, s, e)
+
+  -- the place of an absent reference meets none that is there
+  pub meets-past : i < referenceCount rule → nowhere ≤ p → has 0 (p % 64) ≡ meetsReference rule leaves i p
+  unfolding meetsReference
+  meets-past h l = rw (has-zero (p % 64), lt-ltb i (referenceCount rule) h, le-ltb p nowhere l)
+
+module _ (rule : List ℕ) (i j p : ℕ) where
+  pub takes-absent : restrictionCount rule ≤ j → has 0 (p % 64) ≡ takesOperation rule i j p
+  unfolding takesOperation
+  takes-absent h = rw (has-zero (p % 64), le-ltb j (restrictionCount rule) h)
+
+  pub takes-word :
+      (word mask m : ℕ)
+      → j < restrictionCount rule
+      → m ≡ restrictionMask rule j i
+      → ((k : ℕ) → has mask k ≡ (ltb k 16 && maskTakes m k))
+      → has word (p % 64) ≡ has mask (p % 64 % 16)
+      → has word (p % 64) ≡ takesOperation rule i j p
+  unfolding takesOperation
+  takes-word word mask m h e taken said =
+      let k : p % 64 % 16 ≡ p % 16 = omega arith in
+      said
+      ∙ rw (k, taken (p % 16), lt-ltb (p % 16) 16 (omega arith), e, lt-ltb j (restrictionCount rule) h)
+
+-- a rule's word past the places says nothing of leaves
+pub word-leaves :
+    (rule : List ℕ) (leaves other k word : ℕ)
+    → RuleWord rule leaves k word
+    → (k < 99 → leaves ≡ other)
+    → RuleWord rule other k word
+word-leaves rule leaves other k word w same =
+    record {
+      meeting = λ p low l e. w .meeting p low l e ∙ ap (λ (x : ℕ). meetsReference rule x (k / 33) p) (same low);
+      taking = w .taking;
+    }
+
+-- Tables
+
+-- word m of the tables
+abbrev pub TableWord : List ℕ → List ℕ → ℕ → ℕ → Type 0
+TableWord book sets m word =
+    RuleWord (ruleAt book (m / 128)) (getD sets (3 * (m / 128) + m % 128 / 33) 0) (m % 128) word
+
+-- word m of the leaf sets
+abbrev pub LeafWord : List ℕ → ℕ → ℕ → Type 0
+LeafWord book m word = WordOf (inLeafSet (headOf book) (ruleAt book (m / 3)) (m % 3)) word
+
+abbrev pub LeafSets : List ℕ → ℕ → List ℕ → Type 0
+LeafSets book n sets = (m : ℕ) → m < 3 * n → LeafWord book m (getD sets m 0)
+
+module _
+    (book : List ℕ)
+    (n : ℕ)
+    (sets t : List ℕ)
+    (count : ℕ)
+    (leaves : LeafSets book n sets)
+    (b : Built 4096 (TableWord book sets) t count)
+    (whole : 128 * n ≤ count)
+  where
+    -- what meets a reference, by the leaf set's word and by the leaf set
+    meets-fits :
+        (q i p : ℕ)
+        → q < n
+        → i < 3
+        → meetsReference (ruleAt book q) (getD sets (3 * q + i) 0) i p
+        ≡ cond (ltb i (referenceCount (ruleAt book q)))
+        (ltb p nowhere && fits (headOf book) (ruleAt book q) i (accessAt p)) true
+    unfolding meetsReference fits accessAt
+    meets-fits q i p l s =
+        let e : (3 * q + i) / 3 ≡ q = omega arith in
+        let f : (3 * q + i) % 3 ≡ i = omega arith in
+        let word : WordOf (inLeafSet (headOf book) (ruleAt book q) i) (getD sets (3 * q + i) 0) =
+        rw (e, f) at (leaves (3 * q + i) (omega arith)) in
+        rw (word (p / 16 % 64), lt-ltb (p / 16 % 64) 64 (omega arith))
+
+    pub table-holds : TableHolds book n t
+    unfolding meets takesAt
+    table-holds =
+        record {
+          references = λ q i p l s h. meeting q i p l s h ∙ meets-fits q i p l s;
+          restrictions = taking;
+        }
+      where
+        meeting :
+            (q i p : ℕ)
+            → q < n
+            → i < 3
+            → p ≤ nowhere
+            → has (getD t (128 * q + 33 * i + p / 64) 0) (p % 64)
+            ≡ meetsReference (ruleAt book q) (getD sets (3 * q + i) 0) i p
+        meeting q i p l s h =
+            let m = 128 * q + 33 * i + p / 64 in
+            let e : m / 128 ≡ q = omega arith in
+            let f : m % 128 ≡ 33 * i + p / 64 = omega arith in
+            let g : (33 * i + p / 64) / 33 ≡ i = omega arith in
+            let w : RuleWord (ruleAt book q) (getD sets (3 * q + (33 * i + p / 64) / 33) 0) (33 * i + p / 64) (getD t m 0) =
+            rw (e, f) at (b .at m (omega arith)) in
+            rw g at (w .meeting p (omega arith) h (omega arith))
+
+        taking :
+            (q i j p : ℕ)
+            → q < n
+            → i < 3
+            → j < 8
+            → has (getD t (128 * q + 99 + 8 * i + j) 0) (p % 64) ≡ takesOperation (ruleAt book q) i j p
+        taking q i j p l s h =
+            let m = 128 * q + 99 + 8 * i + j in
+            let e : m / 128 ≡ q = omega arith in
+            let f : m % 128 ≡ 99 + 8 * i + j = omega arith in
+            let g : (99 + 8 * i + j - 99) / 8 ≡ i = omega arith in
+            let k : (99 + 8 * i + j - 99) % 8 ≡ j = omega arith in
+            let w : RuleWord (ruleAt book q) (getD sets (3 * q + (99 + 8 * i + j) / 33) 0) (99 + 8 * i + j) (getD t m 0) =
+            rw (e, f) at (b .at m (omega arith)) in
+            rw (g, k) at (w .taking p (omega arith) (omega arith))
+
+-- Users
+
+abbrev pub CoveredWord : List ℕ → ℕ → ℕ → ℕ → Type 0
+CoveredWord book n r word =
+    (u : ℕ) → u < 32 → has word u ≡ (ltb r n && coversUser (headOf book) (ruleAt book r) u)

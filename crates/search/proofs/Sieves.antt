@@ -1,0 +1,430 @@
+-- Laws of the sieve: rules take from a set of places what breaks them, in any order, and it may end early.
+-- Assumes nothing.
+use Prim.Native.Nat.{ℕ, _+_, _-_, _/_, _%_, _^_, _≤_, _<_}
+use native.Mathlib.Nat.{lt-of-le-of-lt}
+use native.Mathlib.Omega.{arith}
+use mathlib.Core.Path.{_≡_, refl, sym, ap, _∙_}
+use mathlib.Core.Bool.{Bool, true, false, _&&_, _||_, not, cond, false≢true}
+use mathlib.Core.List.{List}
+use lib.ListN.{getD}
+use lib.Dec.{eqb, ltb}
+use lib.Bits.{bitAnd, bitOr, and-le-l}
+use borrow.Author.Tests.{not-true, eqb-true, eqb-false, eq-eqb, ne-eqb, lt-ltb}
+use Rattle.book.specs.Lists.{any, upTo}
+use Rattle.book.specs.Sets.{has, WordOf}
+use Rattle.book.proofs.Lists.{and-true, and-left, and-right, and-end, and-false, or-neither, or-rest}
+use Rattle.book.proofs.Members.{has-zero, has-or, has-minus}
+use Rattle.verdicts.proofs.Marks.{has-if}
+use Rattle.verdicts.proofs.Quantifiers.{any-wider, at-any}
+use Rattle.search.specs.Places.{inPlaces}
+use Rattle.search.specs.Table.{meets}
+use Rattle.search.specs.Closing.{closes, closesBy, Turned, Sifted}
+use Rattle.search.specs.declared.sifting.Remaining.{Remaining}
+
+-- Tests
+
+-- a test can't pass and fail
+pub both : {A : Type 0} {b : Bool} → b ≡ true → b ≡ false → A
+both h n = absurd (false≢true (sym n ∙ h))
+
+-- One rule's turn
+
+module _
+    (t : List ℕ)
+    (q b c first second third : ℕ)
+    (ef : (p : ℕ) → has first (p % 64) ≡ closesBy t q 0 1 2 b c p)
+    (es : (p : ℕ) → has second (p % 64) ≡ closesBy t q 1 0 2 b c p)
+    (et : (p : ℕ) → has third (p % 64) ≡ closesBy t q 2 0 1 b c p)
+  where
+    -- masks with no operation: no place breaks the rule
+    pub none-closes : bitOr (bitOr first second) third ≡ 0 → (p : ℕ) → closes t q b c p ≡ false
+    unfolding closes
+    none-closes e p =
+        let all : (has (bitOr first second) (p % 64) || has third (p % 64)) ≡ false =
+        sym (has-or (bitOr first second) third (p % 64)) ∙ rw (e, has-zero) in
+        let two = or-neither (has (bitOr first second) (p % 64)) (has third (p % 64)) all in
+        let one =
+        or-neither (has first (p % 64)) (has second (p % 64)) (sym (has-or first second (p % 64)) ∙ two .0) in
+        rw (← ef p, ← es p, ← et p, one .0, one .1, two .1, and-false, and-false, and-false)
+
+    -- the set less what breaks the rule
+    pub kept-closes :
+        (old new : List ℕ)
+        → ((p : ℕ)
+        → p < 2112
+        → inPlaces new p
+        ≡ (inPlaces old p
+        && not
+        ((meets t q 0 p && has first (p % 64))
+        || ((meets t q 1 p && has second (p % 64)) || (meets t q 2 p && has third (p % 64))))))
+        → (p : ℕ)
+        → p < 2112
+        → inPlaces new p ≡ (inPlaces old p && not (closes t q b c p))
+    unfolding closes
+    kept-closes old new h p l = rw (← ef p, ← es p, ← et p) (h p l)
+
+-- nothing was taken
+pub turn-none :
+    (t : List ℕ) (q b c : ℕ) (rest : Remaining) (places : List ℕ)
+    → places ≡ rest .places
+    → ((p : ℕ) → p < 2112 → inPlaces places p ≡ (inPlaces (rest .places) p && not (closes t q b c p)))
+    → Turned t q b c rest rest
+turn-none t q b c rest places e h =
+    record {
+      kept = λ p l. ap (λ (s : List ℕ). inPlaces s p) (sym e) ∙ h p l;
+      more = λ j m. m;
+      only = λ j m n. both m n;
+      marked = λ p l m n. both m n;
+    }
+
+pub turn-idle :
+    (t : List ℕ) (q b c : ℕ) (rest : Remaining) → ((p : ℕ) → closes t q b c p ≡ false) → Turned t q b c rest rest
+turn-idle t q b c rest h = turn-none t q b c rest (rest .places) refl (λ p l. rw (h p, and-end))
+
+pub turn-some :
+    (t : List ℕ) (q b c one last : ℕ) (before : Remaining) (places : List ℕ)
+    → q < 32
+    → WordOf (λ j. eqb j q) one
+    → ((p : ℕ) → p < 2112 → inPlaces places p ≡ (inPlaces (before .places) p && not (closes t q b c p)))
+    → Turned t q b c before (record { places = places; rules = bitOr (before .rules) one; last = last })
+turn-some t q b c one last before places small single h =
+    record {
+      kept = h;
+      more = λ j m. rw (has-or, m);
+      only = λ j m n.
+          eqb-true j q
+          (and-right (ltb j 64) (eqb j q)
+          (sym (single j) ∙ or-rest (has (before .rules) j) (has one j) (sym (has-or (before .rules) one j) ∙ m) n));
+      marked = λ p l m n.
+          rw (has-or, single q, lt-ltb q 64 (omega arith), eq-eqb q q refl) (or-last (has (before .rules) q));
+    }
+  where
+    or-last : (x : Bool) → (x || true) ≡ true
+    or-last true = refl
+    or-last false = refl
+
+-- The sieve
+
+module _ (t : List ℕ) (rules b c : ℕ) where
+  pub sifted-start : (rest : Remaining) → Sifted t rules (λ q. false) b c rest rest
+  sifted-start rest =
+      record {
+        within = λ p l h. h;
+        passed = λ p q l m h d. absurd (false≢true d);
+        gone = λ p l h n. both h n;
+        more = λ j h. h;
+        only = λ j h n. both h n;
+      }
+
+  -- what is gone stays gone with more rules marked
+  gone-more :
+      (p : ℕ) (some more : ℕ → Bool)
+      → ((j : ℕ) → some j ≡ true → more j ≡ true)
+      → any (λ q. some q && closes t q b c p) (upTo 32) ≡ true
+      → any (λ q. more q && closes t q b c p) (upTo 32) ≡ true
+  gone-more p some more h e =
+      any-wider (λ q. some q && closes t q b c p) (λ q. more q && closes t q b c p) (upTo 32)
+      (λ q f.
+      and-true (more q) (closes t q b c p) (h q (and-left (some q) (closes t q b c p) f))
+      (and-right (some q) (closes t q b c p) f))
+      e
+
+  -- rule q has its turn
+  pub sifted-turn :
+      (done next : ℕ → Bool) (q : ℕ) (before rest after : Remaining)
+      → q < 32
+      → has rules q ≡ true
+      → ((j : ℕ) → next j ≡ true → (j ≡ q → ⊥) → done j ≡ true)
+      → Sifted t rules done b c before rest
+      → Turned t q b c rest after
+      → Sifted t rules next b c before after
+  sifted-turn done next q before rest after small inside doing old turn =
+      record {
+        within = λ p l h. old .within p l (left p l h);
+        passed = λ p j l m h d. passes p j l m h d (eqb j q) refl;
+        gone = λ p l h n. goes p l h n (inPlaces (rest .places) p) refl;
+        more = λ j h. turn .more j (old .more j h);
+        only = λ j h n. allows j h n (has (rest .rules) j) refl;
+      }
+    where
+      left : (p : ℕ) → p < 2112 → inPlaces (after .places) p ≡ true → inPlaces (rest .places) p ≡ true
+      left p l h = and-left (inPlaces (rest .places) p) (not (closes t q b c p)) (sym (turn .kept p l) ∙ h)
+
+      passes :
+          (p j : ℕ)
+          → p < 2112
+          → j < 32
+          → inPlaces (after .places) p ≡ true
+          → next j ≡ true
+          → (x : Bool)
+          → eqb j q ≡ x
+          → closes t j b c p ≡ false
+      passes p j l m h d true e =
+          let same : j ≡ q = eqb-true j q e in
+          rw same
+          (not-true (closes t q b c p)
+          (and-right (inPlaces (rest .places) p) (not (closes t q b c p)) (sym (turn .kept p l) ∙ h)))
+      passes p j l m h d false e = old .passed p j l m (left p l h) (doing j d (eqb-false j q e))
+
+      goes :
+          (p : ℕ)
+          → p < 2112
+          → inPlaces (before .places) p ≡ true
+          → inPlaces (after .places) p ≡ false
+          → (x : Bool)
+          → inPlaces (rest .places) p ≡ x
+          → any (λ j. has (after .rules) j && closes t j b c p) (upTo 32) ≡ true
+      goes p l h n true e =
+          at-any (λ j. has (after .rules) j && closes t j b c p) 32 q small
+          (and-true (has (after .rules) q) (closes t q b c p) (turn .marked p l e n)
+          (taken (closes t q b c p) (sym n ∙ turn .kept p l ∙ rw e)))
+        where
+          taken : (x : Bool) → false ≡ not x → x ≡ true
+          taken true z = refl
+          taken false z = z
+      goes p l h n false e = gone-more p (has (rest .rules)) (has (after .rules)) (turn .more) (old .gone p l h e)
+
+      allows :
+          (j : ℕ)
+          → has (after .rules) j ≡ true
+          → has (before .rules) j ≡ false
+          → (x : Bool)
+          → has (rest .rules) j ≡ x
+          → has rules j ≡ true
+      allows j h n true e = old .only j e n
+      allows j h n false e =
+          let same : j ≡ q = turn .only j h e in
+          rw same inside
+
+  -- rules that break at no place are done
+  pub sifted-idle :
+      (done next : ℕ → Bool) (before after : Remaining)
+      → ((q p : ℕ) → q < 32 → next q ≡ true → done q ≡ false → closes t q b c p ≡ false)
+      → Sifted t rules done b c before after
+      → Sifted t rules next b c before after
+  sifted-idle done next before after idle old =
+      record {
+        within = old .within;
+        passed = λ p q l m h d. passes p q l m h d (done q) refl;
+        gone = old .gone;
+        more = old .more;
+        only = old .only;
+      }
+    where
+      passes :
+          (p q : ℕ)
+          → p < 2112
+          → q < 32
+          → inPlaces (after .places) p ≡ true
+          → next q ≡ true
+          → (x : Bool)
+          → done q ≡ x
+          → closes t q b c p ≡ false
+      passes p q l m h d true e = old .passed p q l m h e
+      passes p q l m h d false e = idle q p m d e
+
+  -- a set with no place has all rules done
+  pub sifted-empty :
+      (done next : ℕ → Bool) (before after : Remaining)
+      → ((w : ℕ) → getD (after .places) w 0 ≡ 0)
+      → Sifted t rules done b c before after
+      → Sifted t rules next b c before after
+  unfolding inPlaces
+  sifted-empty done next before after none old =
+      record {
+        within = old .within;
+        passed = λ p q l m h d.
+            both h (ap (λ (w : ℕ). has w (p % 64)) (none (p / 64)) ∙ has-zero (p % 64));
+        gone = old .gone;
+        more = old .more;
+        only = old .only;
+      }
+
+  -- one sieve after another
+  pub sifted-join :
+      (done next : ℕ → Bool) (before rest after : Remaining)
+      → Sifted t rules done b c before rest
+      → Sifted t rules next b c rest after
+      → Sifted t rules next b c before after
+  sifted-join done next before rest after old new =
+      record {
+        within = λ p l h. old .within p l (new .within p l h);
+        passed = new .passed;
+        gone = λ p l h n. goes p l h n (inPlaces (rest .places) p) refl;
+        more = λ j h. new .more j (old .more j h);
+        only = λ j h n. allows j h n (has (rest .rules) j) refl;
+      }
+    where
+      goes :
+          (p : ℕ)
+          → p < 2112
+          → inPlaces (before .places) p ≡ true
+          → inPlaces (after .places) p ≡ false
+          → (x : Bool)
+          → inPlaces (rest .places) p ≡ x
+          → any (λ j. has (after .rules) j && closes t j b c p) (upTo 32) ≡ true
+      goes p l h n true e = new .gone p l e n
+      goes p l h n false e = gone-more p (has (rest .rules)) (has (after .rules)) (new .more) (old .gone p l h e)
+
+      allows :
+          (j : ℕ)
+          → has (after .rules) j ≡ true
+          → has (before .rules) j ≡ false
+          → (x : Bool)
+          → has (rest .rules) j ≡ x
+          → has rules j ≡ true
+      allows j h n true e = old .only j e n
+      allows j h n false e = new .only j h e
+
+-- The rules that wait for their turn
+
+-- of the first n rules of a set those in `found`; the others break at no place
+pub record Touching (t : List ℕ) (rules b c found n : ℕ) : Type 0 where
+  pub bound : n ≤ 32
+  pub members : (q : ℕ) → has found q ≡ true → (q < n) × (has rules q ≡ true)
+  pub idle : (q p : ℕ) → q < n → has found q ≡ false → has rules q ≡ true → closes t q b c p ≡ false
+
+module _ (t : List ℕ) (rules b c : ℕ) where
+  pub touching-none : Touching t rules b c 0 0
+  touching-none =
+      record {
+        bound = omega arith;
+        members = λ q h. both h (has-zero q);
+        idle = λ q p l n h. absurd (omega arith);
+      }
+
+  pub touching-more :
+      (found n one r : ℕ) (x : Bool)
+      → n < 32
+      → WordOf (λ j. eqb j n) one
+      → r ≡ cond x one 0
+      → (x ≡ true → has rules n ≡ true)
+      → (x ≡ false → has rules n ≡ true → (p : ℕ) → closes t n b c p ≡ false)
+      → Touching t rules b c found n
+      → Touching t rules b c (bitOr found r) (n + 1)
+  touching-more found n one r x l single e yes-new no-new old =
+      record {
+        bound = omega arith;
+        members = λ q h. member q (sym (word q) ∙ h) (has found q) refl;
+        idle = λ q p m h i. none q p m (or-neither (has found q) (x && (ltb q 64 && eqb q n)) (sym (word q) ∙ h)) i
+            (eqb q n) refl;
+      }
+    where
+      word : (q : ℕ) → has (bitOr found r) q ≡ (has found q || (x && (ltb q 64 && eqb q n)))
+      word q = rw (has-or, has-if x one r q e, single q)
+
+      member :
+          (q : ℕ)
+          → (has found q || (x && (ltb q 64 && eqb q n))) ≡ true
+          → (y : Bool)
+          → has found q ≡ y
+          → (q < n + 1) × (has rules q ≡ true)
+      member q h true f = (omega (arith, old .members q f .0), old .members q f .1)
+      member q h false f =
+          let new = or-rest (has found q) (x && (ltb q 64 && eqb q n)) h f in
+          let same : q ≡ n =
+          eqb-true q n (and-right (ltb q 64) (eqb q n) (and-right x (ltb q 64 && eqb q n) new)) in
+          (omega arith, rw same (yes-new (and-left x (ltb q 64 && eqb q n) new)))
+
+      none :
+          (q p : ℕ)
+          → q < n + 1
+          → (has found q ≡ false) × ((x && (ltb q 64 && eqb q n)) ≡ false)
+          → has rules q ≡ true
+          → (y : Bool)
+          → eqb q n ≡ y
+          → closes t q b c p ≡ false
+      none q p m h i true f =
+          let same : q ≡ n = eqb-true q n f in
+          let off : x ≡ false = sym (and-end x) ∙ (rw (f, lt-ltb q 64 (omega arith)) at (h .1)) in
+          rw same (no-new off (rw same at i) p)
+      none q p m h i false f =
+          let other = eqb-false q n f in
+          old .idle q p (omega arith) (h .0) i
+
+-- a set less one member
+
+-- the code's `waiting & !single(q)`
+pub less-single :
+    (word one q j : ℕ)
+    → word < 2 ^ 64
+    → one < 2 ^ 64
+    → WordOf (λ i. eqb i q) one
+    → has (bitAnd word ((2 ^ 64 - 1) - one)) j ≡ (has word j && not (ltb j 64 && eqb j q))
+less-single word one q j lw lo single = rw (has-minus 64 word one j lw lo, single j)
+
+pub less-smaller :
+    (word one q : ℕ)
+    → word < 2 ^ 64
+    → one < 2 ^ 64
+    → q < 64
+    → WordOf (λ i. eqb i q) one
+    → has word q ≡ true
+    → bitAnd word ((2 ^ 64 - 1) - one) < word
+less-smaller word one q lw lo small single h =
+    let low = and-le-l word ((2 ^ 64 - 1) - one) in
+    let gone : has (bitAnd word ((2 ^ 64 - 1) - one)) q ≡ false =
+    less-single word one q q lw lo single ∙ rw (lt-ltb q 64 small, eq-eqb q q refl, and-false) in
+    let other : bitAnd word ((2 ^ 64 - 1) - one) ≡ word → ⊥ =
+    λ e. both h (ap (λ (w : ℕ). has w q) (sym e) ∙ gone) in
+    omega arith
+
+-- The loop
+
+-- the rules of a set that do not wait are done
+pub record Sieving (t : List ℕ) (rules b c : ℕ) (before rest : Remaining) (waiting : ℕ) : Type 0 where
+  pub fits : waiting < 2 ^ 64
+  pub members : (q : ℕ) → has waiting q ≡ true → (q < 32) × (has rules q ≡ true)
+  pub sifted : Sifted t rules (λ q. has rules q && not (has waiting q)) b c before rest
+
+module _ (t : List ℕ) (rules b c : ℕ) where
+  pub sieving-start :
+      (rest : Remaining) (waiting : ℕ)
+      → waiting < 2 ^ 64
+      → ((q : ℕ) → has waiting q ≡ true → (q < 32) × (has rules q ≡ true))
+      → ((q p : ℕ) → q < 32 → has waiting q ≡ false → has rules q ≡ true → closes t q b c p ≡ false)
+      → Sieving t rules b c rest rest waiting
+  sieving-start rest waiting fits inside idle =
+      record {
+        fits = fits;
+        members = inside;
+        sifted =
+            sifted-idle t rules b c (λ q. false) (λ q. has rules q && not (has waiting q)) rest rest
+            (λ q p l d n.
+            idle q p l (not-true (has waiting q) (and-right (has rules q) (not (has waiting q)) d))
+            (and-left (has rules q) (not (has waiting q)) d))
+            (sifted-start t rules b c rest);
+      }
+
+  pub sieving-more :
+      (before rest after : Remaining) (waiting one q : ℕ)
+      → one < 2 ^ 64
+      → WordOf (λ i. eqb i q) one
+      → has waiting q ≡ true
+      → (q < 32 → Turned t q b c rest after)
+      → Sieving t rules b c before rest waiting
+      → Sieving t rules b c before after (bitAnd waiting ((2 ^ 64 - 1) - one))
+  sieving-more before rest after waiting one q lo single h turn old =
+      let lw = old .fits in
+      record {
+        fits = lt-of-le-of-lt (and-le-l waiting ((2 ^ 64 - 1) - one)) lw;
+        members = λ j m.
+            old .members j
+            (and-left (has waiting j) (not (ltb j 64 && eqb j q))
+            (sym (less-single waiting one q j lw lo single) ∙ m));
+        sifted =
+            sifted-turn t rules b c (λ j. has rules j && not (has waiting j))
+            (λ j. has rules j && not (has (bitAnd waiting ((2 ^ 64 - 1) - one)) j)) q before rest after
+            (old .members q h .0) (old .members q h .1)
+            (λ j d n. rw (less-single waiting one q j lw lo single, ne-eqb j q n, and-false, and-end) at d)
+            (old .sifted) (turn (old .members q h .0));
+      }
+
+  pub sieving-end :
+      (before rest : Remaining) (waiting : ℕ)
+      → waiting ≡ 0
+      → Sieving t rules b c before rest waiting
+      → Sifted t rules (has rules) b c before rest
+  sieving-end before rest waiting e old =
+      sifted-idle t rules b c (λ q. has rules q && not (has waiting q)) (has rules) before rest
+      (λ q p l d n. both d (rw (e, has-zero, and-end) at n)) (old .sifted)

@@ -1,0 +1,51 @@
+use mathlib.Core.Path.{sym, _∙_}
+use Rattle.search.proofs.IdleLaws.{idle-refused, idle-promises, idle-found}
+use borrow.Author.Needs.{needs}
+use Rattle.search.proofs.idling.idle.Statement.{statement}
+use Rattle.search.proofs.idling.idle.Tie as tie
+use Rattle.search.proofs.idling.idle.Reads as reads
+use Rattle.search.proofs.idling.idle.Lts as lts
+use Rattle.book.proofs.fields.head_of.Reads as head-of-reads
+use Rattle.search.proofs.idling.idle_check.Reads as idle-check-reads
+use Rattle.search.proofs.idling.needs.Reads as needs-reads
+use Rattle.search.proofs.idling.shown.Reads as shown-reads
+
+-- src/idling.rt:86:1
+returns : tie.Need-returns
+returns c =
+    let checked = c .before .before .before in
+    let a = checked .before .before .before .before .args in
+    let refused =
+    idle-refused (a .book .now) (a .rule) (a .buffer .now) (c .before .checked .given .0 .0)
+    (sym (checked .idle-check .ensures) ∙ c .before .checked .given .1) in
+    idle-promises (a .book .now) (a .rule) (a .buffer .now) _ _ (refused .0) (refused .1)
+
+-- src/idling.rt:86:1
+returns-2 : tie.Need-returns-2
+returns-2 c =
+    let shown = c .before .before in
+    let told = shown .before .before .before .before in
+    let checked = told .before .before in
+    let a = checked .before .before .before .before .args in
+    let found =
+    idle-found (a .book .now) (a .rule) (a .buffer .now) _ (shown .before .before .head-of .result .now) _
+    (told .enum-told .given .0 .0) (shown .before .before .before .needs .result)
+    (sym (checked .idle-check .ensures) ∙ told .enum-told .given .1) (shown .before .before .head-of .ensures)
+    (shown .before .before .before .needs .ensures) (shown .shown .ensures) in
+    idle-promises (a .book .now) (a .rule) (a .buffer .now) _ _ (found .0) (found .1)
+
+pub idle-spec : {M : Type 1} → statement M
+idle-spec =
+    tie.close
+    (tie.spec
+    (λ c κs. search needs)
+    (λ c. search needs)
+    (λ c. search needs)
+    (λ c. search needs)
+    (λ c κs. search needs)
+    (λ c κs. search needs)
+    (λ c κs. search needs)
+    (λ c. search needs)
+    returns
+    (λ c. search needs)
+    returns-2)

@@ -1,0 +1,99 @@
+-- Each turn takes one rule off those that wait (`Sieving`), which makes that word smaller. Assumes nothing.
+use mathlib.Core.Bool.{false}
+use Rattle.book.specs.Sets.{has}
+use Rattle.search.proofs.Sieves.{sifted-empty, sifted-join, less-smaller}
+use Rattle.search.proofs.Sieves.{Sieving, sieving-start, sieving-more, sieving-end}
+use borrow.Author.Needs.{needs}
+use Rattle.search.proofs.sifting.sift.Statement.{statement}
+use Rattle.search.proofs.sifting.sift.Tie as tie
+
+abbrev Inv-loop : tie.InvT-loop
+Inv-loop t rules b c rest₀ waiting₀ rest waiting = Sieving t rules b c rest₀ rest waiting
+
+abbrev μ-loop : tie.MeasureT-loop
+μ-loop t rules b c rest₀ waiting₀ rest waiting = waiting
+
+returns : tie.Need-returns Inv-loop μ-loop
+returns c =
+    let a = c .before .before .before .before .before .args in
+    let first = c .before .before .before .again in
+    sifted-empty (a .t .now) (a .rules) (a .b) (a .c) (λ q. false) (has (a .rules)) (a .before) (first .result)
+    (c .before .is-empty .ensures (c .if1 .taken)) (first .ensures)
+
+loop-holds : tie.Need-loop-holds Inv-loop μ-loop
+loop-holds c =
+    let a = c .before .before .before .before .before .before .args in
+    sieving-start (a .t .now) (a .rules) (a .b) (a .c) (c .before .before .before .before .again .result)
+    (c .touching .result)
+    (search needs) (c .touching .ensures .0) (c .touching .ensures .1)
+
+returns-2 : tie.Need-returns-2 Inv-loop μ-loop
+returns-2 c =
+    let a = c .before .before .before .before .before .before .before .before .before .before .before .before .before
+    .args in
+    let first = c .before .before .before .before .before .before .before .before .before .before .before .again in
+    let loop = c .before .before .before .before .before .before .loop in
+    let turn = c .before .before .before .turn in
+    let low = c .before .before .before .before .lowest in
+    let found = low .ensures .1 (c .before .before .before .before .before .loop-test .taken) in
+    let one = c .before .before .single in
+    sifted-join (a .t .now) (a .rules) (a .b) (a .c) (λ q. false) (has (a .rules)) (a .before) (first .result)
+    (turn .result) (first .ensures)
+    (sifted-empty (a .t .now) (a .rules) (a .b) (a .c) _ (has (a .rules)) (first .result) (turn .result)
+    (c .before .emptied .ensures (c .if2 .taken))
+    (sieving-more (a .t .now) (a .rules) (a .b) (a .c) (first .result) (loop .rest) (turn .result) (loop .waiting)
+    (one .result) (low .result) (search needs) (one .ensures) (found .1) (turn .ensures) (loop .inv) .sifted))
+
+loop-less : tie.Need-loop-less Inv-loop μ-loop
+loop-less c =
+    let loop = c .before .before .before .before .before .before .loop in
+    let low = c .before .before .before .before .lowest in
+    let found = low .ensures .1 (c .before .before .before .before .before .loop-test .taken) in
+    let one = c .before .before .single in
+    less-smaller (loop .waiting) (one .result) (low .result) (loop .inv .fits) (search needs) (found .0)
+    (one .ensures) (found .1)
+
+loop-again : tie.Need-loop-again Inv-loop μ-loop
+loop-again c =
+    let a = c .before .before .before .before .before .before .before .before .before .before .before .before .before
+    .args in
+    let first = c .before .before .before .before .before .before .before .before .before .before .before .again in
+    let loop = c .before .before .before .before .before .before .loop in
+    let turn = c .before .before .before .turn in
+    let low = c .before .before .before .before .lowest in
+    let found = low .ensures .1 (c .before .before .before .before .before .loop-test .taken) in
+    let one = c .before .before .single in
+    sieving-more (a .t .now) (a .rules) (a .b) (a .c) (first .result) (loop .rest) (turn .result) (loop .waiting)
+    (one .result) (low .result) (search needs) (one .ensures) (found .1) (turn .ensures) (loop .inv)
+
+returns-3 : tie.Need-returns-3 Inv-loop μ-loop
+returns-3 c =
+    let a = c .before .before .before .before .before .before .before .before .args in
+    let first = c .before .before .before .before .before .before .again in
+    let loop = c .before .loop in
+    sifted-join (a .t .now) (a .rules) (a .b) (a .c) (λ q. false) (has (a .rules)) (a .before) (first .result)
+    (loop .rest) (first .ensures)
+    (sieving-end (a .t .now) (a .rules) (a .b) (a .c) (first .result) (loop .rest) (loop .waiting) (search needs)
+    (loop .inv))
+
+pub sift-spec : {M : Type 1} → statement M
+sift-spec =
+    tie.close
+    (tie.spec
+    Inv-loop
+    μ-loop
+    (λ c κs. search needs)
+    (λ c κs. search needs)
+    returns
+    (λ c κs. search needs)
+    loop-holds
+    (λ c κs. search needs)
+    (λ c. search needs)
+    (λ c κs. search needs)
+    (λ c. search needs)
+    (λ c κs. search needs)
+    (λ c κs. search needs)
+    returns-2
+    loop-less
+    loop-again
+    returns-3)

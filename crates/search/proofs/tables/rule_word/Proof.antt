@@ -1,0 +1,45 @@
+use native.Mathlib.Omega.{arith}
+use borrow.Author.Needs.{needs}
+use Rattle.search.proofs.tables.rule_word.Statement.{statement}
+use Rattle.search.proofs.tables.rule_word.Tie as tie
+use Rattle.search.proofs.tables.rule_word.Reads as reads
+use Rattle.search.proofs.tables.rule_word.Lts as lts
+use Rattle.search.proofs.tables.reference_word.Reads as reference-word-reads
+use Rattle.search.proofs.tables.restriction_word.Reads as restriction-word-reads
+
+-- src/tables.rt:73:9
+returns : tie.Need-returns
+returns c =
+    record {
+      meeting = λ p low l e. c .reference-word .ensures p l e;
+      taking = λ p high l. absurd (omega arith);
+    }
+
+-- src/tables.rt:76:9
+returns-2 : tie.Need-returns-2
+returns-2 c =
+    record {
+      meeting = λ p low l e. absurd (omega arith);
+      taking = λ p high l. c .restriction-word .ensures p;
+    }
+
+-- src/tables.rt:69:1
+returns-3 : tie.Need-returns-3
+returns-3 c =
+    record {
+      meeting = λ p low l e. absurd (omega arith);
+      taking = λ p high l. absurd (omega arith);
+    }
+
+pub rule-word-spec : {M : Type 1} → statement M
+rule-word-spec =
+    tie.close
+    (tie.spec
+    (λ c. search needs)
+    (λ c κs. search needs)
+    returns
+    (λ c. search needs)
+    (λ c. search needs)
+    (λ c κs. search needs)
+    returns-2
+    returns-3)

@@ -1,0 +1,73 @@
+use Prim.Native.Nat.{_+_, _-_, _*_, _/_, _%_, _≤_}
+use native.Mathlib.Omega.{arith}
+use lib.ListN.{getD}
+use denote.Ref.{now}
+use Rattle.book.specs.Blocks.{ruleAt}
+use Rattle.search.proofs.Building.{Built, build-none, build-more}
+use Rattle.search.proofs.RuleWords.{TableWord, word-leaves, table-holds}
+use borrow.Author.Needs.{needs}
+use Rattle.search.proofs.tables.table.Statement.{statement}
+use Rattle.search.proofs.tables.table.Tie as tie
+use Rattle.search.proofs.tables.table.Reads as reads
+use Rattle.search.proofs.tables.table.Lts as lts
+use Rattle.book.proofs.fields.rule_at.Reads as rule-at-reads
+use Rattle.search.proofs.tables.leaf_sets.Reads as leaf-sets-reads
+use Rattle.search.proofs.tables.leaves_for.Reads as leaves-for-reads
+use Rattle.search.proofs.tables.rule_word.Reads as rule-word-reads
+
+abbrev Inv-loop : tie.InvT-loop
+Inv-loop book n sets t₀ count m₀ t m = (m ≤ 128 * n) × Built 4096 (TableWord book sets) t m
+
+abbrev μ-loop : tie.MeasureT-loop
+μ-loop book n sets t₀ count m₀ t m = 128 * n - m
+
+-- src/tables.rt:114:9
+returns : tie.Need-returns Inv-loop μ-loop
+returns c few = absurd (omega arith)
+
+-- src/tables.rt:117:5
+loop-holds : tie.Need-loop-holds Inv-loop μ-loop
+loop-holds c = (omega arith, build-none (search needs))
+
+-- src/tables.rt:117:5
+loop-again : tie.Need-loop-again Inv-loop μ-loop
+loop-again c =
+    let m = c .before .before .before .before .loop .m in
+    let book = now (c .before .before .before .before .before .before .before .before .args .book) in
+    let sets = c .before .before .before .before .before .before .leaf-sets .result in (
+      omega arith,
+      build-more (c .before .before .before .before .loop .inv .1) (omega arith)
+          (word-leaves (ruleAt book (m / 128)) (c .before .before .leaves-for .result)
+          (getD sets (3 * (m / 128) + m % 128 / 33) 0) (m % 128) (c .rule-word .result)
+          (rw (← (c .before .rule-at .ensures)) (c .rule-word .ensures))
+          (c .before .before .leaves-for .ensures (omega arith))),
+    )
+
+-- src/tables.rt:108:1
+returns-2 : tie.Need-returns-2 Inv-loop μ-loop
+returns-2 c few =
+    table-holds (now (c .before .before .before .before .before .args .book))
+    (c .before .before .before .before .before .args .n) (c .before .before .before .leaf-sets .result)
+    (c .before .loop .t) (c .before .loop .m) (c .before .before .before .leaf-sets .ensures few)
+    (c .before .loop .inv .1) (omega arith)
+
+pub table-spec : {M : Type 1} → statement M
+table-spec =
+    tie.close
+    (tie.spec
+    Inv-loop
+    μ-loop
+    (λ c κs. search needs)
+    returns
+    (λ c. search needs)
+    loop-holds
+    (λ c κs. search needs)
+    (λ c. search needs)
+    (λ c κs. search needs)
+    (λ c κs. search needs)
+    (λ c. search needs)
+    (λ c. search needs)
+    (λ c. search needs)
+    (λ c. search needs)
+    loop-again
+    returns-2)
