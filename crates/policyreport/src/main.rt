@@ -2,6 +2,7 @@
 // break it alone.
 use book::Checked;
 use book::Refusal;
+use book::bytes::part;
 use book::check;
 use libc::STDOUT_FILENO;
 use search::Idleness;
@@ -18,26 +19,27 @@ fn number(n: u32) {
     io::print_decimal(STDOUT_FILENO, n as u64);
 }
 
+// One hexadecimal digit, lower case.
 fn digit(n: u8) {
-    if n < 10 {
-        text(&[48 + n]);
-        return;
-    }
-    if n < 16 {
-        text(&[87 + n]);
+    let at = (n % 16) as usize;
+    text(part(b"0123456789abcdef", at, 1));
+}
+
+// Byte i of a plan as two digits, with a space before each row.
+fn byte(plan: &[u8], i: usize) {
+    if i < plan.len() {
+        if i % 4 == 0 {
+            text(b" ");
+        }
+        digit(plan[i] / 16);
+        digit(plan[i] % 16);
     }
 }
 
 // The rows of a plan, eight hexadecimal digits each.
-fn rows(plan: &[u8], count: u32) {
-    for i in 0..36usize {
-        if (i < 4 * (count as usize)) & (i < plan.len()) {
-            if i % 4 == 0 {
-                text(b" ");
-            }
-            digit(plan[i] / 16);
-            digit(plan[i] % 16);
-        }
+fn rows(plan: &[u8]) {
+    for i in 0..plan.len() {
+        byte(plan, i);
     }
 }
 
@@ -53,7 +55,7 @@ fn line(book: &[u8], rule: u32) {
             text(b" user ");
             number(user);
             text(b" plan");
-            rows(&plan, count);
+            rows(part(&plan, 0, 4 * (count as usize)));
         }
         Idleness::Refused(_) => text(b" refused"),
     }
