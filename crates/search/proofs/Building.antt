@@ -2,7 +2,7 @@
 use Prim.Native.Nat.{ℕ, _+_, _≤_, _<_}
 use native.Mathlib.Omega.{arith}
 use mathlib.Core.Path.{_≡_, refl, sym, _∙_}
-use mathlib.Core.Bool.{Bool, true, false, _&&_, _||_}
+use mathlib.Core.Bool.{Bool, true, false}
 use mathlib.Core.List.{List}
 use lib.ListN.{length, getD, set, length-set}
 use lib.Seq.{getD-set-same, getD-set-other}
@@ -10,7 +10,7 @@ use lib.Dec.{eqb, ltb}
 use lib.Bits.{bitOr}
 use borrow.Author.Tests.{eqb-true, eqb-false}
 use Rattle.book.specs.Lists.{any, upTo}
-use Rattle.book.specs.Sets.{has, WordOf}
+use Rattle.book.specs.Sets.{WordOf}
 use Rattle.book.proofs.Lists.{and-or, and-false, any-none, any-more}
 use Rattle.book.proofs.Members.{has-or, has-zero}
 

@@ -3,14 +3,14 @@
 use Prim.Native.Nat.{ℕ, zero, suc, _+_, _*_, _/_, _%_, _≤_, _<_}
 use native.Mathlib.Omega.{arith}
 use mathlib.Core.Path.{_≡_, refl, sym, ap, _∙_}
-use mathlib.Core.Logic.{_⊎_, inl, inr, ⊎-elim}
+use mathlib.Core.Logic.{⊎-elim}
 use mathlib.Core.Bool.{Bool, true, false, _&&_, _||_, cond, false≢true}
 use mathlib.Core.List.{List, [], _∷_}
 use lib.Dec.{eqb, ltb}
 use borrow.Author.Tests.{eqb-true, eq-eqb, ltb-true, lt-ltb}
 use Rattle.book.specs.Head.{dataCount}
 use Rattle.book.proofs.Accepted.{HeadHolds}
-use Rattle.book.proofs.Lists.{and-both, and-false, and-left, and-right, or-end, or-true}
+use Rattle.book.proofs.Lists.{and-both, and-false, and-left, and-right, or-either, or-end, or-true}
 use Rattle.verdicts.specs.Accesses.{Access, fits, same}
 use Rattle.verdicts.proofs.Accesses.{access, fits-bounds}
 use Rattle.verdicts.proofs.Closing.{same-equal}
@@ -41,10 +41,6 @@ module _ (x : Access) (s : x .channel < 2) (d : x .leaf < 64) (k : x .operation 
       let e : access (p / 1024) (p / 16 % 64) (p % 16) ≡ access (x .channel) (x .leaf) (x .operation) =
       rw (es, ed, ek) in
       e
-
-pub or-either : (a b : Bool) → (a || b) ≡ true → (a ≡ true) ⊎ (b ≡ true)
-or-either true b h = inl refl
-or-either false b h = inr h
 
 module _ (p q : ℕ) where
   pub before-place : accessBefore (accessAt p) (accessAt q) ≡ true → p < q

@@ -1,8 +1,7 @@
 -- Laws of Idle: its answer and the buffer on leaving by what the checks and the search say. Assumes nothing.
-use Prim.Native.Nat.{ℕ, _+_, _*_, _/_, _%_, _≤_, _<_}
+use Prim.Native.Nat.{ℕ, _+_, _*_, _%_, _≤_, _<_}
 use native.Mathlib.Omega.{arith}
-use mathlib.Core.Path.{_≡_, refl, sym, ap, _∙_}
-use mathlib.Core.Bool.{Bool, true, false}
+use mathlib.Core.Path.{_≡_, sym, ap, _∙_}
 use mathlib.Core.List.{List, [], _∷_, _++_}
 use lib.ListN.{length, getD, take, drop}
 use lib.Seq.{length-take-le}
@@ -20,9 +19,7 @@ use Rattle.book.proofs.Tests.{first-passed}
 use Rattle.lineage.specs.Rows.{rowCount}
 use Rattle.lineage.specs.Answers.{leaving}
 use Rattle.lineage.proofs.FlowLaws.{else-accepted}
-use Rattle.search.specs.Choices.{Candidate}
 use Rattle.search.specs.Shown.{shownPlan}
-use Rattle.search.specs.Alone.{First, none, shown, firstAlone}
 use Rattle.search.specs.Answers.{ruleAnswer, bufferAnswer, idleCheck, idlenessOf, refusedOr, idleAnswer, written}
 use Rattle.search.specs.Answers.{idleBuffer}
 use Rattle.search.specs.Places.{choiceAt, rowsAt}

@@ -18,7 +18,7 @@ use Rattle.book.specs.Rule.{coversUser, excludedUsers, referenceCount, userCate
 use Rattle.book.specs.Answers.{checkAnswer, ruleCount}
 use Rattle.book.specs.declared.Checked.the-variants.{Accepted}
 use Rattle.book.proofs.Accepted.{RuleHolds, accepted-head, accepted-rule, accepted-rules}
-use Rattle.book.proofs.Lists.{all-same, and-assoc, and-both, and-left, any-from-same, not-any}
+use Rattle.book.proofs.Lists.{all-same, and-assoc, and-both, and-left, any-from-same, not-any, or-either}
 use Rattle.verdicts.specs.Accesses.{Access}
 use Rattle.verdicts.specs.Words.{RuleSound}
 use Rattle.verdicts.specs.Breaking.{breaks, someChoiceRefused}
@@ -37,7 +37,7 @@ use Rattle.search.specs.declared.users.Needs.the-variants.{Nobody, User}
 use Rattle.search.proofs.Orders as orders
 use Rattle.search.proofs.AloneLaws.{candidate-members, members}
 use Rattle.search.proofs.Placements.{drops-refused}
-use Rattle.search.proofs.ChoicePlaces.{Stand, before-triple, choice-places, or-either, places-choice}
+use Rattle.search.proofs.ChoicePlaces.{Stand, before-triple, choice-places, places-choice}
 use Rattle.search.proofs.ChoicePlaces.{stands-most}
 use Rattle.search.proofs.ChoiceTables.{candidate-stands, refused-own, refuses-places}
 

@@ -1,11 +1,10 @@
 -- What the words of the accesses that can be had say. Assumes nothing.
 use Prim.Native.Nat.{ℕ, _+_, _*_, _/_, _%_, _≤_, _<_}
 use native.Mathlib.Omega.{arith}
-use mathlib.Core.Path.{_≡_, refl, sym, ap, _∙_}
-use mathlib.Core.Bool.{Bool, true, false, _&&_, _||_}
+use mathlib.Core.Path.{_≡_, ap, _∙_}
+use mathlib.Core.Bool.{Bool, _&&_, _||_}
 use mathlib.Core.List.{List}
-use lib.ListN.{getD}
-use lib.Dec.{eqb, ltb}
+use lib.Dec.{eqb}
 use lib.Bits.{bitAnd, bitOr}
 use borrow.Author.Tests.{lt-ltb}
 use Rattle.book.specs.Lists.{any, upTo}
@@ -45,6 +44,3 @@ had-holds head had n b whole p l =
     let d : p / 64 % 16 * 4 + p % 64 / 16 ≡ p / 16 % 64 = omega arith in
     let k : p % 64 % 16 ≡ p % 16 = omega arith in
     b .at (p / 64) (omega arith) (p % 64) (omega arith) ∙ rw (d, k)
-
-pub had-labelled : (head : List ℕ) (d labels : ℕ) (t : Bool) → t ≡ has labels d → WordOf (labelled head) labels → d < 64 → labelled head d ≡ t
-had-labelled head d labels t e all l = sym (e ∙ all d ∙ rw (lt-ltb d 64 l))

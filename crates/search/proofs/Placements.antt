@@ -1,20 +1,19 @@
 -- Three places break a rule by the tables exactly when their accesses do by the book: a placement gives each reference
 -- one of the places. Assumes nothing.
-use Prim.Native.Nat.{ℕ, zero, suc, _/_, _%_, _≤_, _<_}
+use Prim.Native.Nat.{ℕ, _%_, _≤_, _<_}
 use native.Mathlib.Omega.{arith}
 use mathlib.Core.Path.{_≡_, refl, sym, ap, _∙_}
-use mathlib.Core.Logic.{_⊎_, inl, inr, ⊎-elim}
 use mathlib.Core.Bool.{Bool, true, false, _&&_, _||_, not, cond, false≢true}
 use mathlib.Core.List.{List, [], _∷_, _++_}
-use lib.Dec.{eqb, ltb}
-use borrow.Author.Tests.{lt-ltb, le-ltb, ltb-true, ltb-false, eqb-true, eq-eqb, not-true}
+use lib.Dec.{ltb}
+use borrow.Author.Tests.{lt-ltb, ltb-true, ltb-false}
 use Rattle.book.specs.Lists.{any, upTo}
 use Rattle.book.specs.Blocks.{headOf, ruleAt}
 use Rattle.book.specs.Rule.{inLeafSet, action, referenceCount, restrictionCount, restrictionMask}
-use Rattle.book.proofs.Lists.{and-true, and-left, and-right, and-both, and-or, or-end, or-rest, or-otherwise, same-test}
-use Rattle.book.proofs.Lists.{any-same, any-append, any-from-same, any-guarded, any-one}
+use Rattle.book.proofs.Lists.{and-true, and-right, and-both, and-or, or-left, or-right, same-test}
+use Rattle.book.proofs.Lists.{any-same, any-append, any-from-same, any-one}
 use Rattle.verdicts.specs.Accesses.{Access, Accesses, actionFits, fits, same}
-use Rattle.verdicts.specs.Words.{RuleSound, maskTakes, offers, offersOrNone}
+use Rattle.verdicts.specs.Words.{RuleSound, maskTakes, offersOrNone}
 use Rattle.verdicts.specs.Breaking.{someChoiceRefused}
 use Rattle.verdicts.proofs.Quantifiers.{any-at, at-any, any-below}
 use Rattle.verdicts.proofs.Masks.{beside}
@@ -41,13 +40,6 @@ swap-last true false true = refl
 swap-last true false false = refl
 swap-last false y true = refl
 swap-last false y false = refl
-
-pub or-first : (a b : Bool) → a ≡ true → (a || b) ≡ true
-or-first true b h = refl
-or-first false b h = absurd (false≢true h)
-
-pub or-second : (a b : Bool) → b ≡ true → (a || b) ≡ true
-or-second a b h = or-otherwise a b (λ e. h)
 
 -- The places of a choice
 
@@ -148,48 +140,48 @@ module _ (t : List ℕ) (q : ℕ) where
     first-closes : placement p b c ≡ true → closes t q b c p ≡ true
     first-closes h =
         closes-placed b c p
-        ∙ or-first (placement p b c || placement p c b)
+        ∙ or-left (placement p b c || placement p c b)
         ((placement b p c || placement c p b) || (placement b c p || placement c b p))
-        (or-first (placement p b c) (placement p c b) h)
+        (or-left (placement p b c) (placement p c b) h)
 
     first-turned : placement p c b ≡ true → closes t q b c p ≡ true
     first-turned h =
         closes-placed b c p
-        ∙ or-first (placement p b c || placement p c b)
+        ∙ or-left (placement p b c || placement p c b)
         ((placement b p c || placement c p b) || (placement b c p || placement c b p))
-        (or-second (placement p b c) (placement p c b) h)
+        (or-right (placement p b c) (placement p c b) h)
 
     second-closes : placement b p c ≡ true → closes t q b c p ≡ true
     second-closes h =
         closes-placed b c p
-        ∙ or-second (placement p b c || placement p c b)
+        ∙ or-right (placement p b c || placement p c b)
         ((placement b p c || placement c p b) || (placement b c p || placement c b p))
-        (or-first (placement b p c || placement c p b) (placement b c p || placement c b p)
-        (or-first (placement b p c) (placement c p b) h))
+        (or-left (placement b p c || placement c p b) (placement b c p || placement c b p)
+        (or-left (placement b p c) (placement c p b) h))
 
     second-turned : placement c p b ≡ true → closes t q b c p ≡ true
     second-turned h =
         closes-placed b c p
-        ∙ or-second (placement p b c || placement p c b)
+        ∙ or-right (placement p b c || placement p c b)
         ((placement b p c || placement c p b) || (placement b c p || placement c b p))
-        (or-first (placement b p c || placement c p b) (placement b c p || placement c b p)
-        (or-second (placement b p c) (placement c p b) h))
+        (or-left (placement b p c || placement c p b) (placement b c p || placement c b p)
+        (or-right (placement b p c) (placement c p b) h))
 
     third-closes : placement b c p ≡ true → closes t q b c p ≡ true
     third-closes h =
         closes-placed b c p
-        ∙ or-second (placement p b c || placement p c b)
+        ∙ or-right (placement p b c || placement p c b)
         ((placement b p c || placement c p b) || (placement b c p || placement c b p))
-        (or-second (placement b p c || placement c p b) (placement b c p || placement c b p)
-        (or-first (placement b c p) (placement c b p) h))
+        (or-right (placement b p c || placement c p b) (placement b c p || placement c b p)
+        (or-left (placement b c p) (placement c b p) h))
 
     third-turned : placement c b p ≡ true → closes t q b c p ≡ true
     third-turned h =
         closes-placed b c p
-        ∙ or-second (placement p b c || placement p c b)
+        ∙ or-right (placement p b c || placement p c b)
         ((placement b p c || placement c p b) || (placement b c p || placement c b p))
-        (or-second (placement b p c || placement c p b) (placement b c p || placement c b p)
-        (or-second (placement b c p) (placement c b p) h))
+        (or-right (placement b p c || placement c p b) (placement b c p || placement c b p)
+        (or-right (placement b c p) (placement c b p) h))
 
     -- a fact that follows from each of the six
     closes-each :
@@ -376,7 +368,7 @@ module _
         ha,
         λ c.
             parts a y x (accessAt a)
-            ∙ or-first (members (chosenAt a) (accessAt a))
+            ∙ or-left (members (chosenAt a) (accessAt a))
             (members (chosenAt y) (accessAt a) || members (chosenAt x) (accessAt a)) (chosen-member a c),
       )
 
@@ -386,9 +378,9 @@ module _
         hy,
         λ c.
             parts a y x (accessAt y)
-            ∙ or-second (members (chosenAt a) (accessAt y))
+            ∙ or-right (members (chosenAt a) (accessAt y))
             (members (chosenAt y) (accessAt y) || members (chosenAt x) (accessAt y))
-            (or-first (members (chosenAt y) (accessAt y)) (members (chosenAt x) (accessAt y)) (chosen-member y c)),
+            (or-left (members (chosenAt y) (accessAt y)) (members (chosenAt x) (accessAt y)) (chosen-member y c)),
       )
 
       among-third : Among x
@@ -397,9 +389,9 @@ module _
         hx,
         λ c.
             parts a y x (accessAt x)
-            ∙ or-second (members (chosenAt a) (accessAt x))
+            ∙ or-right (members (chosenAt a) (accessAt x))
             (members (chosenAt y) (accessAt x) || members (chosenAt x) (accessAt x))
-            (or-second (members (chosenAt y) (accessAt x)) (members (chosenAt x) (accessAt x)) (chosen-member x c)),
+            (or-right (members (chosenAt y) (accessAt x)) (members (chosenAt x) (accessAt x)) (chosen-member x c)),
       )
 
       offered :
@@ -585,40 +577,40 @@ module _
       unfolding drops placeAt
       drop-alone First h = rw h
       drop-alone Second h =
-          or-first
+          or-left
           (closes t q nowhere nowhere a || (closes t q nowhere nowhere y || closes t q nowhere nowhere x))
           ((closes t q a nowhere y || closes t q a nowhere x) || closes t q a y x)
-          (or-second (closes t q nowhere nowhere a) (closes t q nowhere nowhere y || closes t q nowhere nowhere x)
-          (or-first (closes t q nowhere nowhere y) (closes t q nowhere nowhere x) h))
+          (or-right (closes t q nowhere nowhere a) (closes t q nowhere nowhere y || closes t q nowhere nowhere x)
+          (or-left (closes t q nowhere nowhere y) (closes t q nowhere nowhere x) h))
       drop-alone Third h =
-          or-first
+          or-left
           (closes t q nowhere nowhere a || (closes t q nowhere nowhere y || closes t q nowhere nowhere x))
           ((closes t q a nowhere y || closes t q a nowhere x) || closes t q a y x)
-          (or-second (closes t q nowhere nowhere a) (closes t q nowhere nowhere y || closes t q nowhere nowhere x)
-          (or-second (closes t q nowhere nowhere y) (closes t q nowhere nowhere x) h))
+          (or-right (closes t q nowhere nowhere a) (closes t q nowhere nowhere y || closes t q nowhere nowhere x)
+          (or-right (closes t q nowhere nowhere y) (closes t q nowhere nowhere x) h))
 
       drop-rest :
           ((closes t q a nowhere y || closes t q a nowhere x) || closes t q a y x) ≡ true → drops t q a y x ≡ true
       unfolding drops
       drop-rest h =
-          or-second
+          or-right
           (closes t q nowhere nowhere a || (closes t q nowhere nowhere y || closes t q nowhere nowhere x))
           ((closes t q a nowhere y || closes t q a nowhere x) || closes t q a y x) h
 
       drop-second : closes t q a nowhere y ≡ true → drops t q a y x ≡ true
       drop-second h =
           drop-rest
-          (or-first (closes t q a nowhere y || closes t q a nowhere x) (closes t q a y x)
-          (or-first (closes t q a nowhere y) (closes t q a nowhere x) h))
+          (or-left (closes t q a nowhere y || closes t q a nowhere x) (closes t q a y x)
+          (or-left (closes t q a nowhere y) (closes t q a nowhere x) h))
 
       drop-third : closes t q a nowhere x ≡ true → drops t q a y x ≡ true
       drop-third h =
           drop-rest
-          (or-first (closes t q a nowhere y || closes t q a nowhere x) (closes t q a y x)
-          (or-second (closes t q a nowhere y) (closes t q a nowhere x) h))
+          (or-left (closes t q a nowhere y || closes t q a nowhere x) (closes t q a y x)
+          (or-right (closes t q a nowhere y) (closes t q a nowhere x) h))
 
       drop-all : closes t q a y x ≡ true → drops t q a y x ≡ true
-      drop-all h = drop-rest (or-second (closes t q a nowhere y || closes t q a nowhere x) (closes t q a y x) h)
+      drop-all h = drop-rest (or-right (closes t q a nowhere y || closes t q a nowhere x) (closes t q a y x) h)
 
       module _ (k0 k1 k2 : ℕ) (none : refusesThree (ruleAt book q) k0 k1 k2 ≡ true) where
         -- a rule of one reference

@@ -1,21 +1,21 @@
 -- What the words of a rule say, and the tables of them. Assumes nothing.
-use Prim.Native.Nat.{ℕ, _+_, _-_, _*_, _/_, _%_, _^_, _≤_, _<_}
+use Prim.Native.Nat.{ℕ, _+_, _-_, _*_, _/_, _%_, _≤_, _<_}
 use native.Mathlib.Omega.{arith}
-use mathlib.Core.Path.{_≡_, refl, sym, ap, _∙_}
-use mathlib.Core.Bool.{Bool, true, false, _&&_, _||_, cond}
+use mathlib.Core.Path.{_≡_, ap, _∙_}
+use mathlib.Core.Bool.{Bool, true, _&&_, cond}
 use mathlib.Core.List.{List}
 use lib.ListN.{getD}
-use lib.Dec.{eqb, ltb}
-use borrow.Author.Tests.{lt-ltb, le-ltb, ltb-true, ltb-false}
+use lib.Dec.{ltb}
+use borrow.Author.Tests.{lt-ltb, le-ltb}
 use Rattle.book.specs.Sets.{has, WordOf}
 use Rattle.book.specs.Blocks.{headOf, ruleAt}
 use Rattle.book.specs.Rule.{action, referenceCount, restrictionCount, restrictionMask, coversUser, inLeafSet}
-use Rattle.book.proofs.Lists.{and-false}
+use Rattle.book.proofs.Lists.{and-end}
 use Rattle.book.proofs.Members.{has-cond, has-below, has-zero}
-use Rattle.verdicts.specs.Accesses.{Access, actionFits, fits}
+use Rattle.verdicts.specs.Accesses.{actionFits, fits}
 use Rattle.verdicts.specs.Words.{maskTakes}
 use Rattle.search.specs.Places.{accessAt, nowhere}
-use Rattle.search.specs.Table.{meets, takesAt, meetsReference, takesOperation, RuleWord, TableHolds, CoversHold}
+use Rattle.search.specs.Table.{meets, takesAt, meetsReference, takesOperation, RuleWord, TableHolds}
 use Rattle.search.proofs.Building.{Built}
 
 -- Words
@@ -23,11 +23,7 @@ use Rattle.search.proofs.Building.{Built}
 -- all operations of a leaf, or none
 pub leaf-mask : (t : Bool) (word k : ℕ) → word ≡ cond t 65535 0 → k < 16 → has word k ≡ t
 leaf-mask t word k e l =
-    rw e (has-cond t 65535 k ∙ ap (λ (b : Bool). t && b) (has-below 16 k ∙ lt-ltb k 16 l) ∙ end t)
-  where
-    end : (b : Bool) → (b && true) ≡ b
-    end true = refl
-    end false = refl
+    rw e (has-cond t 65535 k ∙ ap (λ (b : Bool). t && b) (has-below 16 k ∙ lt-ltb k 16 l) ∙ and-end t)
 
 -- every place meets an absent reference
 pub all-ones : (i : ℕ) → i < 64 → has 18446744073709551615 i ≡ true

@@ -12,7 +12,7 @@ use lib.Bits.{bitAnd, bitOr, and-le-l}
 use borrow.Author.Tests.{not-true, eqb-true, eqb-false, eq-eqb, ne-eqb, lt-ltb}
 use Rattle.book.specs.Lists.{any, upTo}
 use Rattle.book.specs.Sets.{has, WordOf}
-use Rattle.book.proofs.Lists.{and-true, and-left, and-right, and-end, and-false, or-neither, or-rest}
+use Rattle.book.proofs.Lists.{and-true, and-left, and-right, and-end, and-false, or-neither, or-rest, or-true}
 use Rattle.book.proofs.Members.{has-zero, has-or, has-minus}
 use Rattle.verdicts.proofs.Marks.{has-if}
 use Rattle.verdicts.proofs.Quantifiers.{any-wider, at-any}
@@ -96,12 +96,8 @@ turn-some t q b c one last before places small single h =
           (and-right (ltb j 64) (eqb j q)
           (sym (single j) ∙ or-rest (has (before .rules) j) (has one j) (sym (has-or (before .rules) one j) ∙ m) n));
       marked = λ p l m n.
-          rw (has-or, single q, lt-ltb q 64 (omega arith), eq-eqb q q refl) (or-last (has (before .rules) q));
+          rw (has-or, single q, lt-ltb q 64 (omega arith), eq-eqb q q refl) (or-true (has (before .rules) q));
     }
-  where
-    or-last : (x : Bool) → (x || true) ≡ true
-    or-last true = refl
-    or-last false = refl
 
 -- The sieve
 

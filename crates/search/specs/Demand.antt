@@ -4,7 +4,7 @@ use Prim.Native.Nat.{ℕ, _*_, _^_, _≤_}
 use mathlib.Core.Path.{_≡_}
 use mathlib.Core.Logic.{_⊎_}
 use mathlib.Core.Bool.{true, false}
-use mathlib.Core.List.{List, _++_}
+use mathlib.Core.List.{List}
 use lib.ListN.{length, take, drop}
 use Rattle.book.specs.Blocks.{headOf, ruleAt}
 use Rattle.book.specs.Head.{isUser}
@@ -13,7 +13,7 @@ use Rattle.lineage.specs.Answers.{planAnswer}
 use Rattle.verdicts.specs.Accesses.{Access}
 use Rattle.verdicts.specs.Answers.{judgeAnswer}
 use Rattle.verdicts.specs.declared.Judged.the-variants.{Broken}
-use Rattle.search.specs.Choices.{Candidate, isChoice, candidateBefore}
+use Rattle.search.specs.Choices.{isChoice, candidateBefore}
 use Rattle.search.specs.Shown.{shownPlan}
 use Rattle.search.specs.Alone.{planBreaksAlone}
 use Rattle.search.specs.declared.Idleness.{Idleness}

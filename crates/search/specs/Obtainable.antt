@@ -6,7 +6,7 @@ use lib.Dec.{eqb}
 use Rattle.book.specs.Lists.{any, upTo}
 use Rattle.book.specs.Head.{columnCount, functionCount, operation, supports}
 use Rattle.lineage.specs.Paths.{labels}
-use Rattle.verdicts.specs.Accesses.{Access, Accesses}
+use Rattle.verdicts.specs.Accesses.{Accesses}
 
 -- "some column has its label"
 unfoldable pub labelled : List ℕ → ℕ → Bool

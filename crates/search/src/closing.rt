@@ -7,10 +7,9 @@ ghost use mathlib.Core.Path.{_≡_};
 ghost use mathlib.Core.Bool.{_&&_, _||_, not};
 ghost use Prim.Native.Nat.{ℕ, _+_, _*_, _%_, _<_};
 ghost use lib.ListN.{getD};
-ghost use Rattle.book.specs.Lists.{any, upTo};
 ghost use Rattle.book.specs.Sets.{has};
 ghost use Rattle.search.specs.Places.{inPlaces};
-ghost use Rattle.search.specs.Table.{meets, takesAt};
+ghost use Rattle.search.specs.Table.{meets};
 ghost use Rattle.search.specs.Closing.{acceptedAt, closesAt, closesBy};
 
 // Whether place p meets reference i of rule q.

@@ -12,7 +12,6 @@ use lineage::reach::word_at;
 ghost use mathlib.Core.Path.{_≡_};
 ghost use mathlib.Core.Bool.{true, _&&_, not};
 ghost use Prim.Native.Nat.{ℕ, _+_, _*_, _%_, _<_};
-ghost use lib.ListN.{getD};
 ghost use Rattle.book.specs.Sets.{has};
 ghost use Rattle.search.specs.Places.{inPlaces};
 ghost use Rattle.search.specs.Search.{referenceAt, candidate, solves, solvesIn, solvesFirst, solvesBeside, Searched, Thirds, Possible};

@@ -13,7 +13,7 @@ use borrow.Author.Tests.{not-false, eqb-true, eqb-false, eq-eqb}
 use Rattle.book.specs.Lists.{any, from, upTo}
 use Rattle.book.specs.Sets.{has}
 use Rattle.book.specs.Rule.{coversUser, referenceCount, restrictionCount, restrictionMask}
-use Rattle.book.proofs.Lists.{and-true, and-both, or-true, all-at, at-all, any-none}
+use Rattle.book.proofs.Lists.{and-true, and-both, or-either, or-true, all-at, at-all, any-none}
 use Rattle.verdicts.specs.Accesses.{Access, Accesses}
 use Rattle.verdicts.specs.Words.{offers}
 use Rattle.verdicts.specs.Breaking.{accepts, refusesAll, someChoiceRefused, breaks}
@@ -82,10 +82,6 @@ listed P (suc n) i h =
     (first .0 ∷ rest .0, listed-at P n i (first .0) (rest .0) (first .1) (rest .1))
 
 -- Restrictions
-
-or-either : (a b : Bool) → (a || b) ≡ true → (a ≡ true) ⊎ (b ≡ true)
-or-either true b h = inl refl
-or-either false b h = inr h
 
 module _ (head rule : List ℕ) (user : ℕ) (query : Accesses) (ks : List ℕ) (j : ℕ) where
   pub accepts-satisfies :

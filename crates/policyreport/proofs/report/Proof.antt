@@ -3,11 +3,6 @@ use Prim.Native.Nat.{_-_, _≤_}
 use borrow.Author.Needs.{needs}
 use Rattle.policyreport.proofs.report.Statement.{statement}
 use Rattle.policyreport.proofs.report.Tie as tie
-use Rattle.policyreport.proofs.report.Reads as reads
-use Rattle.policyreport.proofs.report.Lts as lts
-use Rattle.book.proofs.check.Reads as check-reads
-use Rattle.policyreport.proofs.line.Reads as line-reads
-use Rattle.policyreport.proofs.refused.Reads as refused-reads
 
 abbrev Inv-loop : tie.InvT-loop
 Inv-loop book n r₀ r = r ≤ n

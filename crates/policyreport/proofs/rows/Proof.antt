@@ -3,9 +3,6 @@ use Prim.Native.Nat.{_-_, _≤_}
 use borrow.Author.Needs.{needs}
 use Rattle.policyreport.proofs.rows.Statement.{statement}
 use Rattle.policyreport.proofs.rows.Tie as tie
-use Rattle.policyreport.proofs.rows.Reads as reads
-use Rattle.policyreport.proofs.rows.Lts as lts
-use Rattle.policyreport.proofs.byte.Reads as byte-reads
 
 abbrev Inv-loop : tie.InvT-loop
 Inv-loop plan i₀ i-end i = i ≤ i-end

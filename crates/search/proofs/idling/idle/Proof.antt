@@ -1,16 +1,10 @@
+-- Refused: nothing is written. Accepted: what the search found is what the definitions say. Assumes nothing.
 use mathlib.Core.Path.{sym, _∙_}
 use Rattle.search.proofs.IdleLaws.{idle-refused, idle-promises, idle-found}
 use borrow.Author.Needs.{needs}
 use Rattle.search.proofs.idling.idle.Statement.{statement}
 use Rattle.search.proofs.idling.idle.Tie as tie
-use Rattle.search.proofs.idling.idle.Reads as reads
-use Rattle.search.proofs.idling.idle.Lts as lts
-use Rattle.book.proofs.fields.head_of.Reads as head-of-reads
-use Rattle.search.proofs.idling.idle_check.Reads as idle-check-reads
-use Rattle.search.proofs.idling.needs.Reads as needs-reads
-use Rattle.search.proofs.idling.shown.Reads as shown-reads
 
--- src/idling.rt:86:1
 returns : tie.Need-returns
 returns c =
     let checked = c .before .before .before in
@@ -20,7 +14,6 @@ returns c =
     (sym (checked .idle-check .ensures) ∙ c .before .checked .given .1) in
     idle-promises (a .book .now) (a .rule) (a .buffer .now) _ _ (refused .0) (refused .1)
 
--- src/idling.rt:86:1
 returns-2 : tie.Need-returns-2
 returns-2 c =
     let shown = c .before .before in

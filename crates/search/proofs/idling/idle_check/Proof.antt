@@ -1,15 +1,9 @@
+-- The checks' answers joined in document 01's order. Assumes nothing.
 use Rattle.search.proofs.IdleLaws.{idle-joined}
 use borrow.Author.Needs.{needs}
 use Rattle.search.proofs.idling.idle_check.Statement.{statement}
 use Rattle.search.proofs.idling.idle_check.Tie as tie
-use Rattle.search.proofs.idling.idle_check.Reads as reads
-use Rattle.search.proofs.idling.idle_check.Lts as lts
-use Rattle.book.proofs.check.Reads as check-reads
-use Rattle.book.proofs.checking.or_else.Reads as or-else-reads
-use Rattle.search.proofs.idling.buffer_check.Reads as buffer-check-reads
-use Rattle.search.proofs.idling.rule_check.Reads as rule-check-reads
 
--- src/idling.rt:50:1
 returns : tie.Need-returns
 returns c =
     let a = c .before .before .before .before .before .before .before .args in

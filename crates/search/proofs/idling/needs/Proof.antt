@@ -1,20 +1,10 @@
+-- The tables say what the book says, so what the search finds is the first (`needs-first`). Assumes nothing.
 use native.Mathlib.Omega.{arith}
 use Rattle.search.proofs.IdleLaws.{needs-first}
 use borrow.Author.Needs.{needs}
 use Rattle.search.proofs.idling.needs.Statement.{statement}
 use Rattle.search.proofs.idling.needs.Tie as tie
-use Rattle.search.proofs.idling.needs.Reads as reads
-use Rattle.search.proofs.idling.needs.Lts as lts
-use Rattle.book.proofs.fields.head_of.Reads as head-of-reads
-use Rattle.book.proofs.fields.reference_count.Reads as reference-count-reads
-use Rattle.book.proofs.fields.rule_at.Reads as rule-at-reads
-use Rattle.search.proofs.obtaining.obtainable.Reads as obtainable-reads
-use Rattle.search.proofs.tables.covered_by.Reads as covered-by-reads
-use Rattle.search.proofs.tables.table.Reads as table-reads
-use Rattle.search.proofs.users.first_user.Reads as first-user-reads
-use Rattle.verdicts.proofs.judging.rule_total.Reads as rule-total-reads
 
--- src/idling.rt:58:1
 returns : tie.Need-returns
 returns c n accepted l =
     let total = c .before .before .before .before .before .before .before .before .rule-total in

@@ -1,3 +1,4 @@
+-- The one test of the answer, both ways. Assumes nothing.
 use native.Mathlib.Omega.{arith}
 use mathlib.Core.Path.{_∙_}
 use denote.Ref.{now}
@@ -5,17 +6,11 @@ use Rattle.search.proofs.IdleLaws.{rule-there, rule-absent}
 use borrow.Author.Needs.{needs}
 use Rattle.search.proofs.idling.rule_check.Statement.{statement}
 use Rattle.search.proofs.idling.rule_check.Tie as tie
-use Rattle.search.proofs.idling.rule_check.Reads as reads
-use Rattle.search.proofs.idling.rule_check.Lts as lts
-use Rattle.book.proofs.bytes.less.Reads as less-reads
-use Rattle.book.proofs.checking.refused.Reads as refused-reads
 
--- src/idling.rt:35:9
 returns : tie.Need-returns
 returns c =
     rule-there (now (c .before .before .before .args .book)) (c .before .before .before .args .rule) (omega arith)
 
--- src/idling.rt:31:1
 returns-2 : tie.Need-returns-2
 returns-2 c =
     c .refused .ensures

@@ -1,21 +1,15 @@
+-- Nothing is written for an idle rule; otherwise the rows of the plan, and no more. Assumes nothing.
 use native.Mathlib.Omega.{arith}
 use Rattle.search.proofs.IdleLaws.{nobody-shown, shown-answer, shown-buffer}
 use borrow.Author.Needs.{needs}
 use Rattle.search.proofs.idling.shown.Statement.{statement}
 use Rattle.search.proofs.idling.shown.Tie as tie
-use Rattle.search.proofs.idling.shown.Reads as reads
-use Rattle.search.proofs.idling.shown.Lts as lts
-use Rattle.search.proofs.showing.row_total.Reads as row-total-reads
-use Rattle.search.proofs.showing.shown_plan.Reads as shown-plan-reads
-use Rattle.search.proofs.showing.write_plan.Reads as write-plan-reads
 
--- src/idling.rt:68:1
 returns : tie.Need-returns
 returns c long =
     let a = c .before .before .before .before .args in
     nobody-shown (a .head .now) (a .buffer .now) (a .found) (c .enum-told .given .1)
 
--- src/idling.rt:68:1
 returns-2 : tie.Need-returns-2
 returns-2 c long =
     let a = c .before .before .before .before .before .before .before .before .before .before .before .args in

@@ -1,11 +1,9 @@
+-- Four masks, one above the other: the law `four-masks`. Assumes nothing.
 use Rattle.search.proofs.Fours.{four-masks}
 use borrow.Author.Needs.{needs}
 use Rattle.search.proofs.obtaining.four.Statement.{statement}
 use Rattle.search.proofs.obtaining.four.Tie as tie
-use Rattle.search.proofs.obtaining.four.Reads as reads
-use Rattle.search.proofs.obtaining.four.Lts as lts
 
--- src/obtaining.rt:55:1
 returns : tie.Need-returns
 returns c i l = four-masks (c .args .a) (c .args .b) (c .args .c) (c .args .d) i l
 

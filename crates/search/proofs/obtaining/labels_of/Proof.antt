@@ -1,3 +1,4 @@
+-- One column a turn. Assumes nothing.
 use Prim.Native.Nat.{_-_, _≤_}
 use native.Mathlib.Omega.{arith}
 use lib.Dec.{eqb}
@@ -10,10 +11,6 @@ use Rattle.search.proofs.Building.{gather-none, gather-more, gather-end
 use borrow.Author.Needs.{needs}
 use Rattle.search.proofs.obtaining.labels_of.Statement.{statement}
 use Rattle.search.proofs.obtaining.labels_of.Tie as tie
-use Rattle.search.proofs.obtaining.labels_of.Reads as reads
-use Rattle.search.proofs.obtaining.labels_of.Lts as lts
-use Rattle.book.proofs.fields.column_count.Reads as column-count-reads
-use Rattle.lineage.proofs.reach.label_set.Reads as label-set-reads
 
 abbrev Inv-loop : tie.InvT-loop
 Inv-loop head n found₀ c₀ found c =
@@ -22,11 +19,9 @@ Inv-loop head n found₀ c₀ found c =
 abbrev μ-loop : tie.MeasureT-loop
 μ-loop head n found₀ c₀ found c = n - c
 
--- src/obtaining.rt:26:5
 loop-holds : tie.Need-loop-holds Inv-loop μ-loop
 loop-holds c = (omega arith, gather-none (λ k d. any (eqb d) (labels (c .before .before .args .head .now) k)))
 
--- src/obtaining.rt:26:5
 loop-again : tie.Need-loop-again Inv-loop μ-loop
 loop-again c = (
   omega arith,
@@ -35,7 +30,6 @@ loop-again c = (
       (c .before .before .loop .inv .1) (c .label-set .ensures),
 )
 
--- src/obtaining.rt:21:1
 returns : tie.Need-returns Inv-loop μ-loop
 unfolding labelled
 returns c =

@@ -1,3 +1,4 @@
+-- One word a turn (`Built`): four leaves with sixteen operations each. Assumes nothing.
 use Prim.Native.Nat.{ℕ, _-_, _*_, _%_, _<_}
 use native.Mathlib.Omega.{arith}
 use mathlib.Core.Bool.{Bool, _&&_}
@@ -9,12 +10,6 @@ use Rattle.search.proofs.Obtained.{HadWord, had-holds}
 use borrow.Author.Needs.{needs}
 use Rattle.search.proofs.obtaining.obtainable.Statement.{statement}
 use Rattle.search.proofs.obtaining.obtainable.Tie as tie
-use Rattle.search.proofs.obtaining.obtainable.Reads as reads
-use Rattle.search.proofs.obtaining.obtainable.Lts as lts
-use Rattle.search.proofs.obtaining.four.Reads as four-reads
-use Rattle.search.proofs.obtaining.labels_of.Reads as labels-of-reads
-use Rattle.search.proofs.obtaining.operations_for.Reads as operations-for-reads
-use Rattle.search.proofs.obtaining.operations_of.Reads as operations-of-reads
 
 abbrev Inv-loop : tie.InvT-loop
 Inv-loop head labels operations had₀ w₀ had w = Built 32 (HadWord head) had w
@@ -22,11 +17,9 @@ Inv-loop head labels operations had₀ w₀ had w = Built 32 (HadWord head) had 
 abbrev μ-loop : tie.MeasureT-loop
 μ-loop head labels operations had₀ w₀ had w = 32 - w
 
--- src/obtaining.rt:71:5
 loop-holds : tie.Need-loop-holds Inv-loop μ-loop
 loop-holds c = build-none (search needs)
 
--- src/obtaining.rt:71:5
 loop-again : tie.Need-loop-again Inv-loop μ-loop
 loop-again c =
     let head = now (c .before .before .before .before .before .before .before .before .before .before .args .head) in
@@ -47,7 +40,6 @@ loop-again c =
     (c .before .operations-for4 .ensures labels operations (omega arith)) i l
     (c .four .ensures i l))
 
--- src/obtaining.rt:65:1
 returns : tie.Need-returns Inv-loop μ-loop
 returns c =
     had-holds (now (c .before .before .before .before .before .args .head)) (c .before .loop .had) (c .before .loop .w)

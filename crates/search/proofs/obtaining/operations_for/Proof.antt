@@ -1,33 +1,27 @@
+-- A label that some column has, and one that none has. Assumes nothing.
 use mathlib.Core.Path.{sym, _∙_}
 use mathlib.Core.Bool.{true, false}
 use denote.Ref.{now}
 use Rattle.book.proofs.Members.{has-zero}
-use Rattle.search.proofs.Obtained.{had-operations, had-labelled}
+use Rattle.search.specs.Obtainable.{labelled}
+use Rattle.search.proofs.PlaceLaws.{word-member}
+use Rattle.search.proofs.Obtained.{had-operations}
 use borrow.Author.Needs.{needs}
 use Rattle.search.proofs.obtaining.operations_for.Statement.{statement}
 use Rattle.search.proofs.obtaining.operations_for.Tie as tie
-use Rattle.search.proofs.obtaining.operations_for.Reads as reads
-use Rattle.search.proofs.obtaining.operations_for.Lts as lts
-use Rattle.book.proofs.categories.support.Reads as support-reads
-use Rattle.book.proofs.sets.contains.Reads as contains-reads
 
--- src/obtaining.rt:49:9
 returns : tie.Need-returns
 returns c labels operations l k small =
     rw
-    (had-labelled (now (c .before .before .before .before .args .head)) (c .before .before .before .before .args .d)
-    (c .before .before .before .before .args .labels) true
-    (sym (c .before .if1 .taken) ∙ c .before .before .contains .ensures) labels l)
+    (word-member (labelled (now (c .before .before .before .before .args .head))) (c .before .before .before .before .args .labels) (c .before .before .before .before .args .d) true labels (sym (c .before .if1 .taken) ∙ c .before .before .contains .ensures) l)
     (had-operations (now (c .before .before .before .before .args .head)) (c .before .before .before .before .args .d)
     (c .support .result) (c .before .before .before .before .args .operations) (c .support .ensures .0) operations k
     small)
 
--- src/obtaining.rt:44:1
 returns-2 : tie.Need-returns-2
 returns-2 c labels operations l k small =
     rw (
-      had-labelled (now (c .before .before .before .args .head)) (c .before .before .before .args .d)
-          (c .before .before .before .args .labels) false (sym (c .if1 .left) ∙ c .before .contains .ensures) labels l,
+      word-member (labelled (now (c .before .before .before .args .head))) (c .before .before .before .args .labels) (c .before .before .before .args .d) false labels (sym (c .if1 .left) ∙ c .before .contains .ensures) l,
       has-zero k,
     )
 

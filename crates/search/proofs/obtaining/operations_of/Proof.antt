@@ -1,3 +1,4 @@
+-- One function a turn. Assumes nothing.
 use Prim.Native.Nat.{_-_, _≤_}
 use native.Mathlib.Omega.{arith}
 use lib.Dec.{eqb}
@@ -9,11 +10,6 @@ use Rattle.search.proofs.Building.{gather-none, gather-more, gather-end
 use borrow.Author.Needs.{needs}
 use Rattle.search.proofs.obtaining.operations_of.Statement.{statement}
 use Rattle.search.proofs.obtaining.operations_of.Tie as tie
-use Rattle.search.proofs.obtaining.operations_of.Reads as reads
-use Rattle.search.proofs.obtaining.operations_of.Lts as lts
-use Rattle.book.proofs.fields.function_count.Reads as function-count-reads
-use Rattle.book.proofs.fields.operation.Reads as operation-reads
-use Rattle.book.proofs.sets.single.Reads as single-reads
 
 abbrev Inv-loop : tie.InvT-loop
 Inv-loop head n found₀ f₀ found f = (f ≤ n) × WordOf (λ k. any (λ j. eqb (operation head j) k) (upTo f)) found
@@ -21,11 +17,9 @@ Inv-loop head n found₀ f₀ found f = (f ≤ n) × WordOf (λ k. any (λ j. eq
 abbrev μ-loop : tie.MeasureT-loop
 μ-loop head n found₀ f₀ found f = n - f
 
--- src/obtaining.rt:38:5
 loop-holds : tie.Need-loop-holds Inv-loop μ-loop
 loop-holds c = (omega arith, gather-none (λ j k. eqb (operation (c .before .before .args .head .now) j) k))
 
--- src/obtaining.rt:38:5
 loop-again : tie.Need-loop-again Inv-loop μ-loop
 loop-again c = (
   omega arith,
@@ -43,7 +37,6 @@ loop-again c = (
       (c .single .ensures k)),
 )
 
--- src/obtaining.rt:33:1
 returns : tie.Need-returns Inv-loop μ-loop
 returns c =
     gather-end (λ j k. eqb (operation (c .before .before .before .before .args .head .now) j) k)

@@ -1,3 +1,4 @@
+-- No rule there, or its users. Assumes nothing.
 use native.Mathlib.Omega.{arith}
 use mathlib.Core.Path.{_∙_}
 use borrow.Author.Tests.{lt-ltb, le-ltb}
@@ -5,17 +6,10 @@ use Rattle.book.proofs.Members.{has-zero}
 use borrow.Author.Needs.{needs}
 use Rattle.search.proofs.tables.covered_at.Statement.{statement}
 use Rattle.search.proofs.tables.covered_at.Tie as tie
-use Rattle.search.proofs.tables.covered_at.Reads as reads
-use Rattle.search.proofs.tables.covered_at.Lts as lts
-use Rattle.book.proofs.fields.head_of.Reads as head-of-reads
-use Rattle.book.proofs.fields.rule_at.Reads as rule-at-reads
-use Rattle.book.proofs.rules.covered_users.Reads as covered-users-reads
 
--- src/tables.rt:133:9
 returns : tie.Need-returns
 returns c u l = rw (has-zero u, le-ltb (c .before .before .args .r) (c .before .before .args .n) (c .if1 .taken))
 
--- src/tables.rt:129:1
 returns-2 : tie.Need-returns-2
 returns-2 c u l =
     let b = c .before .before .before .before .before .args in

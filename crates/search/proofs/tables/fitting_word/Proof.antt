@@ -1,3 +1,4 @@
+-- Four leaves, where the action fits (`four-tests`). Assumes nothing.
 use Prim.Native.Nat.{_+_, _*_, _%_}
 use Rattle.book.specs.Sets.{has}
 use Rattle.book.proofs.Members.{has-zero}
@@ -6,13 +7,7 @@ use Rattle.search.proofs.RuleWords.{leaf-mask}
 use borrow.Author.Needs.{needs}
 use Rattle.search.proofs.tables.fitting_word.Statement.{statement}
 use Rattle.search.proofs.tables.fitting_word.Tie as tie
-use Rattle.search.proofs.tables.fitting_word.Reads as reads
-use Rattle.search.proofs.tables.fitting_word.Lts as lts
-use Rattle.search.proofs.obtaining.four.Reads as four-reads
-use Rattle.search.proofs.tables.if_leaf.Reads as if-leaf-reads
-use Rattle.verdicts.proofs.breaking.action_fits.Reads as action-fits-reads
 
--- src/tables.rt:39:9
 returns : tie.Need-returns
 returns c i l small =
     let leaves = c .before .before .before .before .before .before .before .args .leaves in
@@ -27,7 +22,6 @@ returns c i l small =
     (λ k. leaf-mask (has leaves (d + 3)) (c .before .if-leaf4 .result) k (c .before .if-leaf4 .ensures)) i l
     (c .four .ensures i l))
 
--- src/tables.rt:34:1
 returns-2 : tie.Need-returns-2
 returns-2 c i l small = rw (← (c .before .action-fits .ensures), c .if1 .left, has-zero i)
 

@@ -1,3 +1,4 @@
+-- One leaf set a turn (`Built`). Assumes nothing.
 use Prim.Native.Nat.{_-_, _*_, _≤_}
 use native.Mathlib.Omega.{arith}
 use Rattle.search.proofs.Building.{Built, build-none, build-more}
@@ -5,11 +6,6 @@ use Rattle.search.proofs.RuleWords.{LeafWord}
 use borrow.Author.Needs.{needs}
 use Rattle.search.proofs.tables.leaf_sets.Statement.{statement}
 use Rattle.search.proofs.tables.leaf_sets.Tie as tie
-use Rattle.search.proofs.tables.leaf_sets.Reads as reads
-use Rattle.search.proofs.tables.leaf_sets.Lts as lts
-use Rattle.book.proofs.fields.head_of.Reads as head-of-reads
-use Rattle.book.proofs.fields.rule_at.Reads as rule-at-reads
-use Rattle.book.proofs.rules.leaf_set.Reads as leaf-set-reads
 
 abbrev Inv-loop : tie.InvT-loop
 Inv-loop book n head sets₀ count m₀ sets m = (m ≤ 3 * n) × Built 96 (LeafWord book) sets m
@@ -17,15 +13,12 @@ Inv-loop book n head sets₀ count m₀ sets m = (m ≤ 3 * n) × Built 96 (Leaf
 abbrev μ-loop : tie.MeasureT-loop
 μ-loop book n head sets₀ count m₀ sets m = 3 * n - m
 
--- src/tables.rt:88:9
 returns : tie.Need-returns Inv-loop μ-loop
 returns c few = absurd (omega arith)
 
--- src/tables.rt:91:5
 loop-holds : tie.Need-loop-holds Inv-loop μ-loop
 loop-holds c = (omega arith, build-none (search needs))
 
--- src/tables.rt:91:5
 loop-again : tie.Need-loop-again Inv-loop μ-loop
 loop-again c = (
   omega arith,
@@ -34,7 +27,6 @@ loop-again c = (
       (c .leaf-set .ensures)),
 )
 
--- src/tables.rt:82:1
 returns-2 : tie.Need-returns-2 Inv-loop μ-loop
 returns-2 c few m l = c .before .loop .inv .1 .at m (omega arith)
 

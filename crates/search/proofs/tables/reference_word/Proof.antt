@@ -1,3 +1,4 @@
+-- An absent reference, one that is there, and the place of none. Assumes nothing.
 use Prim.Native.Nat.{_%_}
 use native.Mathlib.Omega.{arith}
 use denote.Ref.{now}
@@ -5,19 +6,12 @@ use Rattle.search.proofs.RuleWords.{meets-absent, meets-word, meets-pas
 use borrow.Author.Needs.{needs}
 use Rattle.search.proofs.tables.reference_word.Statement.{statement}
 use Rattle.search.proofs.tables.reference_word.Tie as tie
-use Rattle.search.proofs.tables.reference_word.Reads as reads
-use Rattle.search.proofs.tables.reference_word.Lts as lts
-use Rattle.book.proofs.fields.action.Reads as action-reads
-use Rattle.book.proofs.fields.reference_count.Reads as reference-count-reads
-use Rattle.search.proofs.tables.fitting_word.Reads as fitting-word-reads
 
--- src/tables.rt:49:9
 returns : tie.Need-returns
 returns c p l e =
     meets-absent (now (c .before .before .before .args .rule)) (c .before .before .before .args .leaves)
     (c .before .before .before .args .i) p (omega arith)
 
--- src/tables.rt:52:9
 returns-2 : tie.Need-returns-2
 returns-2 c p l e =
     meets-word (now (c .before .before .before .before .before .before .args .rule)) (c .before .before .before .before .before .before .args .leaves)
@@ -26,7 +20,6 @@ returns-2 c p l e =
     (c .before .action .ensures .0) e (c .before .before .if2 .taken)
     (c .fitting-word .ensures (p % 64) (omega arith) (c .before .before .if2 .taken))
 
--- src/tables.rt:45:1
 returns-3 : tie.Need-returns-3
 returns-3 c p l e =
     meets-past (now (c .before .before .before .before .args .rule)) (c .before .before .before .before .args .leaves)

@@ -1,3 +1,4 @@
+-- An absent restriction takes nothing; the mask of one that is there stands four times. Assumes nothing.
 use Prim.Native.Nat.{_%_}
 use native.Mathlib.Omega.{arith}
 use denote.Ref.{now}
@@ -6,20 +7,12 @@ use Rattle.search.proofs.RuleWords.{takes-absent, takes-word}
 use borrow.Author.Needs.{needs}
 use Rattle.search.proofs.tables.restriction_word.Statement.{statement}
 use Rattle.search.proofs.tables.restriction_word.Tie as tie
-use Rattle.search.proofs.tables.restriction_word.Reads as reads
-use Rattle.search.proofs.tables.restriction_word.Lts as lts
-use Rattle.book.proofs.fields.restriction_count.Reads as restriction-count-reads
-use Rattle.book.proofs.fields.restriction_mask.Reads as restriction-mask-reads
-use Rattle.search.proofs.obtaining.four.Reads as four-reads
-use Rattle.verdicts.proofs.breaking.all_if_zero.Reads as all-if-zero-reads
 
--- src/tables.rt:62:9
 returns : tie.Need-returns
 returns c p =
     takes-absent (now (c .before .before .before .args .rule)) (c .before .before .before .args .i)
     (c .before .before .before .args .j) p (omega arith)
 
--- src/tables.rt:58:1
 returns-2 : tie.Need-returns-2
 returns-2 c p =
     takes-word (now (c .before .before .before .before .before .before .args .rule)) (c .before .before .before .before .before .before .args .i) (c .before .before .before .before .before .before .args .j) p (c .four .result) (c .before .all-if-zero .result)

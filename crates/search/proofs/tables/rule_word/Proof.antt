@@ -1,13 +1,9 @@
+-- Words of places, words of restrictions, and the unused ones. Assumes nothing.
 use native.Mathlib.Omega.{arith}
 use borrow.Author.Needs.{needs}
 use Rattle.search.proofs.tables.rule_word.Statement.{statement}
 use Rattle.search.proofs.tables.rule_word.Tie as tie
-use Rattle.search.proofs.tables.rule_word.Reads as reads
-use Rattle.search.proofs.tables.rule_word.Lts as lts
-use Rattle.search.proofs.tables.reference_word.Reads as reference-word-reads
-use Rattle.search.proofs.tables.restriction_word.Reads as restriction-word-reads
 
--- src/tables.rt:73:9
 returns : tie.Need-returns
 returns c =
     record {
@@ -15,7 +11,6 @@ returns c =
       taking = λ p high l. absurd (omega arith);
     }
 
--- src/tables.rt:76:9
 returns-2 : tie.Need-returns-2
 returns-2 c =
     record {
@@ -23,7 +18,6 @@ returns-2 c =
       taking = λ p high l. c .restriction-word .ensures p;
     }
 
--- src/tables.rt:69:1
 returns-3 : tie.Need-returns-3
 returns-3 c =
     record {

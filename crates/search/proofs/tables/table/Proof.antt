@@ -1,3 +1,4 @@
+-- One word a turn (`Built`); the law `table-holds` reads the words as the book. Assumes nothing.
 use Prim.Native.Nat.{_+_, _-_, _*_, _/_, _%_, _≤_}
 use native.Mathlib.Omega.{arith}
 use lib.ListN.{getD}
@@ -8,12 +9,6 @@ use Rattle.search.proofs.RuleWords.{TableWord, word-leaves, table-holds
 use borrow.Author.Needs.{needs}
 use Rattle.search.proofs.tables.table.Statement.{statement}
 use Rattle.search.proofs.tables.table.Tie as tie
-use Rattle.search.proofs.tables.table.Reads as reads
-use Rattle.search.proofs.tables.table.Lts as lts
-use Rattle.book.proofs.fields.rule_at.Reads as rule-at-reads
-use Rattle.search.proofs.tables.leaf_sets.Reads as leaf-sets-reads
-use Rattle.search.proofs.tables.leaves_for.Reads as leaves-for-reads
-use Rattle.search.proofs.tables.rule_word.Reads as rule-word-reads
 
 abbrev Inv-loop : tie.InvT-loop
 Inv-loop book n sets t₀ count m₀ t m = (m ≤ 128 * n) × Built 4096 (TableWord book sets) t m
@@ -21,15 +16,12 @@ Inv-loop book n sets t₀ count m₀ t m = (m ≤ 128 * n) × Built 4096 (TableW
 abbrev μ-loop : tie.MeasureT-loop
 μ-loop book n sets t₀ count m₀ t m = 128 * n - m
 
--- src/tables.rt:114:9
 returns : tie.Need-returns Inv-loop μ-loop
 returns c few = absurd (omega arith)
 
--- src/tables.rt:117:5
 loop-holds : tie.Need-loop-holds Inv-loop μ-loop
 loop-holds c = (omega arith, build-none (search needs))
 
--- src/tables.rt:117:5
 loop-again : tie.Need-loop-again Inv-loop μ-loop
 loop-again c =
     let m = c .before .before .before .before .loop .m in
@@ -43,7 +35,6 @@ loop-again c =
           (c .before .before .leaves-for .ensures (omega arith))),
     )
 
--- src/tables.rt:108:1
 returns-2 : tie.Need-returns-2 Inv-loop μ-loop
 returns-2 c few =
     table-holds (now (c .before .before .before .before .before .args .book))
