@@ -1,4 +1,5 @@
 pub mod PlaceLaws
+pub mod Fours
 pub mod ClosingLaws
 pub mod Sieves
 pub mod Solutions
@@ -13,7 +14,6 @@ pub mod Rising
 pub mod Orders
 pub mod AloneLaws
 pub mod DemandLaws
-pub mod Fours
 pub mod Building
 pub mod Obtained
 pub mod RuleWords

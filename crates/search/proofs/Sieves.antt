@@ -1,25 +1,25 @@
 -- Laws of the sieve: rules take from a set of places what breaks them, in any order, and it may end early.
 -- Assumes nothing.
-use Prim.Native.Nat.{ℕ, _+_, _-_, _/_, _%_, _^_, _≤_, _<_}
+use Prim.Native.Nat.{ℕ, _-_, _/_, _%_, _^_, _<_}
 use native.Mathlib.Nat.{lt-of-le-of-lt}
 use native.Mathlib.Omega.{arith}
 use mathlib.Core.Path.{_≡_, refl, sym, ap, _∙_}
-use mathlib.Core.Bool.{Bool, true, false, _&&_, _||_, not, cond, false≢true}
+use mathlib.Core.Bool.{Bool, true, false, _&&_, _||_, not, false≢true}
 use mathlib.Core.List.{List}
 use lib.ListN.{getD}
 use lib.Dec.{eqb, ltb}
 use lib.Bits.{bitAnd, bitOr, and-le-l}
-use borrow.Author.Tests.{not-true, eqb-true, eqb-false, eq-eqb, ne-eqb, lt-ltb}
+use borrow.Author.Tests.{not-true, eqb-true, eqb-false, eq-eqb, ne-eqb, lt-ltb, ltb-true, ltb-false}
 use Rattle.book.specs.Lists.{any, upTo}
 use Rattle.book.specs.Sets.{has, WordOf}
 use Rattle.book.proofs.Lists.{and-true, and-left, and-right, and-end, and-false, or-neither, or-rest, or-true}
-use Rattle.book.proofs.Members.{has-zero, has-or, has-minus}
-use Rattle.verdicts.proofs.Marks.{has-if}
+use Rattle.book.proofs.Members.{has-zero, has-or, has-minus, has-above}
 use Rattle.verdicts.proofs.Quantifiers.{any-wider, at-any}
 use Rattle.search.specs.Places.{inPlaces}
 use Rattle.search.specs.Table.{meets}
-use Rattle.search.specs.Closing.{closes, closesBy, Turned, Sifted}
+use Rattle.search.specs.Closing.{closes, closesBy, Turned, Sifted, Skipping}
 use Rattle.search.specs.declared.sifting.Remaining.{Remaining}
+use Rattle.search.proofs.Fours.{has-cut}
 
 -- Tests
 
@@ -272,72 +272,6 @@ module _ (t : List ℕ) (rules b c : ℕ) where
       allows j h n true e = old .only j e n
       allows j h n false e = new .only j h e
 
--- The rules that wait for their turn
-
--- of the first n rules of a set those in `found`; the others break at no place
-pub record Touching (t : List ℕ) (rules b c found n : ℕ) : Type 0 where
-  pub bound : n ≤ 32
-  pub members : (q : ℕ) → has found q ≡ true → (q < n) × (has rules q ≡ true)
-  pub idle : (q p : ℕ) → q < n → has found q ≡ false → has rules q ≡ true → closes t q b c p ≡ false
-
-module _ (t : List ℕ) (rules b c : ℕ) where
-  pub touching-none : Touching t rules b c 0 0
-  touching-none =
-      record {
-        bound = omega arith;
-        members = λ q h. both h (has-zero q);
-        idle = λ q p l n h. absurd (omega arith);
-      }
-
-  pub touching-more :
-      (found n one r : ℕ) (x : Bool)
-      → n < 32
-      → WordOf (λ j. eqb j n) one
-      → r ≡ cond x one 0
-      → (x ≡ true → has rules n ≡ true)
-      → (x ≡ false → has rules n ≡ true → (p : ℕ) → closes t n b c p ≡ false)
-      → Touching t rules b c found n
-      → Touching t rules b c (bitOr found r) (n + 1)
-  touching-more found n one r x l single e yes-new no-new old =
-      record {
-        bound = omega arith;
-        members = λ q h. member q (sym (word q) ∙ h) (has found q) refl;
-        idle = λ q p m h i. none q p m (or-neither (has found q) (x && (ltb q 64 && eqb q n)) (sym (word q) ∙ h)) i
-            (eqb q n) refl;
-      }
-    where
-      word : (q : ℕ) → has (bitOr found r) q ≡ (has found q || (x && (ltb q 64 && eqb q n)))
-      word q = rw (has-or, has-if x one r q e, single q)
-
-      member :
-          (q : ℕ)
-          → (has found q || (x && (ltb q 64 && eqb q n))) ≡ true
-          → (y : Bool)
-          → has found q ≡ y
-          → (q < n + 1) × (has rules q ≡ true)
-      member q h true f = (omega (arith, old .members q f .0), old .members q f .1)
-      member q h false f =
-          let new = or-rest (has found q) (x && (ltb q 64 && eqb q n)) h f in
-          let same : q ≡ n =
-          eqb-true q n (and-right (ltb q 64) (eqb q n) (and-right x (ltb q 64 && eqb q n) new)) in
-          (omega arith, rw same (yes-new (and-left x (ltb q 64 && eqb q n) new)))
-
-      none :
-          (q p : ℕ)
-          → q < n + 1
-          → (has found q ≡ false) × ((x && (ltb q 64 && eqb q n)) ≡ false)
-          → has rules q ≡ true
-          → (y : Bool)
-          → eqb q n ≡ y
-          → closes t q b c p ≡ false
-      none q p m h i true f =
-          let same : q ≡ n = eqb-true q n f in
-          let off : x ≡ false = sym (and-end x) ∙ (rw (f, lt-ltb q 64 (omega arith)) at (h .1)) in
-          rw same (no-new off (rw same at i) p)
-      none q p m h i false f =
-          let other = eqb-false q n f in
-          old .idle q p (omega arith) (h .0) i
-
 -- a set less one member
 
 -- the code's `waiting & !single(q)`
@@ -365,6 +299,55 @@ less-smaller word one q lw lo small single h =
     λ e. both h (ap (λ (w : ℕ). has w q) (sym e) ∙ gone) in
     omega arith
 
+-- The rules that wait for their turn
+
+module _ (t : List ℕ) (rules b c : ℕ) where
+  pub skip-none : Skipping t rules b c rules
+  skip-none =
+      record {
+        fewer = omega arith;
+        members = λ q h. h;
+        idle = λ q p h n. both h n;
+      }
+
+  -- rule q breaks at no place
+  pub skip-more :
+      (left one q : ℕ)
+      → left < 2 ^ 64
+      → one < 2 ^ 64
+      → WordOf (λ i. eqb i q) one
+      → ((p : ℕ) → closes t q b c p ≡ false)
+      → Skipping t rules b c left
+      → Skipping t rules b c (bitAnd left ((2 ^ 64 - 1) - one))
+  skip-more left one q ll lo single none old =
+      let low = and-le-l left ((2 ^ 64 - 1) - one) in
+      record {
+        fewer = omega (arith, old .fewer);
+        members = λ j h.
+            old .members j
+            (and-left (has left j) (not (ltb j 64 && eqb j q)) (sym (less-single left one q j ll lo single) ∙ h));
+        idle = λ j p h n. go j p h (has left j) refl (sym (less-single left one q j ll lo single) ∙ n);
+      }
+    where
+      go :
+          (j p : ℕ)
+          → has rules j ≡ true
+          → (x : Bool)
+          → has left j ≡ x
+          → (has left j && not (ltb j 64 && eqb j q)) ≡ false
+          → closes t j b c p ≡ false
+      go j p h false e n = old .idle j p h e
+      go j p h true e n = same (ltb j 64 && eqb j q) refl (rw e at n)
+        where
+          same : (y : Bool) → (ltb j 64 && eqb j q) ≡ y → not y ≡ false → closes t j b c p ≡ false
+          same true f m =
+              let e : j ≡ q = eqb-true j q (and-right (ltb j 64) (eqb j q) f) in
+              rw e (none p)
+          same false f m = absurd (false≢true (sym m))
+
+  pub skip-end : (left : ℕ) → left ≡ 0 → Skipping t rules b c left → Skipping t rules b c 0
+  skip-end left e old = rw e at old
+
 -- The loop
 
 -- the rules of a set that do not wait are done
@@ -373,25 +356,38 @@ pub record Sieving (t : List ℕ) (rules b c : ℕ) (before rest : Remaining) (w
   pub members : (q : ℕ) → has waiting q ≡ true → (q < 32) × (has rules q ≡ true)
   pub sifted : Sifted t rules (λ q. has rules q && not (has waiting q)) b c before rest
 
+-- the rules of a word, below 32
+pub low-rules :
+    (rules q : ℕ) → has (rules % 4294967296) q ≡ true → (q < 32) × (has rules q ≡ true)
+low-rules rules q h = go (ltb q 32) refl
+  where
+    go : (x : Bool) → ltb q 32 ≡ x → (q < 32) × (has rules q ≡ true)
+    go true e =
+        let l = ltb-true q 32 e in
+        (l, sym (has-cut 32 rules q l) ∙ h)
+    go false e = both h (has-above 32 (rules % 4294967296) q (omega arith) (ltb-false q 32 e))
+
 module _ (t : List ℕ) (rules b c : ℕ) where
+  -- what waits first
   pub sieving-start :
       (rest : Remaining) (waiting : ℕ)
-      → waiting < 2 ^ 64
-      → ((q : ℕ) → has waiting q ≡ true → (q < 32) × (has rules q ≡ true))
-      → ((q p : ℕ) → q < 32 → has waiting q ≡ false → has rules q ≡ true → closes t q b c p ≡ false)
+      → rules < 2 ^ 64
+      → Skipping t (rules % 4294967296) b c waiting
       → Sieving t rules b c rest rest waiting
-  sieving-start rest waiting fits inside idle =
+  sieving-start rest waiting fits skip =
       record {
-        fits = fits;
-        members = inside;
+        fits = omega (arith, skip .fewer);
+        members = λ q h. low-rules rules q (skip .members q h);
         sifted =
             sifted-idle t rules b c (λ q. false) (λ q. has rules q && not (has waiting q)) rest rest
             (λ q p l d n.
-            idle q p l (not-true (has waiting q) (and-right (has rules q) (not (has waiting q)) d))
-            (and-left (has rules q) (not (has waiting q)) d))
+            skip .idle q p
+            (has-cut 32 rules q l ∙ and-left (has rules q) (not (has waiting q)) d)
+            (not-true (has waiting q) (and-right (has rules q) (not (has waiting q)) d)))
             (sifted-start t rules b c rest);
       }
 
+  -- rule q has had its turn
   pub sieving-more :
       (before rest after : Remaining) (waiting one q : ℕ)
       → one < 2 ^ 64
@@ -415,6 +411,30 @@ module _ (t : List ℕ) (rules b c : ℕ) where
             (λ j d n. rw (less-single waiting one q j lw lo single, ne-eqb j q n, and-false, and-end) at d)
             (old .sifted) (turn (old .members q h .0));
       }
+
+  -- those that break at no place wait no longer
+  pub sieving-skip :
+      (before rest : Remaining) (waiting left : ℕ)
+      → Skipping t waiting b c left
+      → Sieving t rules b c before rest waiting
+      → Sieving t rules b c before rest left
+  sieving-skip before rest waiting left skip old =
+      record {
+        fits = omega (arith, skip .fewer, old .fits);
+        members = λ q h. old .members q (skip .members q h);
+        sifted =
+            sifted-idle t rules b c (λ q. has rules q && not (has waiting q)) (λ q. has rules q && not (has left q)) before
+            rest
+            (λ q p l d n.
+            let now = and-left (has rules q) (not (has left q)) d in
+            skip .idle q p (waits (has waiting q) (rw now at n))
+            (not-true (has left q) (and-right (has rules q) (not (has left q)) d)))
+            (old .sifted);
+      }
+    where
+      waits : (x : Bool) → not x ≡ false → x ≡ true
+      waits true e = refl
+      waits false e = absurd (false≢true (sym e))
 
   pub sieving-end :
       (before rest : Remaining) (waiting : ℕ)

@@ -1,5 +1,5 @@
 -- Which places break a rule beside two others, in the tables' terms. Assumes nothing.
-use Prim.Native.Nat.{ℕ, _<_}
+use Prim.Native.Nat.{ℕ, _≤_, _<_}
 use mathlib.Core.Path.{_≡_}
 use mathlib.Core.Bool.{Bool, true, false, _&&_, _||_, not}
 use mathlib.Core.List.{List}
@@ -60,3 +60,9 @@ pub record Sifted (t : List ℕ) (rules : ℕ) (done : ℕ → Bool) (b c : ℕ)
       → any (λ q. has (after .rules) q && closes t q b c p) (upTo 32) ≡ true
   pub more : (j : ℕ) → has (before .rules) j ≡ true → has (after .rules) j ≡ true
   pub only : (j : ℕ) → has (after .rules) j ≡ true → has (before .rules) j ≡ false → has rules j ≡ true
+
+-- of a set of rules those that are left when some that break at no place are dropped
+pub record Skipping (t : List ℕ) (rules b c left : ℕ) : Type 0 where
+  pub fewer : left ≤ rules
+  pub members : (q : ℕ) → has left q ≡ true → has rules q ≡ true
+  pub idle : (q p : ℕ) → has rules q ≡ true → has left q ≡ false → closes t q b c p ≡ false

@@ -6,13 +6,12 @@ use crate::places::lowest;
 use crate::places::same;
 use book::sets::contains;
 use book::sets::single;
-use verdicts::breaking::word_if;
 ghost use mathlib.Core.Path.{_≡_};
 ghost use mathlib.Core.Bool.{true, false};
 ghost use Prim.Native.Nat.{ℕ, _<_};
 ghost use lib.ListN.{getD};
 ghost use Rattle.book.specs.Sets.{has};
-ghost use Rattle.search.specs.Closing.{closes, Turned, Sifted};
+ghost use Rattle.search.specs.Closing.{closes, Turned, Sifted, Skipping};
 
 // What remains of a set of places; the rules that took some away, and which of them did so last.
 pub struct Remaining {
@@ -43,28 +42,29 @@ fn turn(t: &[u64], q: u8, b: usize, c: usize, before: Remaining) -> Remaining
     }
 }
 
-// Whether a rule of a set has anything to take beside b and c.
-fn touches(t: &[u64], rules: u64, q: u8, b: usize, c: usize) -> bool
-    ensures { λ r. ⌜ (r ≡ true → has rules q ≡ true) × (r ≡ false → has rules q ≡ true → (p : ℕ) → closes (now (t .entry)) q b c p ≡ false) ⌝ }
+// Whether a rule has anything to take beside b and c.
+fn touches(t: &[u64], q: u8, b: usize, c: usize) -> bool
+    ensures { λ r. ⌜ (r ≡ false → (p : ℕ) → closes (now (t .entry)) q b c p ≡ false) ⌝ }
 {
-    if contains(rules, q as usize) {
-        let first = closing_mask(t, q, 0, 1, 2, b, c);
-        let second = closing_mask(t, q, 1, 0, 2, b, c);
-        let third = closing_mask(t, q, 2, 0, 1, b, c);
-        return (first | second | third) != 0;
-    }
-    false
+    let first = closing_mask(t, q, 0, 1, 2, b, c);
+    let second = closing_mask(t, q, 1, 0, 2, b, c);
+    let third = closing_mask(t, q, 2, 0, 1, b, c);
+    (first | second | third) != 0
 }
 
-// The rules of a set that have.
-fn touching(t: &[u64], rules: u64, b: usize, c: usize) -> u64
-    ensures { λ r. ⌜ ((q : ℕ) → has r q ≡ true → (q < 32) × (has rules q ≡ true)) × ((q p : ℕ) → q < 32 → has r q ≡ false → has rules q ≡ true → closes (now (t .entry)) q b c p ≡ false) ⌝ }
+// A set of rules, less those before the first that has anything to take.
+fn from_touching(t: &[u64], rules: u64, b: usize, c: usize) -> u64
+    ensures { λ r. ⌜ Skipping (now (t .entry)) rules b c r ⌝ }
 {
-    let mut found = 0u64;
-    for q in 0..32u8 {
-        found = found | word_if(touches(t, rules, q, b, c), single(q as usize));
+    let mut waiting = rules;
+    while waiting != 0 {
+        let q = lowest(waiting);
+        if touches(t, q as u8, b, c) {
+            return waiting;
+        }
+        waiting = waiting & !single(q);
     }
-    found
+    0
 }
 
 // The rule that took last has its turn first: it often takes all that is left.
@@ -98,15 +98,15 @@ pub fn sift(t: &[u64], rules: u64, b: usize, c: usize, before: Remaining) -> Rem
     if is_empty(places) {
         return rest;
     }
-    let mut waiting = touching(t, rules, b, c);
+    let mut waiting = from_touching(t, rules % 4294967296, b, c);
     while waiting != 0 {
         let q = lowest(waiting) as u8;
         let next = turn(t, q, b, c, rest);
         rest = next;
-        waiting = waiting & !single(q as usize);
         if emptied(rest, q) {
             return rest;
         }
+        waiting = from_touching(t, waiting & !single(q as usize), b, c);
     }
     rest
 }

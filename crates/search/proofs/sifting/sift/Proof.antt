@@ -1,8 +1,9 @@
 -- Each turn takes one rule off those that wait (`Sieving`), which makes that word smaller. Assumes nothing.
-use mathlib.Core.Bool.{false}
+use native.Mathlib.Omega.{arith}
+use mathlib.Core.Bool.{false, not, _&&_, false≢true}
 use Rattle.book.specs.Sets.{has}
-use Rattle.search.proofs.Sieves.{sifted-empty, sifted-join, less-smaller}
-use Rattle.search.proofs.Sieves.{Sieving, sieving-start, sieving-more, sieving-end}
+use Rattle.search.proofs.Sieves.{sifted-turn, sifted-empty, sifted-join, less-smaller}
+use Rattle.search.proofs.Sieves.{Sieving, sieving-start, sieving-more, sieving-skip, sieving-end}
 use borrow.Author.Needs.{needs}
 use Rattle.search.proofs.sifting.sift.Statement.{statement}
 use Rattle.search.proofs.sifting.sift.Tie as tie
@@ -24,47 +25,50 @@ loop-holds : tie.Need-loop-holds Inv-loop μ-loop
 loop-holds c =
     let a = c .before .before .before .before .before .before .args in
     sieving-start (a .t .now) (a .rules) (a .b) (a .c) (c .before .before .before .before .again .result)
-    (c .touching .result)
-    (search needs) (c .touching .ensures .0) (c .touching .ensures .1)
+    (c .from-touching .result) (search needs) (c .from-touching .ensures)
 
 returns-2 : tie.Need-returns-2 Inv-loop μ-loop
 returns-2 c =
-    let a = c .before .before .before .before .before .before .before .before .before .before .before .before .before
-    .args in
-    let first = c .before .before .before .before .before .before .before .before .before .before .before .again in
-    let loop = c .before .before .before .before .before .before .loop in
-    let turn = c .before .before .before .turn in
-    let low = c .before .before .before .before .lowest in
-    let found = low .ensures .1 (c .before .before .before .before .before .loop-test .taken) in
-    let one = c .before .before .single in
+    let a = c .before .before .before .before .before .before .before .before .before .before .before .before .args in
+    let first = c .before .before .before .before .before .before .before .before .before .before .again in
+    let loop = c .before .before .before .before .before .loop in
+    let turn = c .before .before .turn in
+    let low = c .before .before .before .lowest in
+    let found = low .ensures .1 (c .before .before .before .before .loop-test .taken) in
+    let rule = loop .inv .members (low .result) (found .1) in
     sifted-join (a .t .now) (a .rules) (a .b) (a .c) (λ q. false) (has (a .rules)) (a .before) (first .result)
     (turn .result) (first .ensures)
-    (sifted-empty (a .t .now) (a .rules) (a .b) (a .c) _ (has (a .rules)) (first .result) (turn .result)
+    (sifted-empty (a .t .now) (a .rules) (a .b) (a .c) (λ q. false) (has (a .rules)) (first .result) (turn .result)
     (c .before .emptied .ensures (c .if2 .taken))
-    (sieving-more (a .t .now) (a .rules) (a .b) (a .c) (first .result) (loop .rest) (turn .result) (loop .waiting)
-    (one .result) (low .result) (search needs) (one .ensures) (found .1) (turn .ensures) (loop .inv) .sifted))
+    (sifted-turn (a .t .now) (a .rules) (a .b) (a .c) (λ q. has (a .rules) q && not (has (loop .waiting) q))
+    (λ q. false) (low .result) (first .result) (loop .rest) (turn .result) (rule .0) (rule .1)
+    (λ j e n. absurd (false≢true e)) (loop .inv .sifted) (turn .ensures (rule .0))))
 
 loop-less : tie.Need-loop-less Inv-loop μ-loop
 loop-less c =
-    let loop = c .before .before .before .before .before .before .loop in
-    let low = c .before .before .before .before .lowest in
-    let found = low .ensures .1 (c .before .before .before .before .before .loop-test .taken) in
-    let one = c .before .before .single in
+    let loop = c .before .before .before .before .before .before .before .loop in
+    let low = c .before .before .before .before .before .lowest in
+    let found = low .ensures .1 (c .before .before .before .before .before .before .loop-test .taken) in
+    let one = c .before .single in
+    let less =
     less-smaller (loop .waiting) (one .result) (low .result) (loop .inv .fits) (search needs) (found .0)
-    (one .ensures) (found .1)
+    (one .ensures) (found .1) in
+    omega (arith, less, c .from-touching2 .ensures .fewer)
 
 loop-again : tie.Need-loop-again Inv-loop μ-loop
 loop-again c =
     let a = c .before .before .before .before .before .before .before .before .before .before .before .before .before
-    .args in
-    let first = c .before .before .before .before .before .before .before .before .before .before .before .again in
-    let loop = c .before .before .before .before .before .before .loop in
-    let turn = c .before .before .before .turn in
-    let low = c .before .before .before .before .lowest in
-    let found = low .ensures .1 (c .before .before .before .before .before .loop-test .taken) in
-    let one = c .before .before .single in
-    sieving-more (a .t .now) (a .rules) (a .b) (a .c) (first .result) (loop .rest) (turn .result) (loop .waiting)
-    (one .result) (low .result) (search needs) (one .ensures) (found .1) (turn .ensures) (loop .inv)
+    .before .args in
+    let first = c .before .before .before .before .before .before .before .before .before .before .before .before .again in
+    let loop = c .before .before .before .before .before .before .before .loop in
+    let turn = c .before .before .before .before .turn in
+    let low = c .before .before .before .before .before .lowest in
+    let found = low .ensures .1 (c .before .before .before .before .before .before .loop-test .taken) in
+    let one = c .before .single in
+    sieving-skip (a .t .now) (a .rules) (a .b) (a .c) (first .result) (turn .result) _ (c .from-touching2 .result)
+    (c .from-touching2 .ensures)
+    (sieving-more (a .t .now) (a .rules) (a .b) (a .c) (first .result) (loop .rest) (turn .result) (loop .waiting)
+    (one .result) (low .result) (search needs) (one .ensures) (found .1) (turn .ensures) (loop .inv))
 
 returns-3 : tie.Need-returns-3 Inv-loop μ-loop
 returns-3 c =
@@ -90,10 +94,11 @@ sift-spec =
     (λ c κs. search needs)
     (λ c. search needs)
     (λ c κs. search needs)
+    (λ c κs. search needs)
+    returns-2
     (λ c. search needs)
     (λ c κs. search needs)
     (λ c κs. search needs)
-    returns-2
     loop-less
     loop-again
     returns-3)

@@ -1,0 +1,93 @@
+-- Each call's number is its answer, packed: a refusal by its two bytes (`Bounds`), any other answer by its value.
+-- Assumes nothing.
+use Prim.Native.Nat.{ℕ, _+_, _*_, _%_, _<_}
+use native.Mathlib.Omega.{arith}
+use mathlib.Core.Path.{_≡_, sym, _∙_}
+use mathlib.Core.List.{List}
+use Rattle.book.specs.Answers.{checkAnswer, sealAnswer}
+use Rattle.book.specs.declared.Refusal.{Refusal}
+use Rattle.book.specs.declared.Checked.{Checked}
+use Rattle.book.specs.declared.Checked.the-variants as checked
+use Rattle.book.specs.declared.Sealed.{Sealed}
+use Rattle.book.specs.declared.Sealed.the-variants as sealed
+use Rattle.lineage.specs.Answers.{flowsAnswer}
+use Rattle.lineage.specs.declared.Flowed.{Flowed}
+use Rattle.lineage.specs.declared.Flowed.the-variants as flowed
+use Rattle.verdicts.specs.Answers.{judgeAnswer}
+use Rattle.verdicts.specs.declared.Judged.{Judged}
+use Rattle.verdicts.specs.declared.Judged.the-variants as judged
+use Rattle.search.specs.Answers.{idleAnswer}
+use Rattle.search.specs.declared.Idleness.{Idleness}
+use Rattle.search.specs.declared.Idleness.the-variants as idleness
+use Rattle.capi.specs.Packing.{packed, refusalPacked, checkPacked, sealPacked, flowsPacked, judgePacked}
+use Rattle.capi.specs.Packing.{idlePacked}
+use Rattle.capi.proofs.Bounds.{Small, check-bounded, seal-small, flows-small, judge-small, idle-small}
+
+-- below 256 a number is its last byte
+pub refusal-packed :
+    (x : Refusal)
+    → x .number < 256
+    → x .place < 256
+    → 1099511627776 * (x .number % 256) + 4294967296 * (x .place % 256) ≡ refusalPacked x
+unfolding refusalPacked packed
+refusal-packed x n p = omega arith
+
+-- r is the packed refusal, if that fits its two bytes
+abbrev pub Packs : ℕ → Refusal → Type 0
+Packs r x = x .number < 256 → x .place < 256 → r ≡ refusalPacked x
+
+small-packs : (r : ℕ) (x : Refusal) → Small x → Packs r x → r ≡ refusalPacked x
+small-packs r x s p = p (s .number-small) (s .place-small)
+
+module _ (book : List ℕ) (a : Checked) (same : a ≡ checkAnswer book) where
+  pub check-refused : (x : Refusal) (r : ℕ) → a ≡ checked.Refused x → Packs r x → r ≡ checkPacked (checkAnswer book)
+  unfolding checkPacked
+  check-refused x r e p = let h = sym same ∙ e in rw h (small-packs r x (check-bounded book x h) p)
+
+  pub check-accepted : (n : ℕ) → a ≡ checked.Accepted n → n ≡ checkPacked (checkAnswer book)
+  unfolding checkPacked packed
+  check-accepted n e = rw (sym same ∙ e) (omega arith)
+
+module _ (block : List ℕ) (a : Sealed) (same : a ≡ sealAnswer block) where
+  pub seal-refused : (x : Refusal) (r : ℕ) → a ≡ sealed.Refused x → Packs r x → r ≡ sealPacked (sealAnswer block)
+  unfolding sealPacked
+  seal-refused x r e p = let h = sym same ∙ e in rw h (small-packs r x (seal-small block x h) p)
+
+  pub seal-done : a ≡ sealed.Done → 0 ≡ sealPacked (sealAnswer block)
+  unfolding sealPacked packed
+  seal-done e = rw (sym same ∙ e) (omega arith)
+
+module _ (book plan words : List ℕ) (a : Flowed) (same : a ≡ flowsAnswer book plan words) where
+  pub flows-refused :
+      (x : Refusal) (r : ℕ) → a ≡ flowed.Refused x → Packs r x → r ≡ flowsPacked (flowsAnswer book plan words)
+  unfolding flowsPacked
+  flows-refused x r e p = let h = sym same ∙ e in rw h (small-packs r x (flows-small book x plan words h) p)
+
+  pub flows-done : a ≡ flowed.Done → 0 ≡ flowsPacked (flowsAnswer book plan words)
+  unfolding flowsPacked packed
+  flows-done e = rw (sym same ∙ e) (omega arith)
+
+module _ (book : List ℕ) (user : ℕ) (plan : List ℕ) (a : Judged) (same : a ≡ judgeAnswer book user plan) where
+  pub judge-refused :
+      (x : Refusal) (r : ℕ) → a ≡ judged.Refused x → Packs r x → r ≡ judgePacked (judgeAnswer book user plan)
+  unfolding judgePacked
+  judge-refused x r e p = let h = sym same ∙ e in rw h (small-packs r x (judge-small book x user plan h) p)
+
+  pub judge-broken : (mask : ℕ) → a ≡ judged.Broken mask → mask ≡ judgePacked (judgeAnswer book user plan)
+  unfolding judgePacked packed
+  judge-broken mask e = rw (sym same ∙ e) (omega arith)
+
+module _ (book : List ℕ) (rule : ℕ) (buffer : List ℕ) (a : Idleness) (same : a ≡ idleAnswer book rule buffer) where
+  pub idle-refused :
+      (x : Refusal) (r : ℕ) → a ≡ idleness.Refused x → Packs r x → r ≡ idlePacked (idleAnswer book rule buffer)
+  unfolding idlePacked
+  idle-refused x r e p = let h = sym same ∙ e in rw h (small-packs r x (idle-small book x rule buffer h) p)
+
+  pub idle-idle : a ≡ idleness.Idle → 0 ≡ idlePacked (idleAnswer book rule buffer)
+  unfolding idlePacked packed
+  idle-idle e = rw (sym same ∙ e) (omega arith)
+
+  pub idle-needed :
+      (user rows : ℕ) → a ≡ idleness.Needed user rows → 256 * user + rows ≡ idlePacked (idleAnswer book rule buffer)
+  unfolding idlePacked packed
+  idle-needed user rows e = rw (sym same ∙ e) (omega arith)

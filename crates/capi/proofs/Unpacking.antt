@@ -1,0 +1,196 @@
+-- A call's number can be taken apart again: the refusal's number, its place and the value are the answer's own, so two
+-- different answers are never one number. Assumes nothing.
+use Prim.Native.Nat.{ℕ, zero, suc, _+_, _*_, _/_, _%_, _≤_, _<_}
+use native.Mathlib.Nat.{lt-of-lt-of-le}
+use native.Mathlib.Omega.{arith}
+use mathlib.Core.Path.{_≡_, refl}
+use mathlib.Core.Bool.{Bool, true, false, cond, false≢true}
+use mathlib.Core.List.{List, [], _∷_, _++_}
+use lib.ListN.{length, length-append}
+use lib.Dec.{eqb}
+use lib.Pow.{pow-mono}
+use Rattle.book.specs.Blocks.{headOf, ruleAt}
+use Rattle.book.specs.Head.{userCount}
+use Rattle.book.specs.Rule.{referenceCount}
+use Rattle.book.specs.Answers.{checkAnswer, ruleCount, sealAnswer}
+use Rattle.book.specs.declared.Refusal.{Refusal}
+use Rattle.book.specs.declared.Checked.{Checked}
+use Rattle.book.specs.declared.Checked.the-variants as checked
+use Rattle.book.specs.declared.Sealed.the-variants as sealed
+use Rattle.book.proofs.Accepted.{accepted-head, accepted-length, accepted-rule, accepted-rules}
+use Rattle.lineage.specs.Rows.{rowCount}
+use Rattle.lineage.specs.Answers.{flowsAnswer}
+use Rattle.lineage.specs.declared.Flowed.the-variants as flowed
+use Rattle.lineage.proofs.Words.{word-of}
+use Rattle.verdicts.specs.Accesses.{Access, accessesOf}
+use Rattle.verdicts.specs.Breaking.{breaks, brokenMask}
+use Rattle.verdicts.specs.Answers.{judgeCheck, judgedOf, judgeAnswer}
+use Rattle.verdicts.specs.declared.Judged.the-variants as judged
+use Rattle.verdicts.proofs.JudgeLaws.{judge-accepted}
+use Rattle.verdicts.proofs.Sound.{few-rules}
+use Rattle.search.specs.Choices.{Candidate, isChoice, isChoiceFrom}
+use Rattle.search.specs.Shown.{shownPlan, shownFrom, accessRows, columnRow, applyRow, lastRow, rowsOf}
+use Rattle.search.specs.Alone.{First, none, shown, firstAlone}
+use Rattle.search.specs.Answers.{idleCheck, idlenessOf, refusedOr, idleAnswer}
+use Rattle.search.specs.declared.Idleness.the-variants as idleness
+use Rattle.search.proofs.IdleLaws.{idle-holds}
+use Rattle.search.proofs.Orders.{shown-alone, user-below}
+use Rattle.search.proofs.ShownPlans.{shown-few}
+use Rattle.capi.specs.Packing.{packed, refusalPacked, checkPacked, sealPacked, flowsPacked, judgePacked}
+use Rattle.capi.specs.Packing.{idlePacked}
+use Rattle.capi.proofs.Bounds.{Small, check-bounded, seal-small, flows-small, judge-small, idle-small}
+
+-- what is taken out of r: the bits from 40 on, the 8 bits from 32 on, the low 32 bits
+pub record Parts (r number place value : ℕ) : Type 0 where
+  pub number-part : r / 1099511627776 ≡ number
+  pub place-part : r / 4294967296 % 256 ≡ place
+  pub value-part : r % 4294967296 ≡ value
+
+packed-parts :
+    (number place value : ℕ) → place < 256 → value < 4294967296 → Parts (packed number place value) number place value
+unfolding packed
+packed-parts number place value p v =
+    record { number-part = omega arith; place-part = omega arith; value-part = omega arith }
+
+-- Refusals: the number is not 0, so r is no other answer's
+
+-- r is a refusal's
+abbrev pub Refuses : ℕ → Refusal → Type 0
+Refuses r x = Parts r (x .number) (x .place) 0 × (1 ≤ x .number)
+
+refusal-parts : (x : Refusal) → Small x → Refuses (refusalPacked x) x
+unfolding refusalPacked
+refusal-parts x s = (packed-parts (x .number) (x .place) 0 (s .place-small) (omega arith), s .number-some)
+
+module _ (x : Refusal) where
+  pub check-refused-parts :
+      (book : List ℕ) → checkAnswer book ≡ checked.Refused x → Refuses (checkPacked (checkAnswer book)) x
+  unfolding checkPacked
+  check-refused-parts book h = rw h (refusal-parts x (check-bounded book x h))
+
+  pub seal-refused-parts :
+      (block : List ℕ) → sealAnswer block ≡ sealed.Refused x → Refuses (sealPacked (sealAnswer block)) x
+  unfolding sealPacked
+  seal-refused-parts block h = rw h (refusal-parts x (seal-small block x h))
+
+  pub flows-refused-parts :
+      (book plan words : List ℕ)
+      → flowsAnswer book plan words ≡ flowed.Refused x
+      → Refuses (flowsPacked (flowsAnswer book plan words)) x
+  unfolding flowsPacked
+  flows-refused-parts book plan words h = rw h (refusal-parts x (flows-small book x plan words h))
+
+  pub judge-refused-parts :
+      (book : List ℕ) (user : ℕ) (plan : List ℕ)
+      → judgeAnswer book user plan ≡ judged.Refused x
+      → Refuses (judgePacked (judgeAnswer book user plan)) x
+  unfolding judgePacked
+  judge-refused-parts book user plan h = rw h (refusal-parts x (judge-small book x user plan h))
+
+  pub idle-refused-parts :
+      (book : List ℕ) (r : ℕ) (buffer : List ℕ)
+      → idleAnswer book r buffer ≡ idleness.Refused x
+      → Refuses (idlePacked (idleAnswer book r buffer)) x
+  unfolding idlePacked
+  idle-refused-parts book r buffer h = rw h (refusal-parts x (idle-small book x r buffer h))
+
+-- Book check: the number of rules
+
+pub check-parts :
+    (book : List ℕ) (n : ℕ)
+    → checkAnswer book ≡ checked.Accepted n
+    → Parts (checkPacked (checkAnswer book)) 0 0 n × (n ≤ 32)
+unfolding checkPacked
+check-parts book n h =
+    let most = accepted-length book n h .1 in
+    (rw h (packed-parts 0 0 n (omega arith) (omega arith)), most)
+
+-- Judge: the mask has 32 bits
+
+mask-fits :
+    (book : List ℕ) (n : ℕ)
+    → checkAnswer book ≡ checked.Accepted n
+    → (user : ℕ) (plan : List ℕ)
+    → brokenMask book (ruleCount book) user (accessesOf (headOf book) plan) < 4294967296
+unfolding brokenMask
+mask-fits book n accepted user plan =
+    let broken : ℕ → Bool = λ r. breaks (headOf book) (ruleAt book r) user (accessesOf (headOf book) plan) in
+    lt-of-lt-of-le (word-of broken (ruleCount book) .0) (pow-mono (few-rules book n accepted))
+
+pub judge-parts :
+    (book : List ℕ) (user : ℕ) (plan : List ℕ) (mask : ℕ)
+    → judgeAnswer book user plan ≡ judged.Broken mask
+    → Parts (judgePacked (judgeAnswer book user plan)) 0 0 mask
+unfolding judgePacked judgeAnswer judgedOf
+judge-parts book user plan mask h =
+    rw h (packed-parts 0 0 mask (omega arith) (go (judgeCheck book user plan) refl h))
+  where
+    go : (a : Checked)
+        → judgeCheck book user plan ≡ a
+        → judgedOf a (brokenMask book (ruleCount book) user (accessesOf (headOf book) plan)) ≡ judged.Broken mask
+        → mask < 4294967296
+    go (checked.Accepted n) e a =
+        let same : brokenMask book (ruleCount book) user (accessesOf (headOf book) plan) ≡ mask = cc in
+        let both = judge-accepted book user plan n e in
+        rw same at (mask-fits book (both .0 .0) (both .0 .1) user plan)
+    go (checked.Refused refusal) e a = let z : _≡_ {A = ℕ} 0 1 = cc in absurd (omega arith)
+
+-- Idle: user and rows are small, and there are rows, so that r is not idle's 0
+
+row-there : (b : Bool) (x y rest : List ℕ) → 4 ≤ length x → 4 ≤ length y → 4 ≤ length (cond b x y ++ rest)
+row-there true x y rest hx hy = rw length-append (omega arith)
+row-there false x y rest hx hy = rw length-append (omega arith)
+
+-- an access has a Column row and one that names it
+rows-some :
+    (head rule : List ℕ) (choice : List Access)
+    → 1 ≤ referenceCount rule
+    → isChoice head rule choice ≡ true
+    → 2 ≤ rowCount (shownPlan head choice)
+unfolding isChoice isChoiceFrom shownPlan shownFrom accessRows columnRow applyRow lastRow
+rows-some head rule choice some h = go (referenceCount rule) choice some h
+  where
+    go : (n : ℕ) (c : List Access) → 1 ≤ n → isChoiceFrom head rule n 0 c ≡ true → 2 ≤ rowCount (shownFrom head 0 c)
+    go zero c l e = absurd (omega arith)
+    go (suc n) [] l e = absurd (false≢true e)
+    go (suc n) (x ∷ c) l e =
+        let next =
+        row-there (eqb (x .operation) 0) (lastRow 0 (x .channel))
+        (applyRow head 0 (x .operation) ++ lastRow 1 (x .channel)) (shownFrom head (0 + rowsOf x) c) (omega arith)
+        (omega arith) in
+        omega arith
+
+pub idle-parts :
+    (book : List ℕ) (r : ℕ) (buffer : List ℕ) (user rows : ℕ)
+    → idleAnswer book r buffer ≡ idleness.Needed user rows
+    → Parts (idlePacked (idleAnswer book r buffer)) 0 0 (256 * user + rows)
+    × (user < 32)
+    × (2 ≤ rows)
+    × (rows ≤ 9)
+unfolding idlePacked idleAnswer refusedOr idlenessOf
+idle-parts book r buffer user rows h =
+    let s = go (idleCheck book r buffer) (firstAlone book r) refl refl h in
+    (rw h (packed-parts 0 0 (256 * user + rows) (omega arith) (omega arith)), s .0, s .1, s .2)
+  where
+    go : (a : Checked) (f : First Candidate)
+        → idleCheck book r buffer ≡ a
+        → firstAlone book r ≡ f
+        → refusedOr a (idlenessOf (headOf book) f) ≡ idleness.Needed user rows
+        → (user < 32) × (2 ≤ rows) × (rows ≤ 9)
+    go (checked.Refused refusal) f e g a = let z : _≡_ {A = ℕ} 0 1 = cc in absurd (omega arith)
+    go (checked.Accepted n) none e g a = let z : _≡_ {A = ℕ} 0 1 = cc in absurd (omega arith)
+    go (checked.Accepted n) (shown c) e g a =
+        let eu : c .user ≡ user = cc in
+        let er : rowCount (shownPlan (headOf book) (c .choice)) ≡ rows = cc in
+        let holds = idle-holds book r buffer n e in
+        let accepted = holds .book-accepted in
+        let there : r < ruleCount book = holds .rule-there in
+        let count = accepted-rules book (holds .rules) accepted in
+        let rule = accepted-rule book (holds .rules) accepted r (omega arith) in
+        let head = accepted-head book (holds .rules) accepted in
+        let s = shown-alone book (holds .rules) accepted r there c g in
+        let below = user-below (headOf book) (c .user) (s .0) in
+        let most : userCount (headOf book) ≤ 32 = head .users-most in
+        let some = rows-some (headOf book) (ruleAt book r) (c .choice) (rule .references-some) (s .1) in
+        let few = shown-few (headOf book) (ruleAt book r) head (rule .references-most) (c .choice) (s .1) in
+        (omega arith, omega arith, omega arith)

@@ -1,0 +1,46 @@
+-- Each answer as one number: refusal number × 2^40 + place × 2^32 + value, the refusal 0 where nothing is refused and the
+-- value 0 where something is. Assumes nothing.
+use Prim.Native.Nat.{ℕ, _+_, _*_}
+use Rattle.book.specs.declared.Refusal.{Refusal}
+use Rattle.book.specs.declared.Checked.{Checked}
+use Rattle.book.specs.declared.Checked.the-variants as checked
+use Rattle.book.specs.declared.Sealed.{Sealed}
+use Rattle.book.specs.declared.Sealed.the-variants as sealed
+use Rattle.lineage.specs.declared.Flowed.{Flowed}
+use Rattle.lineage.specs.declared.Flowed.the-variants as flowed
+use Rattle.verdicts.specs.declared.Judged.{Judged}
+use Rattle.verdicts.specs.declared.Judged.the-variants as judged
+use Rattle.search.specs.declared.Idleness.{Idleness}
+use Rattle.search.specs.declared.Idleness.the-variants as idleness
+
+unfoldable pub packed : ℕ → ℕ → ℕ → ℕ
+packed number place value = 1099511627776 * number + 4294967296 * place + value
+
+unfoldable pub refusalPacked : Refusal → ℕ
+refusalPacked refusal = packed (refusal .number) (refusal .place) 0
+
+-- Book check: the number of rules
+unfoldable pub checkPacked : Checked → ℕ
+checkPacked (checked.Accepted rules) = packed 0 0 rules
+checkPacked (checked.Refused refusal) = refusalPacked refusal
+
+-- Seal: 0
+unfoldable pub sealPacked : Sealed → ℕ
+sealPacked sealed.Done = packed 0 0 0
+sealPacked (sealed.Refused refusal) = refusalPacked refusal
+
+-- Flows: 0
+unfoldable pub flowsPacked : Flowed → ℕ
+flowsPacked flowed.Done = packed 0 0 0
+flowsPacked (flowed.Refused refusal) = refusalPacked refusal
+
+-- Judge: the mask
+unfoldable pub judgePacked : Judged → ℕ
+judgePacked (judged.Broken mask) = packed 0 0 mask
+judgePacked (judged.Refused refusal) = refusalPacked refusal
+
+-- Idle: 0 when idle, else user × 256 + rows
+unfoldable pub idlePacked : Idleness → ℕ
+idlePacked idleness.Idle = packed 0 0 0
+idlePacked (idleness.Needed user rows) = packed 0 0 (256 * user + rows)
+idlePacked (idleness.Refused refusal) = refusalPacked refusal

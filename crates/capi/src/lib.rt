@@ -1,0 +1,83 @@
+// The five calls for C and Rust, each answer packed in one number (specs/Packing.antt). A slice is a
+// pointer and a length in elements. No call asks anything of the bytes or the numbers it is given.
+use book::Checked;
+use book::Refusal;
+use book::Sealed;
+use book::check;
+use book::seal;
+use lineage::Flowed;
+use lineage::flows;
+use search::Idleness;
+use search::idle;
+use verdicts::Judged;
+use verdicts::judge;
+ghost use mathlib.Core.Path.{_≡_};
+ghost use Prim.Native.Nat.{_<_};
+ghost use Rattle.book.specs.Answers.{checkAnswer, sealAnswer, sealBytes};
+ghost use Rattle.lineage.specs.Answers.{flowsAnswer, flowsWords};
+ghost use Rattle.verdicts.specs.Answers.{judgeAnswer};
+ghost use Rattle.search.specs.Answers.{idleAnswer, idleBuffer};
+ghost use Rattle.capi.specs.Packing.{refusalPacked, checkPacked, sealPacked, flowsPacked, judgePacked, idlePacked};
+
+// A refusal's number and place, above the value's 32 bits.
+fn packed(refusal: Refusal) -> u64
+    ensures { λ r. ⌜ (refusal .number < 256 → refusal .place < 256 → r ≡ refusalPacked refusal) ⌝ }
+{
+    let number = (refusal.number % 256) as u64;
+    let place = (refusal.place % 256) as u64;
+    1099511627776 * number + 4294967296 * place
+}
+
+#[no_mangle]
+pub extern "C" fn pspec_check(book: &[u8]) -> u64
+    ensures { λ r. ⌜ r ≡ checkPacked (checkAnswer (now (book .entry))) ⌝ }
+{
+    match check(book) {
+        Checked::Refused(refusal) => packed(refusal),
+        Checked::Accepted(rules) => rules as u64,
+    }
+}
+
+#[no_mangle]
+pub extern "C" fn pspec_seal(block: &mut [u8]) -> u64
+    ensures { λ r. ⌜ (r ≡ sealPacked (sealAnswer (now (block .entry)))) × (now (block .exit) ≡ sealBytes (now (block .entry))) ⌝ }
+{
+    let answer = seal(block);
+    match answer {
+        Sealed::Refused(refusal) => packed(refusal),
+        Sealed::Done => 0,
+    }
+}
+
+#[no_mangle]
+pub extern "C" fn pspec_flows(book: &[u8], plan: &[u8], words: &mut [u64]) -> u64
+    ensures { λ r. ⌜ (r ≡ flowsPacked (flowsAnswer (now (book .entry)) (now (plan .entry)) (now (words .entry)))) × (now (words .exit) ≡ flowsWords (now (book .entry)) (now (plan .entry)) (now (words .entry))) ⌝ }
+{
+    let answer = flows(book, plan, words);
+    match answer {
+        Flowed::Refused(refusal) => packed(refusal),
+        Flowed::Done => 0,
+    }
+}
+
+#[no_mangle]
+pub extern "C" fn pspec_judge(book: &[u8], user: u32, plan: &[u8]) -> u64
+    ensures { λ r. ⌜ r ≡ judgePacked (judgeAnswer (now (book .entry)) user (now (plan .entry))) ⌝ }
+{
+    match judge(book, user, plan) {
+        Judged::Refused(refusal) => packed(refusal),
+        Judged::Broken(mask) => mask as u64,
+    }
+}
+
+#[no_mangle]
+pub extern "C" fn pspec_idle(book: &[u8], rule: u32, buffer: &mut [u8]) -> u64
+    ensures { λ r. ⌜ (r ≡ idlePacked (idleAnswer (now (book .entry)) rule (now (buffer .entry)))) × (now (buffer .exit) ≡ idleBuffer (now (book .entry)) rule (now (buffer .entry))) ⌝ }
+{
+    let answer = idle(book, rule, buffer);
+    match answer {
+        Idleness::Refused(refusal) => packed(refusal),
+        Idleness::Idle => 0,
+        Idleness::Needed { user, rows } => 256 * (user as u64) + rows as u64,
+    }
+}

@@ -1,0 +1,128 @@
+/*
+ * The PSpec policy engine for C: five calls. Link with libcapi.a (rt staticlib capi; x86-64 Linux).
+ *
+ * Parameters. A slice is a pointer and a length in elements: bytes for a book, a block, a plan and a
+ * buffer, 64-bit words for `words`. The caller owes only this: each pointer is not null, fits its
+ * type's alignment and points to that many elements; a slice that is written overlaps no other; and
+ * nothing else writes a slice while the call runs.
+ *
+ * Promises, for any bytes, any length and any number:
+ *  - no call asks anything of what it is given: there is no input that it may not have;
+ *  - it returns, reads and writes nothing outside its slices, and keeps no state, so calls may run at
+ *    the same time;
+ *  - its answer is the one that crates/capi/specs/Packing.antt says, over specs/Answers.antt of the
+ *    crates below, and so are the slice's elements on leaving;
+ *  - a refusal leaves `block`, `words` and `buffer` as they were.
+ *
+ * Answers. Each is one 64-bit number: refusal number x 2^40 + place x 2^32 + value. The refusal number
+ * is 0 where nothing is refused; number and place are below 256. The value is below 2^32, and 0 where
+ * something is refused. So the functions at the end of this file give the answer's own parts (proved:
+ * crates/capi/proofs/Unpacking.antt).
+ *
+ * Not proved: this file. A call on the small book took at most 80 KiB of stack (pspec_idle); the calls use
+ * memcpy and memset and nothing else from outside.
+ */
+#ifndef PSPEC_H
+#define PSPEC_H
+
+#include <stddef.h>
+#include <stdint.h>
+
+#ifdef __cplusplus
+extern "C" {
+#endif
+
+/* Bytes of a block; of the shortest and the longest book (4 to 36 blocks). */
+#define PSPEC_BLOCK 512
+#define PSPEC_BOOK_LEAST 2048
+#define PSPEC_BOOK_MOST 18432
+/* Words that pspec_flows writes; rows of the longest plan; bytes that pspec_idle asks of its buffer. */
+#define PSPEC_WORDS 32
+#define PSPEC_ROWS_MOST 64
+#define PSPEC_BUFFER_LEAST 36
+
+/*
+ * Refusal numbers. Where several apply, the first in this order is given: 1; 2 over all blocks; 3 over
+ * all blocks; 4 to 9 block by block; then the call's own from 20 on. The place is the block for 2 to 9,
+ * the row for 22, and 0 for all others.
+ */
+enum pspec_refusal {
+    PSPEC_NOT_REFUSED = 0,
+    PSPEC_BOOK_LENGTH = 1,        /* length of the book not 512 times 4 to 36 */
+    PSPEC_BLOCK_CHECK = 2,        /* a block's check is wrong */
+    PSPEC_BLOCK_KIND = 3,         /* a block's kind is wrong */
+    PSPEC_COUNT_OR_ZERO = 4,      /* a count outside its bounds, or a byte that should be zero */
+    PSPEC_PARENT_OR_OWN = 5,      /* a category's parent, or its own operations */
+    PSPEC_LABEL_OR_FUNCTION = 6,  /* a label that is no leaf and not 255, or a function above 15 */
+    PSPEC_RULE_NUMBER = 7,        /* a rule's category number, action or exclusion */
+    PSPEC_SHARED_LEAF = 8,        /* references of a rule share a leaf */
+    PSPEC_MASK_OPERATION = 9,     /* bit 0, an unsupported operation or an absent reference in a mask */
+    PSPEC_BLOCK_LENGTH = 10,      /* the block to seal is not 512 bytes long */
+    PSPEC_NO_USER = 20,           /* the user is no leaf */
+    PSPEC_PLAN_LENGTH = 21,       /* length of the plan not a multiple of 4, or above 256 */
+    PSPEC_FAULTY_ROW = 22,        /* the lowest faulty row of the plan */
+    PSPEC_WORD_COUNT = 23,        /* not 32 words */
+    PSPEC_NO_RULE = 24,           /* no such rule */
+    PSPEC_BUFFER_LENGTH = 25      /* buffer under 36 bytes */
+};
+
+/*
+ * Book check. Refuses 1 to 9. Value: the number of rules, 0 to 32.
+ */
+uint64_t pspec_check(const uint8_t *book, size_t book_length);
+
+/*
+ * Seal: writes a block's check in its last two bytes and changes no other byte. Refuses 10. Value: 0.
+ */
+uint64_t pspec_seal(uint8_t *block, size_t block_length);
+
+/*
+ * Flows: writes a plan's accesses. Bit d of word 16 x s + k is set exactly when the plan gives access to
+ * the leaf d by operation k, s being 0 for projection and 1 for condition. Refuses 1 to 9, 21, 22, 23.
+ * Value: 0.
+ */
+uint64_t pspec_flows(const uint8_t *book, size_t book_length, const uint8_t *plan, size_t plan_length,
+                     uint64_t *words, size_t words_length);
+
+/*
+ * Judge: which rules a user and a plan break. Refuses 1 to 9, 20, 21, 22. Value: a mask, bit r for
+ * rule r; 0 opens the gate.
+ */
+uint64_t pspec_judge(const uint8_t *book, size_t book_length, uint32_t user, const uint8_t *plan,
+                     size_t plan_length);
+
+/*
+ * Idle: whether no user and accepted plan break the rule alone. Refuses 1 to 9, 24, 25. Value: 0 when the
+ * rule is idle, the buffer then being as it was. Otherwise user x 256 + rows, of the first user and plan
+ * that break the rule and no other; the plan's 4 x rows bytes (2 to 9 rows) are at the buffer's front and
+ * the rest is as it was.
+ */
+uint64_t pspec_idle(const uint8_t *book, size_t book_length, uint32_t rule, uint8_t *buffer,
+                    size_t buffer_length);
+
+/* The parts of an answer. */
+
+/* 0 where nothing is refused, else one of enum pspec_refusal. */
+static inline uint32_t pspec_number(uint64_t answer) { return (uint32_t)(answer >> 40); }
+
+/* The block or the row of a refusal. */
+static inline uint32_t pspec_place(uint64_t answer) { return (uint32_t)(answer >> 32) & 255u; }
+
+/* pspec_check: the number of rules. */
+static inline uint32_t pspec_value(uint64_t answer) { return (uint32_t)answer; }
+
+/* pspec_judge: bit r for rule r. */
+static inline uint32_t pspec_mask(uint64_t answer) { return pspec_value(answer); }
+
+/* pspec_idle: not refused, and nobody breaks the rule alone. */
+static inline int pspec_is_idle(uint64_t answer) { return answer == 0; }
+
+/* pspec_idle, neither refused nor idle: the user, and the number of rows of the plan in the buffer. */
+static inline uint32_t pspec_user(uint64_t answer) { return pspec_value(answer) >> 8; }
+static inline uint32_t pspec_rows(uint64_t answer) { return pspec_value(answer) & 255u; }
+
+#ifdef __cplusplus
+}
+#endif
+
+#endif
