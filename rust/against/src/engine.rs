@@ -1,0 +1,147 @@
+//! The engines that can be tried.
+
+use second::{idle, reading, Refusal};
+
+/// What Idle answers: nothing where the engine gave up, else idle (`None`) or a user and rows.
+pub type Idleness = Option<Result<Option<(u32, u32)>, Refusal>>;
+
+/// The five calls of an engine.
+pub trait Engine {
+    /// What it is called in reports.
+    fn name(&self) -> &'static str;
+    /// The book check.
+    fn check(&self, book: &[u8]) -> Result<u32, Refusal>;
+    /// Seal.
+    fn seal(&self, block: &mut [u8]) -> Result<(), Refusal>;
+    /// Flows.
+    fn flows(&self, book: &[u8], plan: &[u8], words: &mut [u64]) -> Result<(), Refusal>;
+    /// Judge.
+    fn judge(&self, book: &[u8], user: u32, plan: &[u8]) -> Result<u32, Refusal>;
+    /// Idle.
+    fn idle(&self, book: &[u8], rule: u32, buffer: &mut [u8]) -> Idleness;
+}
+
+/// The second implementation; it gives up on a search after so many steps.
+pub struct Second {
+    /// The steps of one search.
+    pub steps: u64,
+}
+
+impl Engine for Second {
+    fn name(&self) -> &'static str {
+        "second"
+    }
+    fn check(&self, book: &[u8]) -> Result<u32, Refusal> {
+        second::check(book)
+    }
+    fn seal(&self, block: &mut [u8]) -> Result<(), Refusal> {
+        second::seal(block)
+    }
+    fn flows(&self, book: &[u8], plan: &[u8], words: &mut [u64]) -> Result<(), Refusal> {
+        second::flows(book, plan, words)
+    }
+    fn judge(&self, book: &[u8], user: u32, plan: &[u8]) -> Result<u32, Refusal> {
+        second::judge(book, user, plan)
+    }
+    fn idle(&self, book: &[u8], rule: u32, buffer: &mut [u8]) -> Idleness {
+        second::idle_within(book, rule, buffer, self.steps)
+    }
+}
+
+/// The second implementation with its naive search; it gives up before too many choices.
+pub struct Naive {
+    /// The choices of one search, over all users.
+    pub choices: u128,
+}
+
+impl Naive {
+    fn too_many(&self, book: &[u8], rule: u32) -> bool {
+        let Ok(book) = reading::read(book) else {
+            return false;
+        };
+        let rule = rule as usize;
+        let users = book.users.leaves().len() as u128;
+        rule < book.rules.len() && users * idle::choices(&book, rule) > self.choices
+    }
+}
+
+impl Engine for Naive {
+    fn name(&self) -> &'static str {
+        "naive"
+    }
+    fn check(&self, book: &[u8]) -> Result<u32, Refusal> {
+        second::check(book)
+    }
+    fn seal(&self, block: &mut [u8]) -> Result<(), Refusal> {
+        second::seal(block)
+    }
+    fn flows(&self, book: &[u8], plan: &[u8], words: &mut [u64]) -> Result<(), Refusal> {
+        second::flows(book, plan, words)
+    }
+    fn judge(&self, book: &[u8], user: u32, plan: &[u8]) -> Result<u32, Refusal> {
+        second::judge(book, user, plan)
+    }
+    fn idle(&self, book: &[u8], rule: u32, buffer: &mut [u8]) -> Idleness {
+        if self.too_many(book, rule) {
+            return None;
+        }
+        Some(second::idle_naive(book, rule, buffer))
+    }
+}
+
+/// The proved engine, through its C calls.
+#[cfg(feature = "engine")]
+pub struct Proved;
+
+#[cfg(feature = "engine")]
+impl Engine for Proved {
+    fn name(&self) -> &'static str {
+        "engine"
+    }
+    fn check(&self, book: &[u8]) -> Result<u32, Refusal> {
+        pspec::check(book).map_err(refusal)
+    }
+    fn seal(&self, block: &mut [u8]) -> Result<(), Refusal> {
+        pspec::seal(block).map_err(refusal)
+    }
+    fn flows(&self, book: &[u8], plan: &[u8], words: &mut [u64]) -> Result<(), Refusal> {
+        pspec::flows(book, plan, words).map_err(refusal)
+    }
+    fn judge(&self, book: &[u8], user: u32, plan: &[u8]) -> Result<u32, Refusal> {
+        pspec::judge(book, user, plan).map_err(refusal)
+    }
+    fn idle(&self, book: &[u8], rule: u32, buffer: &mut [u8]) -> Idleness {
+        let answer = pspec::idle(book, rule, buffer).map_err(refusal);
+        Some(answer.map(|idleness| match idleness {
+            pspec::Idleness::Idle => None,
+            pspec::Idleness::Needed { user, rows } => Some((user, rows)),
+        }))
+    }
+}
+
+#[cfg(feature = "engine")]
+fn refusal(refusal: pspec::Refusal) -> Refusal {
+    let pspec::Refusal { number, place } = refusal;
+    Refusal { number, place }
+}
+
+/// Steps after which the second implementation gives up on a search.
+pub const STEPS: u64 = 30_000;
+
+/// The engine of a name.
+pub fn by_name(name: &str) -> Option<Box<dyn Engine>> {
+    match name {
+        "second" => Some(Box::new(Second { steps: STEPS })),
+        "naive" => Some(Box::new(Naive { choices: 5_000 })),
+        #[cfg(feature = "engine")]
+        "engine" => Some(Box::new(Proved)),
+        _ => None,
+    }
+}
+
+/// The two that are tried against each other when nothing else is asked.
+pub const USUAL: [&str; 2] = if cfg!(feature = "engine") {
+    ["engine", "second"]
+} else {
+    ["second", "naive"]
+};

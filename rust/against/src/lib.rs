@@ -1,0 +1,13 @@
+//! Tries one engine against another on random books: all five calls, answers and buffers.
+#![forbid(unsafe_code)]
+#![warn(missing_docs)]
+
+pub mod answer;
+pub mod engine;
+pub mod run;
+pub mod tally;
+pub mod text;
+
+pub use engine::Engine;
+pub use run::{run, Difference, Limit};
+pub use tally::Tally;

@@ -1,0 +1,163 @@
+//! Rounds of random cases, both engines' answers compared.
+
+use crate::answer::{self, Answer};
+use crate::engine::Engine;
+use crate::tally::Tally;
+use crate::text;
+use books::{case, Case, Random};
+use std::fmt;
+use std::time::{Duration, Instant};
+
+/// When to stop.
+#[derive(Clone, Copy, Debug)]
+pub enum Limit {
+    /// After so many cases, the last round ended.
+    Cases(u64),
+    /// After so much time.
+    Time(Duration),
+}
+
+/// A case that two engines answer differently, or whose buffers they leave differently.
+#[derive(Clone, Debug)]
+pub struct Difference {
+    /// The case before the call.
+    pub case: Case,
+    /// For each engine its name, its answer and the case after the call.
+    pub sides: [(&'static str, Answer, Case); 2],
+}
+
+impl fmt::Display for Difference {
+    fn fmt(&self, f: &mut fmt::Formatter<'_>) -> fmt::Result {
+        write!(f, "{}", text::write(&self.case))?;
+        for (name, answer, after) in &self.sides {
+            writeln!(f, "# {name}: {answer}")?;
+            if *after != self.case {
+                let lines = text::write(after);
+                let buffer = lines.lines().last().unwrap_or_default();
+                writeln!(f, "# {name} leaves {buffer}")?;
+            }
+        }
+        Ok(())
+    }
+}
+
+/// Both answers to one case, or how they differ. What was given up differs from nothing.
+pub fn compare(engines: [&dyn Engine; 2], case: &Case) -> Result<[Answer; 2], Box<Difference>> {
+    let sides = engines.map(|engine| {
+        let mut after = case.clone();
+        let answer = answer::of(engine, &mut after);
+        (engine.name(), answer, after)
+    });
+    let answers = [sides[0].1, sides[1].1];
+    let same = answers[0] == answers[1] && sides[0].2 == sides[1].2;
+    if same || answers.contains(&Answer::GaveUp) {
+        return Ok(answers);
+    }
+    let case = case.clone();
+    Err(Box::new(Difference { case, sides }))
+}
+
+/// Runs random cases until the limit or the first difference. `progress` is told after each round.
+pub fn run(
+    engines: [&dyn Engine; 2],
+    seed: u64,
+    limit: Limit,
+    progress: &mut dyn FnMut(&Tally),
+) -> Result<Tally, Box<Difference>> {
+    let start = Instant::now();
+    let mut random = Random::new(seed);
+    let mut tally = Tally::default();
+    let open = |tally: &Tally| match limit {
+        Limit::Cases(n) => tally.cases < n,
+        Limit::Time(time) => start.elapsed() < time,
+    };
+    while open(&tally) {
+        let size = case::next_size(&mut random);
+        for case in case::round(&mut random, size) {
+            try_case(engines, &case, &mut tally)?;
+        }
+        progress(&tally);
+    }
+    Ok(tally)
+}
+
+/// Compares a case. Then what Idle shows is judged, and a rule that a plan breaks alone is asked for.
+fn try_case(
+    engines: [&dyn Engine; 2],
+    case: &Case,
+    tally: &mut Tally,
+) -> Result<(), Box<Difference>> {
+    let answer = try_one(engines, case, tally)?;
+    match (case, answer) {
+        (Case::Idle { .. }, Answer::Needed(user, rows)) => {
+            try_shown(engines, case, user, rows, tally)
+        }
+        (Case::Judge { book, .. }, Answer::Broken(mask)) if mask.is_power_of_two() => {
+            try_alone(engines, book, mask.trailing_zeros(), tally)
+        }
+        _ => Ok(()),
+    }
+}
+
+/// Compares and counts one case.
+fn try_one(
+    engines: [&dyn Engine; 2],
+    case: &Case,
+    tally: &mut Tally,
+) -> Result<Answer, Box<Difference>> {
+    let [one, two] = compare(engines, case)?;
+    let given_up = [one, two].contains(&Answer::GaveUp);
+    let answer = if given_up { Answer::GaveUp } else { one };
+    tally.count(case, answer);
+    Ok(answer)
+}
+
+/// "Judge, given the same book, the user that Idle names and the first 4 × row count bytes of the
+/// buffer as Idle leaves it, then accepts, and its mask is 2 to the power r."
+fn try_shown(
+    engines: [&dyn Engine; 2],
+    idle: &Case,
+    user: u32,
+    rows: u32,
+    tally: &mut Tally,
+) -> Result<(), Box<Difference>> {
+    let mut after = idle.clone();
+    answer::of(engines[0], &mut after);
+    let Case::Idle { book, rule, buffer } = after else {
+        return Ok(());
+    };
+    let plan = buffer[..4 * rows as usize].to_vec();
+    let judge = Case::Judge { book, user, plan };
+    let answer = try_one(engines, &judge, tally)?;
+    match answer {
+        Answer::Broken(mask) if mask == 1 << rule => Ok(()),
+        _ => Err(wrong(engines, judge, Answer::Broken(1 << rule), answer)),
+    }
+}
+
+/// A rule that some user and plan, of whatever form, break alone is not idle.
+fn try_alone(
+    engines: [&dyn Engine; 2],
+    book: &[u8],
+    rule: u32,
+    tally: &mut Tally,
+) -> Result<(), Box<Difference>> {
+    let idle = Case::Idle {
+        book: book.to_vec(),
+        rule,
+        buffer: vec![0; 36],
+    };
+    match try_one(engines, &idle, tally)? {
+        Answer::Idle => Err(wrong(engines, idle, Answer::NotIdle, Answer::Idle)),
+        _ => Ok(()),
+    }
+}
+
+/// Both engines agree on an answer that document 01 rules out.
+fn wrong(engines: [&dyn Engine; 2], case: Case, wanted: Answer, got: Answer) -> Box<Difference> {
+    let sides = [
+        ("document 01", wanted, case.clone()),
+        (engines[0].name(), got, case.clone()),
+    ];
+    Box::new(Difference { case, sides })
+}

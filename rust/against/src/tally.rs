@@ -1,0 +1,135 @@
+//! What was reached.
+
+use crate::answer::Answer;
+use books::draft::BLOCK;
+use books::Case;
+use std::collections::BTreeMap;
+use std::fmt;
+
+/// Every refusal number that the calls have.
+pub const REFUSALS: [u32; 16] = [1, 2, 3, 4, 5, 6, 7, 8, 9, 10, 20, 21, 22, 23, 24, 25];
+
+/// How often each thing happened.
+#[derive(Clone, Debug, Default, PartialEq, Eq)]
+pub struct Tally {
+    /// Cases in all.
+    pub cases: u64,
+    /// Cases of each call.
+    pub calls: BTreeMap<&'static str, u64>,
+    /// Refusals by number.
+    pub refusals: BTreeMap<u32, u64>,
+    /// Rules that are not idle.
+    pub needed: u64,
+    /// Rules that are idle.
+    pub idle: u64,
+    /// Of the idle ones, those that are idle in a book without other rules.
+    pub idle_alone: u64,
+    /// Of the idle ones, those that one other rule covers.
+    pub covered_by_one: u64,
+    /// Of the idle ones, those that only several others cover together.
+    pub covered_by_several: u64,
+    /// Judged plans that break some rule.
+    pub broken: u64,
+    /// Searches that were given up.
+    pub given_up: u64,
+}
+
+/// Why a rule is idle.
+enum Cover {
+    Alone,
+    One,
+    Several,
+    Unknown,
+}
+
+impl Tally {
+    /// Counts a case and the answer to it.
+    pub fn count(&mut self, case: &Case, answer: Answer) {
+        self.cases += 1;
+        *self.calls.entry(call(case)).or_default() += 1;
+        match answer {
+            Answer::Refused(refusal) => *self.refusals.entry(refusal.number).or_default() += 1,
+            Answer::Needed(..) => self.needed += 1,
+            Answer::Broken(mask) if mask != 0 => self.broken += 1,
+            Answer::GaveUp => self.given_up += 1,
+            Answer::Idle => self.count_idle(case),
+            Answer::Rules(_) | Answer::Done | Answer::Broken(_) | Answer::NotIdle => {}
+        }
+    }
+
+    fn count_idle(&mut self, case: &Case) {
+        self.idle += 1;
+        if let Case::Idle { book, rule, .. } = case {
+            match cover(book, *rule as usize) {
+                Cover::Alone => self.idle_alone += 1,
+                Cover::One => self.covered_by_one += 1,
+                Cover::Several => self.covered_by_several += 1,
+                Cover::Unknown => {}
+            }
+        }
+    }
+
+    /// The refusals that were not reached.
+    pub fn not_reached(&self) -> Vec<u32> {
+        let reached = |number: &u32| self.refusals.contains_key(number);
+        REFUSALS.into_iter().filter(|n| !reached(n)).collect()
+    }
+}
+
+fn call(case: &Case) -> &'static str {
+    match case {
+        Case::Check { .. } => "check",
+        Case::Seal { .. } => "seal",
+        Case::Flows { .. } => "flows",
+        Case::Judge { .. } => "judge",
+        Case::Idle { .. } => "idle",
+    }
+}
+
+/// Why an idle rule is idle, from books with fewer rules.
+fn cover(book: &[u8], rule: usize) -> Cover {
+    let (head, rules) = book.split_at(4 * BLOCK);
+    let rules: Vec<&[u8]> = rules.chunks(BLOCK).collect();
+    let idle_among = |kept: &[&[u8]]| {
+        let book = [head, &kept.concat()].concat();
+        let answer = second::idle_within(&book, 0, &mut [0; 36], 5_000);
+        answer.map(|answer| answer == Ok(None))
+    };
+    let others = (0..rules.len()).filter(|&other| other != rule);
+    match idle_among(&[rules[rule]]) {
+        None => return Cover::Unknown,
+        Some(true) => return Cover::Alone,
+        Some(false) => {}
+    }
+    let beside: Vec<Option<bool>> = others
+        .map(|other| idle_among(&[rules[rule], rules[other]]))
+        .collect();
+    if beside.contains(&Some(true)) {
+        Cover::One
+    } else if beside.contains(&None) {
+        Cover::Unknown
+    } else {
+        Cover::Several
+    }
+}
+
+impl fmt::Display for Tally {
+    fn fmt(&self, f: &mut fmt::Formatter<'_>) -> fmt::Result {
+        write!(f, "{} cases:", self.cases)?;
+        for (call, n) in &self.calls {
+            write!(f, " {call} {n}")?;
+        }
+        write!(f, "\nrefusals:")?;
+        for number in REFUSALS {
+            let n = self.refusals.get(&number).unwrap_or(&0);
+            write!(f, " {number}: {n}")?;
+        }
+        writeln!(f, "\nplans that break a rule: {}", self.broken)?;
+        write!(
+            f,
+            "rules: {} needed, {} idle ({} on their own, {} by one other, {} only by several others)",
+            self.needed, self.idle, self.idle_alone, self.covered_by_one, self.covered_by_several
+        )?;
+        write!(f, "; {} searches given up", self.given_up)
+    }
+}

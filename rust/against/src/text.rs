@@ -1,0 +1,130 @@
+//! Cases as text, one word and its value a line, bytes in hexadecimal digits.
+
+use books::Case;
+use std::collections::BTreeMap;
+
+/// The case as text.
+pub fn write(case: &Case) -> String {
+    let (call, fields) = match case {
+        Case::Check { book } => ("check", vec![("book", hex(book))]),
+        Case::Seal { block } => ("seal", vec![("block", hex(block))]),
+        Case::Flows { book, plan, words } => {
+            let words: Vec<u8> = words.iter().flat_map(|w| w.to_be_bytes()).collect();
+            let fields = vec![
+                ("book", hex(book)),
+                ("plan", hex(plan)),
+                ("words", hex(&words)),
+            ];
+            ("flows", fields)
+        }
+        Case::Judge { book, user, plan } => {
+            let user = user.to_string();
+            let fields = vec![("book", hex(book)), ("user", user), ("plan", hex(plan))];
+            ("judge", fields)
+        }
+        Case::Idle { book, rule, buffer } => {
+            let rule = rule.to_string();
+            let fields = vec![("book", hex(book)), ("rule", rule), ("buffer", hex(buffer))];
+            ("idle", fields)
+        }
+    };
+    let mut text = format!("call {call}\n");
+    for (name, value) in fields {
+        text.push_str(&format!("{name} {value}\n"));
+    }
+    text
+}
+
+/// Reads a case. Lines that start with '#' are remarks.
+pub fn read(text: &str) -> Result<Case, String> {
+    let lines = text.lines().map(str::trim);
+    let fields: BTreeMap<&str, &str> = lines
+        .filter(|line| !line.is_empty() && !line.starts_with('#'))
+        .map(|line| line.split_once(' ').unwrap_or((line, "")))
+        .collect();
+    let field = |name: &str| fields.get(name).copied().ok_or(format!("no {name}"));
+    let bytes = |name: &str| unhex(field(name)?).ok_or(format!("{name} is not hexadecimal"));
+    let number = |name: &str| field(name)?.parse().map_err(|e| format!("{name}: {e}"));
+    match field("call")? {
+        "check" => Ok(Case::Check {
+            book: bytes("book")?,
+        }),
+        "seal" => Ok(Case::Seal {
+            block: bytes("block")?,
+        }),
+        "flows" => Ok(Case::Flows {
+            book: bytes("book")?,
+            plan: bytes("plan")?,
+            words: words(&bytes("words")?)?,
+        }),
+        "judge" => Ok(Case::Judge {
+            book: bytes("book")?,
+            user: number("user")?,
+            plan: bytes("plan")?,
+        }),
+        "idle" => Ok(Case::Idle {
+            book: bytes("book")?,
+            rule: number("rule")?,
+            buffer: bytes("buffer")?,
+        }),
+        other => Err(format!("no call {other}")),
+    }
+}
+
+fn words(bytes: &[u8]) -> Result<Vec<u64>, String> {
+    let word = |bytes: &[u8]| Some(u64::from_be_bytes(bytes.try_into().ok()?));
+    let words: Option<Vec<u64>> = bytes.chunks(8).map(word).collect();
+    words.ok_or("a word is cut".to_string())
+}
+
+/// Two lower-case digits a byte.
+pub fn hex(bytes: &[u8]) -> String {
+    bytes.iter().map(|byte| format!("{byte:02x}")).collect()
+}
+
+fn unhex(text: &str) -> Option<Vec<u8>> {
+    let digits: Option<Vec<u8>> = text.chars().map(digit).collect();
+    let digits = digits.filter(|digits| digits.len().is_multiple_of(2))?;
+    Some(
+        digits
+            .chunks(2)
+            .map(|pair| 16 * pair[0] + pair[1])
+            .collect(),
+    )
+}
+
+fn digit(digit: char) -> Option<u8> {
+    digit.to_digit(16).map(|value| value as u8)
+}
+
+#[cfg(test)]
+mod tests {
+    use super::*;
+    use books::{case, Random};
+
+    #[test]
+    fn what_is_written_is_read() {
+        let mut random = Random::new(3);
+        for _ in 0..20 {
+            let size = case::next_size(&mut random);
+            for case in case::round(&mut random, size) {
+                assert_eq!(read(&write(&case)), Ok(case));
+            }
+        }
+    }
+
+    #[test]
+    fn bad_text_is_said_to_be_bad() {
+        assert!(read("").is_err());
+        assert!(read("call idle\nbook 00\nrule x\nbuffer").is_err());
+        assert!(read("call check\nbook 0").is_err());
+        assert!(read("call check\nbook 0g").is_err());
+        assert!(read("call flows\nbook\nplan\nwords 00").is_err());
+    }
+
+    #[test]
+    fn remarks_are_skipped() {
+        let case = Case::Check { book: vec![] };
+        assert_eq!(read("# engine: done\ncall check\nbook\n"), Ok(case));
+    }
+}

@@ -1,0 +1,63 @@
+//! The engine's times, or nothing where the engine is left out.
+
+use std::ops::Range;
+use std::time::Duration;
+
+#[cfg(feature = "engine")]
+pub use with_engine::*;
+#[cfg(not(feature = "engine"))]
+pub use without::*;
+
+#[cfg(feature = "engine")]
+mod with_engine {
+    use super::{Duration, Range};
+    use crate::clock::best;
+    use std::hint::black_box;
+
+    pub fn check(book: &[u8]) -> Option<Duration> {
+        Some(best(|| pspec::check(black_box(book))))
+    }
+
+    pub fn seal(block: &mut [u8]) -> Option<Duration> {
+        Some(best(|| pspec::seal(black_box(block))))
+    }
+
+    pub fn flows(book: &[u8], plan: &[u8]) -> Option<Duration> {
+        let mut words = [0; 32];
+        Some(best(|| pspec::flows(book, black_box(plan), &mut words)))
+    }
+
+    pub fn judge(book: &[u8], user: u32, plan: &[u8]) -> Option<Duration> {
+        Some(best(|| pspec::judge(book, user, black_box(plan))))
+    }
+
+    pub fn idle(book: &[u8], rules: Range<u32>) -> Option<Duration> {
+        let search = |rule: u32| pspec::idle(black_box(book), rule, &mut [0; 36]);
+        Some(best(|| rules.clone().all(|rule| search(rule).is_ok())))
+    }
+}
+
+#[cfg(not(feature = "engine"))]
+mod without {
+    use super::{Duration, Range};
+
+    pub fn check(_: &[u8]) -> Option<Duration> {
+        None
+    }
+
+    pub fn seal(_: &mut [u8]) -> Option<Duration> {
+        None
+    }
+
+    pub fn flows(_: &[u8], _: &[u8]) -> Option<Duration> {
+        None
+    }
+
+    pub fn judge(_: &[u8], _: u32, _: &[u8]) -> Option<Duration> {
+        None
+    }
+
+    pub fn idle(_: &[u8], _: Range<u32>) -> Option<Duration> {
+        None
+    }
+}

@@ -1,0 +1,198 @@
+//! Calls with all that they are given, and rounds of them about one book.
+
+use crate::change;
+use crate::draft::{leaves, Draft, BLOCK};
+use crate::plans;
+use crate::random::Random;
+use crate::valid::{self, Size};
+
+/// One call.
+#[derive(Clone, Debug, PartialEq, Eq)]
+pub enum Case {
+    /// The book check.
+    Check {
+        /// The book.
+        book: Vec<u8>,
+    },
+    /// Seal.
+    Seal {
+        /// The block.
+        block: Vec<u8>,
+    },
+    /// Flows.
+    Flows {
+        /// The book.
+        book: Vec<u8>,
+        /// The plan.
+        plan: Vec<u8>,
+        /// The buffer of words as it is before.
+        words: Vec<u64>,
+    },
+    /// Judge.
+    Judge {
+        /// The book.
+        book: Vec<u8>,
+        /// The user's number.
+        user: u32,
+        /// The plan.
+        plan: Vec<u8>,
+    },
+    /// Idle.
+    Idle {
+        /// The book.
+        book: Vec<u8>,
+        /// The rule's number.
+        rule: u32,
+        /// The buffer as it is before.
+        buffer: Vec<u8>,
+    },
+}
+
+/// The calls of one round: one book of the given size, sound or changed, and all five calls.
+pub fn round(random: &mut Random, size: Size) -> Vec<Case> {
+    let draft = valid::draft(random, size);
+    let book = book(random, &draft);
+    let mut cases = vec![
+        Case::Check { book: book.clone() },
+        Case::Seal {
+            block: block(random, &book),
+        },
+    ];
+    for _ in 0..2 {
+        cases.push(flows(random, &draft, &book));
+        cases.push(judge(random, &draft, &book));
+        cases.push(judge(random, &draft, &book));
+    }
+    let rules = draft.rules.len().min(4);
+    for _ in 0..rules.max(1) {
+        cases.push(idle(random, &draft, &book));
+    }
+    cases
+}
+
+/// The draft's bytes, three times in five as they are.
+fn book(random: &mut Random, draft: &Draft) -> Vec<u8> {
+    match random.below(10) {
+        0..=5 => draft.bytes(),
+        6 => {
+            let mut book = draft.bytes();
+            change::any_byte(random, &mut book);
+            book
+        }
+        7 => two_changes(random, draft),
+        _ => {
+            let refusal = random.between(1, 9) as u32;
+            change::aimed(random, draft, refusal)
+        }
+    }
+}
+
+/// The blocks of two changed books mixed, so that the order of refusals is tried.
+fn two_changes(random: &mut Random, draft: &Draft) -> Vec<u8> {
+    let [one, two] = [0, 1].map(|_| {
+        let refusal = random.between(2, 9) as u32;
+        change::aimed(random, draft, refusal)
+    });
+    let before = draft.bytes();
+    let changed = |start: usize| one[start..start + BLOCK] != before[start..start + BLOCK];
+    (0..before.len())
+        .step_by(BLOCK)
+        .flat_map(|start| {
+            let from = if changed(start) { &one } else { &two };
+            from[start..start + BLOCK].to_vec()
+        })
+        .collect()
+}
+
+/// A block of the book, random bytes, or a wrong length.
+fn block(random: &mut Random, book: &[u8]) -> Vec<u8> {
+    let length = match random.below(4) {
+        0 => random.one(&[0, 1, 510, 511, 513, 1024]),
+        _ => BLOCK,
+    };
+    match random.below(3) {
+        0 if book.len() >= length => book[..length].to_vec(),
+        1 => vec![255; length],
+        _ => random.bytes(length),
+    }
+}
+
+fn plan(random: &mut Random, draft: &Draft) -> Vec<u8> {
+    match random.below(3) {
+        0 => plans::damaged(random, draft),
+        _ => plans::sound(random, draft),
+    }
+}
+
+fn flows(random: &mut Random, draft: &Draft, book: &[u8]) -> Case {
+    let words = match random.below(8) {
+        0 => random.one(&[0, 1, 31, 33, 64, 1024]),
+        _ => 32,
+    };
+    Case::Flows {
+        book: book.to_vec(),
+        plan: plan(random, draft),
+        words: (0..words).map(|_| random.bits()).collect(),
+    }
+}
+
+fn judge(random: &mut Random, draft: &Draft, book: &[u8]) -> Case {
+    let user = match random.below(8) {
+        0 => out_of_range(random, draft.users.len()),
+        1 => random.below(draft.users.len()) as u32,
+        _ => u32::from(random.one(&leaves(&draft.users))),
+    };
+    Case::Judge {
+        book: book.to_vec(),
+        user,
+        plan: plan(random, draft),
+    }
+}
+
+fn idle(random: &mut Random, draft: &Draft, book: &[u8]) -> Case {
+    let rule = match random.below(12) {
+        0 => out_of_range(random, draft.rules.len()),
+        _ => random.below(draft.rules.len()) as u32,
+    };
+    let length = match random.below(10) {
+        0 => random.one(&[0, 1, 4, 8, 35]),
+        1 => random.between(37, 100),
+        _ => 36,
+    };
+    Case::Idle {
+        book: book.to_vec(),
+        rule,
+        buffer: random.bytes(length),
+    }
+}
+
+/// A number at or past a count, some of which would be in range if cut to a byte or shifted out.
+fn out_of_range(random: &mut Random, count: usize) -> u32 {
+    let count = count as u32;
+    let one = random.below(count.max(1) as usize) as u32;
+    let high = 1 << random.between(8, 31);
+    random.one(&[
+        count,
+        count + 1,
+        32,
+        255,
+        256,
+        high + one,
+        u32::MAX,
+        1 << 31,
+    ])
+}
+
+/// The size of the next round's book: mostly small, as most faults show on small books.
+pub fn next_size(random: &mut Random) -> Size {
+    random.one(&[
+        Size::Tiny,
+        Size::Tiny,
+        Size::Tiny,
+        Size::Small,
+        Size::Small,
+        Size::Small,
+        Size::Middle,
+        Size::Large,
+    ])
+}

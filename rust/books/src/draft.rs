@@ -1,0 +1,194 @@
+//! A book before it is bytes.
+
+use std::collections::BTreeSet;
+
+/// The size of a block.
+pub const BLOCK: usize = 512;
+
+/// What a book is to say, by its numbers.
+#[derive(Clone, Debug, Default, PartialEq, Eq)]
+pub struct Draft {
+    /// The parent of each user category.
+    pub users: Vec<u8>,
+    /// The parent and the own operations of each data category.
+    pub data: Vec<(u8, u16)>,
+    /// The label of each column.
+    pub columns: Vec<u8>,
+    /// The operation of each function.
+    pub functions: Vec<u8>,
+    /// The rules.
+    pub rules: Vec<Rule>,
+}
+
+/// A rule of a draft.
+#[derive(Clone, Debug, Default, PartialEq, Eq)]
+pub struct Rule {
+    /// The user category.
+    pub user: u8,
+    /// The excluded users.
+    pub excluded: Vec<u8>,
+    /// One to three references.
+    pub references: Vec<Reference>,
+    /// The three masks of each restriction.
+    pub restrictions: Vec<[u16; 3]>,
+}
+
+/// A reference of a draft.
+#[derive(Clone, Debug, Default, PartialEq, Eq)]
+pub struct Reference {
+    /// The data category.
+    pub category: u8,
+    /// 1 projection, 2 condition, 3 either.
+    pub action: u8,
+    /// The excluded categories.
+    pub excluded: Vec<u8>,
+}
+
+impl Draft {
+    /// The book as sealed bytes.
+    pub fn bytes(&self) -> Vec<u8> {
+        let mut data = Vec::new();
+        for &(parent, own) in &self.data {
+            data.push(parent);
+            data.extend(own.to_be_bytes());
+        }
+        let mut book = block(1, self.users.len(), &self.users);
+        book.extend(block(2, self.data.len(), &data));
+        book.extend(block(3, self.columns.len(), &self.columns));
+        book.extend(block(4, self.functions.len(), &self.functions));
+        for rule in &self.rules {
+            book.extend(rule.block());
+        }
+        book
+    }
+
+    /// The parent of each data category.
+    pub fn parents(&self) -> Vec<u8> {
+        self.data.iter().map(|&(parent, _)| parent).collect()
+    }
+
+    /// The operations that a data category supports.
+    pub fn supported(&self, category: u8) -> u16 {
+        let (parent, own) = self.data[usize::from(category)];
+        match category {
+            0 => own,
+            _ => own | self.supported(parent),
+        }
+    }
+
+    /// The leaves of a reference.
+    pub fn leaves_of(&self, reference: &Reference) -> BTreeSet<u8> {
+        let parents = self.parents();
+        let out = |leaf: &u8| {
+            reference
+                .excluded
+                .iter()
+                .any(|&x| under(&parents, *leaf, x))
+        };
+        leaves(&parents)
+            .into_iter()
+            .filter(|&leaf| under(&parents, leaf, reference.category))
+            .filter(|leaf| !out(leaf))
+            .collect()
+    }
+
+    /// The same book with these rules alone, in this order.
+    pub fn with_rules(&self, rules: &[usize]) -> Draft {
+        let rules = rules.iter().map(|&r| self.rules[r].clone()).collect();
+        Draft {
+            rules,
+            ..self.clone()
+        }
+    }
+}
+
+impl Rule {
+    /// The rule as a sealed block.
+    pub fn block(&self) -> Vec<u8> {
+        let mut block = vec![0; BLOCK];
+        block[0] = 5;
+        block[1] = self.references.len() as u8;
+        block[2] = self.user;
+        put_list(&mut block, 3, &self.excluded);
+        block[8] = self.restrictions.len() as u8;
+        for (i, reference) in self.references.iter().enumerate() {
+            let start = 16 + 16 * i;
+            block[start] = reference.category;
+            block[start + 1] = reference.action;
+            put_list(&mut block, start + 2, &reference.excluded);
+        }
+        for (j, masks) in self.restrictions.iter().enumerate() {
+            let bytes: Vec<u8> = masks.iter().flat_map(|m| m.to_be_bytes()).collect();
+            block[64 + 6 * j..70 + 6 * j].copy_from_slice(&bytes);
+        }
+        seal(&mut block);
+        block
+    }
+}
+
+fn put_list(block: &mut [u8], count: usize, list: &[u8]) {
+    block[count] = list.len() as u8;
+    block[count + 1..count + 1 + list.len()].copy_from_slice(list);
+}
+
+fn block(kind: u8, count: usize, fields: &[u8]) -> Vec<u8> {
+    let mut block = vec![0; BLOCK];
+    block[0] = kind;
+    block[1] = count as u8;
+    block[2..2 + fields.len()].copy_from_slice(fields);
+    seal(&mut block);
+    block
+}
+
+/// Writes the check of one block.
+pub fn seal(block: &mut [u8]) {
+    let check = check_of(block);
+    block[510..512].copy_from_slice(&check.to_be_bytes());
+}
+
+/// The check that a block should carry.
+pub fn check_of(block: &[u8]) -> u16 {
+    let terms = block[..510].iter().zip(1u32..);
+    let sum: u32 = terms.map(|(&byte, weight)| weight * u32::from(byte)).sum();
+    (sum % 65_521) as u16
+}
+
+/// Seals every whole block of a book.
+pub fn seal_all(book: &mut [u8]) {
+    book.chunks_exact_mut(BLOCK).for_each(seal);
+}
+
+/// Is a category the other one or below it?
+pub fn under(parents: &[u8], mut lower: u8, upper: u8) -> bool {
+    while lower > upper {
+        lower = parents[usize::from(lower)];
+    }
+    lower == upper
+}
+
+/// All leaves of a hierarchy.
+pub fn leaves(parents: &[u8]) -> Vec<u8> {
+    let named = |c: u8| parents[1..].contains(&c);
+    (0..parents.len() as u8).filter(|&c| !named(c)).collect()
+}
+
+/// All categories below a category, itself not among them.
+pub fn below(parents: &[u8], category: u8) -> Vec<u8> {
+    (category + 1..parents.len() as u8)
+        .filter(|&c| under(parents, c, category))
+        .collect()
+}
+
+#[cfg(test)]
+mod tests {
+    use super::*;
+
+    #[test]
+    fn families() {
+        let parents = [0, 0, 1, 1, 0];
+        assert_eq!(leaves(&parents), [2, 3, 4]);
+        assert_eq!(leaves(&[0]), [0]);
+        assert_eq!(below(&parents, 1), [2, 3]);
+        assert!(under(&parents, 3, 0) && !under(&parents, 4, 1));
+    }
+}

@@ -1,0 +1,25 @@
+//! Books, plans and calls to try an engine with: random ones by a seed, and named ones.
+//!
+//! The same seed gives the same books on every machine.
+//!
+//! ```
+//! use books::{valid, Random};
+//! let one = valid::draft(&mut Random::new(7), valid::Size::Small);
+//! let two = valid::draft(&mut Random::new(7), valid::Size::Small);
+//! assert_eq!(one.bytes(), two.bytes());
+//! ```
+#![forbid(unsafe_code)]
+#![warn(missing_docs)]
+
+pub mod case;
+pub mod change;
+pub mod draft;
+pub mod named;
+pub mod plans;
+pub mod random;
+pub mod relatives;
+pub mod valid;
+
+pub use case::Case;
+pub use draft::Draft;
+pub use random::Random;

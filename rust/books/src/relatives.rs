@@ -1,0 +1,172 @@
+//! Rules made from a rule: equal to it, stronger, weaker, or several that cover it together.
+
+use crate::draft::{below, Draft, Reference, Rule};
+use crate::random::Random;
+use crate::valid;
+
+/// One or more relatives of a rule, all sound where the rule is.
+pub fn some(random: &mut Random, draft: &Draft, rule: &Rule) -> Vec<Rule> {
+    match random.below(12) {
+        0 => vec![rule.clone()],
+        1 => vec![reordered(random, rule)],
+        2 => vec![stricter(random, rule)],
+        3 => vec![looser(random, draft, rule)],
+        4 => vec![narrower(random, draft, rule)],
+        5 => vec![fewer_references(random, rule)],
+        _ => parts(random, draft, rule),
+    }
+}
+
+/// Weaker rules that often cover the rule together.
+pub fn parts(random: &mut Random, draft: &Draft, rule: &Rule) -> Vec<Rule> {
+    match random.below(6) {
+        0 => by_action(random, rule),
+        1 => by_child(random, draft, rule),
+        2 => by_user(draft, rule),
+        3 | 4 => by_mask(random, draft, rule),
+        _ => by_exclusion(random, draft, rule),
+    }
+}
+
+/// The references in another order, the masks with them.
+fn reordered(random: &mut Random, rule: &Rule) -> Rule {
+    let mut order: Vec<usize> = (0..rule.references.len()).collect();
+    random.shuffle(&mut order);
+    keep(rule, &order)
+}
+
+/// The rule with some of its references, in this order.
+fn keep(rule: &Rule, order: &[usize]) -> Rule {
+    let references = order.iter().map(|&i| rule.references[i].clone());
+    let masks = |old: &[u16; 3]| {
+        let mut new = [0; 3];
+        order
+            .iter()
+            .enumerate()
+            .for_each(|(to, &from)| new[to] = old[from]);
+        new
+    };
+    Rule {
+        references: references.collect(),
+        restrictions: rule.restrictions.iter().map(masks).collect(),
+        ..rule.clone()
+    }
+}
+
+fn stricter(random: &mut Random, rule: &Rule) -> Rule {
+    let mut new = rule.clone();
+    if !new.restrictions.is_empty() {
+        new.restrictions
+            .remove(random.below(rule.restrictions.len()));
+    }
+    new
+}
+
+fn looser(random: &mut Random, draft: &Draft, rule: &Rule) -> Rule {
+    let mut new = rule.clone();
+    if new.restrictions.len() < 8 {
+        let restriction = valid::restriction(random, draft, &rule.references);
+        new.restrictions.push(restriction);
+    }
+    new
+}
+
+/// A reference goes down to a lower category, which supports no less.
+fn narrower(random: &mut Random, draft: &Draft, rule: &Rule) -> Rule {
+    let place = random.below(rule.references.len());
+    let lower = below(&draft.parents(), rule.references[place].category);
+    match random.pick(&lower) {
+        Some(category) => with_category(draft, rule, place, category),
+        None => rule.clone(),
+    }
+}
+
+/// A reference goes to a category below, with those of its exclusions that are still below.
+fn with_category(draft: &Draft, rule: &Rule, place: usize, category: u8) -> Rule {
+    let mut new = rule.clone();
+    let lower = below(&draft.parents(), category);
+    let leaves = draft.leaves_of(&rule.references[place]);
+    let reference = &mut new.references[place];
+    reference.category = category;
+    reference.excluded.retain(|x| lower.contains(x));
+    // A category inside an exclusion would bring back leaves that the rule left out.
+    let sound = draft.leaves_of(reference).is_subset(&leaves);
+    if sound {
+        new
+    } else {
+        rule.clone()
+    }
+}
+
+fn fewer_references(random: &mut Random, rule: &Rule) -> Rule {
+    let place = random.below(rule.references.len());
+    keep(rule, &[place])
+}
+
+fn by_action(random: &mut Random, rule: &Rule) -> Vec<Rule> {
+    let place = random.below(rule.references.len());
+    let with = |action: u8| {
+        let mut new = rule.clone();
+        new.references[place].action = action;
+        new
+    };
+    vec![with(1), with(2)]
+}
+
+/// One rule for each child of a reference's category.
+fn by_child(random: &mut Random, draft: &Draft, rule: &Rule) -> Vec<Rule> {
+    let place = random.below(rule.references.len());
+    let category = rule.references[place].category;
+    children(&draft.parents(), category)
+        .into_iter()
+        .map(|child| with_category(draft, rule, place, child))
+        .collect()
+}
+
+fn children(parents: &[u8], category: u8) -> Vec<u8> {
+    (1..parents.len() as u8)
+        .filter(|&c| parents[usize::from(c)] == category)
+        .collect()
+}
+
+/// One rule for each child of the user category.
+fn by_user(draft: &Draft, rule: &Rule) -> Vec<Rule> {
+    children(&draft.users, rule.user)
+        .into_iter()
+        .map(|user| Rule {
+            user,
+            excluded: vec![],
+            ..rule.clone()
+        })
+        .collect()
+}
+
+/// Two rules that allow one operation more each, not the same one.
+fn by_mask(random: &mut Random, draft: &Draft, rule: &Rule) -> Vec<Rule> {
+    let place = random.below(rule.references.len());
+    let supported = draft.supported(rule.references[place].category);
+    let parts = random.some_of(supported);
+    let with = |more: u16| {
+        let mut new = rule.clone();
+        for masks in &mut new.restrictions {
+            if masks[place] != 0 {
+                masks[place] |= more;
+            }
+        }
+        new
+    };
+    vec![with(parts), with(supported & !parts)]
+}
+
+/// One rule without a lower category, one with it alone.
+fn by_exclusion(random: &mut Random, draft: &Draft, rule: &Rule) -> Vec<Rule> {
+    let place = random.below(rule.references.len());
+    let old: &Reference = &rule.references[place];
+    let lower = below(&draft.parents(), old.category);
+    let Some(out) = random.pick(&lower).filter(|_| old.excluded.len() < 8) else {
+        return vec![rule.clone()];
+    };
+    let mut without = rule.clone();
+    without.references[place].excluded.push(out);
+    vec![without, with_category(draft, rule, place, out)]
+}

@@ -1,0 +1,115 @@
+//! The five calls: what is refused, in document 01's order, and what is answered.
+
+use crate::access::{Access, Action};
+use crate::book::Book;
+use crate::idle::{self, Found};
+use crate::refusal::*;
+use crate::{block, breaking, path, plan, reading, shown};
+
+/// **Book check.** "Otherwise accepted, with the number of rules."
+pub fn check(book: &[u8]) -> Result<u32, Refusal> {
+    let book = reading::read(book)?;
+    Ok(book.rules.len() as u32)
+}
+
+/// **Seal.** "10, not 512 bytes. Otherwise the check is written, other bytes unchanged."
+pub fn seal(bytes: &mut [u8]) -> Result<(), Refusal> {
+    if bytes.len() != block::SIZE {
+        return Err(Refusal::of(BLOCK_LENGTH));
+    }
+    block::write_check(bytes);
+    Ok(())
+}
+
+/// **Flows.** "Otherwise bit d of word 16 × s + k is set exactly when (s, d, k) is an access, s
+/// being 0 for projection, 1 for condition."
+pub fn flows(book: &[u8], plan: &[u8], words: &mut [u64]) -> Result<(), Refusal> {
+    let book = reading::read(book)?;
+    let rows = plan::read(plan, &book)?;
+    if words.len() != 32 {
+        return Err(Refusal::of(WORDS_LENGTH));
+    }
+    words.fill(0);
+    for access in path::accesses(&book, &rows) {
+        words[word(&access)] += 2u64.pow(access.leaf as u32);
+    }
+    Ok(())
+}
+
+/// "word 16 × s + k"
+fn word(access: &Access) -> usize {
+    let s = match access.action {
+        Action::Projection => 0,
+        Action::Condition => 1,
+    };
+    16 * s + usize::from(access.operation)
+}
+
+/// **Judge.** "Otherwise a 32-bit mask, bit r for rule r."
+pub fn judge(book: &[u8], user: u32, plan: &[u8]) -> Result<u32, Refusal> {
+    let book = reading::read(book)?;
+    let user = a_user(&book, user).ok_or(Refusal::of(NO_USER))?;
+    let rows = plan::read(plan, &book)?;
+    let accesses = path::accesses(&book, &rows);
+    let broken = breaking::broken(&book, user, &accesses);
+    Ok(broken.into_iter().map(|r| 2u32.pow(r as u32)).sum())
+}
+
+/// "A user is a leaf of block 0."
+fn a_user(book: &Book, user: u32) -> Option<usize> {
+    let user = usize::try_from(user).ok()?;
+    book.users.is_leaf(user).then_some(user)
+}
+
+/// **Idle.** "Otherwise idle, buffer unchanged; or user and row count, the plan at the buffer's
+/// front and the rest unchanged." `None` is idle.
+pub fn idle(book: &[u8], rule: u32, buffer: &mut [u8]) -> Result<Option<(u32, u32)>, Refusal> {
+    let answer = idle_within(book, rule, buffer, u64::MAX);
+    answer.expect("no search takes so many steps")
+}
+
+/// Idle by trying every user and every choice, for small books.
+pub fn idle_naive(
+    book: &[u8],
+    rule: u32,
+    buffer: &mut [u8],
+) -> Result<Option<(u32, u32)>, Refusal> {
+    let (book, rule) = ready(book, rule, buffer)?;
+    Ok(show(&book, idle::naive(&book, rule), buffer))
+}
+
+/// Idle, or nothing when the search takes more than so many steps; the buffer is then unchanged.
+pub fn idle_within(
+    book: &[u8],
+    rule: u32,
+    buffer: &mut [u8],
+    steps: u64,
+) -> Option<Result<Option<(u32, u32)>, Refusal>> {
+    match ready(book, rule, buffer) {
+        Err(refusal) => Some(Err(refusal)),
+        Ok((book, rule)) => {
+            let found = idle::within(&book, rule, steps)?;
+            Some(Ok(show(&book, found, buffer)))
+        }
+    }
+}
+
+/// "Book refusals; 24, no such rule; 25, buffer under 36 bytes."
+fn ready(book: &[u8], rule: u32, buffer: &[u8]) -> Result<(Book, usize), Refusal> {
+    let book = reading::read(book)?;
+    let rule = usize::try_from(rule).ok().filter(|&r| r < book.rules.len());
+    let rule = rule.ok_or(Refusal::of(NO_RULE))?;
+    if buffer.len() < 36 {
+        return Err(Refusal::of(SHORT_BUFFER));
+    }
+    Ok((book, rule))
+}
+
+/// The user and row count, with the plan written to the buffer's front.
+fn show(book: &Book, found: Found, buffer: &mut [u8]) -> Option<(u32, u32)> {
+    let (user, choice) = found?;
+    let rows = shown::plan(book, &choice);
+    let bytes = shown::bytes(&rows);
+    buffer[..bytes.len()].copy_from_slice(&bytes);
+    Some((user as u32, rows.len() as u32))
+}

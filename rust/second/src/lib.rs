@@ -1,0 +1,33 @@
+//! A second implementation of the five calls of the policy engine.
+//!
+//! It is written from document 01's sentences, each quoted where it is followed, with ordinary
+//! sets, explicit paths and explicit choices. It is made to be read and believed, not to be quick:
+//! the engine is tried against it.
+//!
+//! ```
+//! let book = books::named::small_shop().bytes();
+//! assert_eq!(second::check(&book), Ok(3));
+//! ```
+#![forbid(unsafe_code)]
+#![warn(missing_docs)]
+
+pub mod access;
+pub mod alike;
+pub mod block;
+pub mod book;
+pub mod breaking;
+pub mod choice;
+pub mod hierarchy;
+pub mod idle;
+pub mod operation;
+pub mod path;
+pub mod plan;
+pub mod reading;
+pub mod refusal;
+pub mod rule;
+pub mod shown;
+
+mod calls;
+
+pub use calls::{check, flows, idle, idle_naive, idle_within, judge, seal};
+pub use refusal::Refusal;

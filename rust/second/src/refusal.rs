@@ -1,0 +1,56 @@
+//! Why a call refuses.
+
+/// A refusal: its number, and its place. "Places not named are 0."
+#[derive(Clone, Copy, Debug, PartialEq, Eq)]
+pub struct Refusal {
+    /// Document 01's number.
+    pub number: u32,
+    /// The block or the row, where document 01 names one.
+    pub place: u32,
+}
+
+impl Refusal {
+    /// A refusal whose place is not named.
+    pub fn of(number: u32) -> Refusal {
+        Refusal { number, place: 0 }
+    }
+
+    /// A refusal at a block or a row.
+    pub fn at(number: u32, place: usize) -> Refusal {
+        let place = u32::try_from(place).expect("blocks and rows are few");
+        Refusal { number, place }
+    }
+}
+
+/// "1: length not 512 times 4 to 36, place 0."
+pub const BOOK_LENGTH: u32 = 1;
+/// "2: lowest block with a wrong check."
+pub const WRONG_CHECK: u32 = 2;
+/// "3: lowest block of the wrong kind."
+pub const WRONG_KIND: u32 = 3;
+/// "4, a count outside its bounds (too low or too high) or a byte that should be zero and isn't"
+pub const COUNT_OR_ZERO: u32 = 4;
+/// "5, parent or own-operation law"
+pub const PARENT_OR_OWN: u32 = 5;
+/// "6, a label that is no leaf and not 255, or a function above 15"
+pub const LABEL_OR_FUNCTION: u32 = 6;
+/// "7, a rule's category number, action or exclusion"
+pub const RULE_NUMBERS: u32 = 7;
+/// "8, references sharing a leaf"
+pub const SHARED_LEAF: u32 = 8;
+/// "9, a mask with bit 0, an unsupported operation or a set bit for an absent reference"
+pub const MASK: u32 = 9;
+/// "10, not 512 bytes."
+pub const BLOCK_LENGTH: u32 = 10;
+/// "20, the user is no leaf"
+pub const NO_USER: u32 = 20;
+/// "21, plan length not a multiple of 4 or above 256"
+pub const PLAN_LENGTH: u32 = 21;
+/// "22, lowest faulty row, place the row"
+pub const FAULTY_ROW: u32 = 22;
+/// "23, buffer not 32 words"
+pub const WORDS_LENGTH: u32 = 23;
+/// "24, no such rule"
+pub const NO_RULE: u32 = 24;
+/// "25, buffer under 36 bytes"
+pub const SHORT_BUFFER: u32 = 25;

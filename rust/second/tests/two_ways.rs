@@ -1,0 +1,101 @@
+//! Where there are two ways to an answer, both give it, on small random books.
+
+use books::valid::{draft, Size};
+use books::{plans, Random};
+use second::{idle, path, plan, reading};
+
+#[test]
+fn accesses_by_paths_and_by_rows() {
+    let mut random = Random::new(11);
+    let mut compared = 0;
+    for _ in 0..1_500 {
+        let draft = draft(&mut random, Size::Tiny);
+        let book = reading::read(&draft.bytes()).expect("the draft is sound");
+        let mut bytes = plans::sound(&mut random, &draft);
+        bytes.truncate(4 * 12);
+        let rows = plan::read(&bytes, &book).expect("the plan is sound");
+        let by_paths = path::accesses_by_paths(&book, &rows);
+        assert_eq!(by_paths, path::accesses_by_rows(&book, &rows));
+        assert_eq!(by_paths, path::accesses(&book, &rows));
+        compared += by_paths.len();
+    }
+    assert!(compared > 1_000, "only {compared} accesses compared");
+}
+
+#[test]
+fn idle_naive_and_pruned() {
+    let mut random = Random::new(12);
+    let [mut found, mut none] = [0, 0];
+    for _ in 0..600 {
+        let draft = draft(&mut random, Size::Tiny);
+        let book = reading::read(&draft.bytes()).expect("the draft is sound");
+        for rule in 0..book.rules.len() {
+            if idle::choices(&book, rule) > 2_000 {
+                continue;
+            }
+            let naive = idle::naive(&book, rule);
+            found += usize::from(naive.is_some());
+            none += usize::from(naive.is_none());
+            assert_eq!(idle::within(&book, rule, u64::MAX), Some(naive));
+        }
+    }
+    assert!(found > 100 && none > 100, "{found} needed, {none} idle");
+}
+
+/// A search that runs out of steps says nothing and leaves the buffer.
+#[test]
+fn idle_gives_up() {
+    let book = books::named::small_shop().bytes();
+    let mut buffer = [3; 36];
+    assert_eq!(second::idle_within(&book, 0, &mut buffer, 1), None);
+    assert_eq!(buffer, [3; 36]);
+}
+
+/// Every sound draft is accepted, with its number of rules.
+#[test]
+fn sound_drafts_are_accepted() {
+    let mut random = Random::new(13);
+    for size in [Size::Tiny, Size::Small, Size::Middle, Size::Large] {
+        for _ in 0..60 {
+            let draft = draft(&mut random, size);
+            let rules = draft.rules.len() as u32;
+            assert_eq!(second::check(&draft.bytes()), Ok(rules), "{draft:?}");
+        }
+    }
+}
+
+#[test]
+fn named_books_are_accepted() {
+    for (name, draft, rule) in books::named::all() {
+        let rules = draft.rules.len() as u32;
+        assert_eq!(second::check(&draft.bytes()), Ok(rules), "{name}");
+        assert!(rule < rules);
+    }
+}
+
+fn needed(draft: &books::Draft) -> bool {
+    let answer = second::idle_within(&draft.bytes(), 0, &mut [0; 36], 1_000_000);
+    matches!(answer, Some(Ok(Some(_))))
+}
+
+/// In the book of twenty no rule alone covers rule 0, nor do the others without one of the twenty.
+#[test]
+fn twenty_are_needed_together() {
+    let (draft, rule) = books::named::twenty();
+    assert_eq!((draft.rules.len(), rule), (32, 0));
+    for other in 1..32 {
+        assert!(needed(&draft.with_rules(&[0, other])), "{other} covers 0");
+    }
+    let parts = (1..32).filter(|&r| draft.rules[r].references[0].category > 3);
+    let parts: Vec<usize> = parts.collect();
+    assert_eq!(parts.len(), 20);
+    let group = draft.leaves_of(&draft.rules[0].references[0]);
+    for part in parts {
+        let rest: Vec<usize> = (0..32).filter(|&r| r != part).collect();
+        let mut fewer = draft.with_rules(&rest);
+        // Fewer columns, fewer choices: what is needed with them is needed with all.
+        let leaf = draft.rules[part].references[0].category;
+        fewer.columns.retain(|c| !group.contains(c) || *c == leaf);
+        assert!(needed(&fewer), "the rest without {part} covers 0");
+    }
+}
