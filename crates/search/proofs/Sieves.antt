@@ -13,7 +13,7 @@ use borrow.Author.Tests.{not-true, eqb-true, eqb-false, eq-eqb, ne-eqb, lt-ltb, 
 use Rattle.book.specs.Lists.{any, upTo}
 use Rattle.book.specs.Sets.{has, WordOf}
 use Rattle.book.proofs.Lists.{and-true, and-left, and-right, and-end, and-false, or-neither, or-rest, or-true}
-use Rattle.book.proofs.Members.{has-zero, has-or, has-minus, has-above}
+use Rattle.book.proofs.Members.{has-zero, has-or, has-minus, has-above, has-and}
 use Rattle.verdicts.proofs.Quantifiers.{any-wider, at-any}
 use Rattle.search.specs.Places.{inPlaces}
 use Rattle.search.specs.Table.{meets}
@@ -298,6 +298,12 @@ less-smaller word one q lw lo small single h =
     let other : bitAnd word ((2 ^ 64 - 1) - one) ≡ word → ⊥ =
     λ e. both h (ap (λ (w : ℕ). has w q) (sym e) ∙ gone) in
     omega arith
+
+-- what is left of a set is in it
+pub later-member :
+    (word out q : ℕ) → has (bitAnd word ((2 ^ 64 - 1) - out)) q ≡ true → has word q ≡ true
+later-member word out q h =
+    and-left (has word q) (has ((2 ^ 64 - 1) - out) q) (sym (has-and word ((2 ^ 64 - 1) - out) q) ∙ h)
 
 -- The rules that wait for their turn
 

@@ -228,11 +228,11 @@ fn alone(
     sift(t, rules, NOWHERE, NOWHERE, from)
 }
 
-// The first three places that break r and no rule of a set.
-pub fn search(t: &[u64], r: u8, n: u8, had: [u64; 32], rules: u64) -> Sought
+// The first three places that break r and no rule of a set; rule `last` has its turn first.
+pub fn search(t: &[u64], r: u8, n: u8, had: [u64; 32], rules: u64, last: u8) -> Sought
     ensures { λ s. ⌜ Searched (solves (now (t .entry)) r n had) rules 0 s ⌝ }
 {
-    let first = alone(t, r, n, had, rules, 0, 0, 0);
+    let first = alone(t, r, n, had, rules, 0, 0, last);
     let second = alone(t, r, n, had, rules, 1, first.rules, first.last);
     let third = alone(t, r, n, had, rules, 2, second.rules, second.last);
     let firsts = first.places;

@@ -4,11 +4,12 @@ use crate::closing::less_closing;
 use crate::places::is_empty;
 use crate::places::lowest;
 use crate::places::same;
+use book::sets::below;
 use book::sets::contains;
 use book::sets::single;
 ghost use mathlib.Core.Path.{_≡_};
 ghost use mathlib.Core.Bool.{true, false};
-ghost use Prim.Native.Nat.{ℕ, _<_};
+ghost use Prim.Native.Nat.{ℕ, _≤_, _<_};
 ghost use lib.ListN.{getD};
 ghost use Rattle.book.specs.Sets.{has};
 ghost use Rattle.search.specs.Closing.{closes, Turned, Sifted, Skipping};
@@ -52,13 +53,25 @@ fn touches(t: &[u64], q: u8, b: usize, c: usize) -> bool
     (first | second | third) != 0
 }
 
-// A set of rules, less those before the first that has anything to take.
-fn from_touching(t: &[u64], rules: u64, b: usize, c: usize) -> u64
+// The first rule of a set after the one that took last, or else the first: so each has its turn in
+// time, and one that takes all alone is soon the one that took last.
+fn next_after(rules: u64, last: u8) -> usize
+    ensures { λ r. ⌜ (r ≤ 64) × ((rules ≡ 0 → ⊥) → (r < 64) × (has rules r ≡ true)) ⌝ }
+{
+    let later = rules & !below(last as usize + 1);
+    if later != 0 {
+        return lowest(later);
+    }
+    lowest(rules)
+}
+
+// A set of rules, less those before the next that has anything to take.
+fn from_touching(t: &[u64], rules: u64, b: usize, c: usize, last: u8) -> u64
     ensures { λ r. ⌜ Skipping (now (t .entry)) rules b c r ⌝ }
 {
     let mut waiting = rules;
     while waiting != 0 {
-        let q = lowest(waiting);
+        let q = next_after(waiting, last);
         if touches(t, q as u8, b, c) {
             return waiting;
         }
@@ -98,15 +111,15 @@ pub fn sift(t: &[u64], rules: u64, b: usize, c: usize, before: Remaining) -> Rem
     if is_empty(places) {
         return rest;
     }
-    let mut waiting = from_touching(t, rules % 4294967296, b, c);
+    let mut waiting = from_touching(t, rules % 4294967296, b, c, rest.last);
     while waiting != 0 {
-        let q = lowest(waiting) as u8;
+        let q = next_after(waiting, rest.last) as u8;
         let next = turn(t, q, b, c, rest);
         rest = next;
         if emptied(rest, q) {
             return rest;
         }
-        waiting = from_touching(t, waiting & !single(q as usize), b, c);
+        waiting = from_touching(t, waiting & !single(q as usize), b, c, rest.last);
     }
     rest
 }

@@ -61,7 +61,7 @@ fn settled(masks: [u64; 32], rules: u64) -> bool
     false
 }
 
-// The search for user u, given masks from the users before.
+// The search for user u, given the masks and the last rule from the users before.
 fn search_for(
     t: &[u64],
     r: u8,
@@ -70,6 +70,7 @@ fn search_for(
     covered: [u64; 32],
     masks: [u64; 32],
     u: u8,
+    last: u8,
 ) -> Sought
     ensures { λ s. ⌜ (((i : ℕ) → i < 32 → Settles (now (t .entry)) r n had (getD masks i 0)) → SearchedFor (now (t .entry)) r n had covered u s) ⌝ }
 {
@@ -77,16 +78,16 @@ fn search_for(
     if !covers(covered, r, u) {
         return Sought::Nothing {
             rules: UNSETTLED,
-            last: 0,
+            last,
         };
     }
     if settled(masks, rules) {
         return Sought::Nothing {
             rules: UNSETTLED,
-            last: 0,
+            last,
         };
     }
-    search(t, r, n, had, rules)
+    search(t, r, n, had, rules, last)
 }
 
 // The first user, and the first choice for it, by the tables.
@@ -94,8 +95,9 @@ pub fn first_user(t: &[u64], r: u8, n: u8, had: [u64; 32], covered: [u64; 32]) -
     ensures { λ s. ⌜ NeedsFirst (now (t .entry)) r n had covered s ⌝ }
 {
     let mut masks = [UNSETTLED; 32];
+    let mut last = 0u8;
     for u in 0..32u8 {
-        let sought = search_for(t, r, n, had, covered, masks, u);
+        let sought = search_for(t, r, n, had, covered, masks, u, last);
         match sought {
             Sought::Found {
                 first,
@@ -109,8 +111,9 @@ pub fn first_user(t: &[u64], r: u8, n: u8, had: [u64; 32], covered: [u64; 32]) -
                     third,
                 };
             }
-            Sought::Nothing { rules, last: _ } => {
+            Sought::Nothing { rules, last: next } => {
                 masks[u as usize] = rules;
+                last = next;
             }
         }
     }

@@ -8,10 +8,10 @@ use Rattle.search.proofs.sifting.from_touching.Statement.{statement}
 use Rattle.search.proofs.sifting.from_touching.Tie as tie
 
 abbrev Inv-loop : tie.InvT-loop
-Inv-loop t rules b c waiting₀ waiting = Skipping t rules b c waiting
+Inv-loop t rules b c last waiting₀ waiting = Skipping t rules b c waiting
 
 abbrev μ-loop : tie.MeasureT-loop
-μ-loop t rules b c waiting₀ waiting = waiting
+μ-loop t rules b c last waiting₀ waiting = waiting
 
 loop-holds : tie.Need-loop-holds Inv-loop μ-loop
 loop-holds c =
@@ -23,7 +23,7 @@ loop-less c =
     let a = c .before .before .before .before .before .before .before .args in
     let loop = c .before .before .before .before .before .loop in
     let fits : loop .waiting < 2 ^ 64 = omega (arith, loop .inv .fewer) in
-    let low = c .before .before .before .lowest in
+    let low = c .before .before .before .next-after in
     let found = low .ensures .1 (c .before .before .before .before .loop-test .taken) in
     less-smaller (loop .waiting) (c .single .result) (low .result) fits (search needs) (found .0) (c .single .ensures)
     (found .1)
@@ -33,7 +33,7 @@ loop-again c =
     let a = c .before .before .before .before .before .before .before .args in
     let loop = c .before .before .before .before .before .loop in
     let fits : loop .waiting < 2 ^ 64 = omega (arith, loop .inv .fewer) in
-    let low = c .before .before .before .lowest in
+    let low = c .before .before .before .next-after in
     skip-more (a .t .now) (a .rules) (a .b) (a .c) (loop .waiting) (c .single .result) (low .result) fits
     (search needs) (c .single .ensures) (c .before .before .touches .ensures (c .before .if1 .left)) (loop .inv)
 

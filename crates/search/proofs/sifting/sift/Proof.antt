@@ -33,7 +33,7 @@ returns-2 c =
     let first = c .before .before .before .before .before .before .before .before .before .before .again in
     let loop = c .before .before .before .before .before .loop in
     let turn = c .before .before .turn in
-    let low = c .before .before .before .lowest in
+    let low = c .before .before .before .next-after in
     let found = low .ensures .1 (c .before .before .before .before .loop-test .taken) in
     let rule = loop .inv .members (low .result) (found .1) in
     sifted-join (a .t .now) (a .rules) (a .b) (a .c) (λ q. false) (has (a .rules)) (a .before) (first .result)
@@ -47,7 +47,7 @@ returns-2 c =
 loop-less : tie.Need-loop-less Inv-loop μ-loop
 loop-less c =
     let loop = c .before .before .before .before .before .before .before .loop in
-    let low = c .before .before .before .before .before .lowest in
+    let low = c .before .before .before .before .before .next-after in
     let found = low .ensures .1 (c .before .before .before .before .before .before .loop-test .taken) in
     let one = c .before .single in
     let less =
@@ -62,7 +62,7 @@ loop-again c =
     let first = c .before .before .before .before .before .before .before .before .before .before .before .before .again in
     let loop = c .before .before .before .before .before .before .before .loop in
     let turn = c .before .before .before .before .turn in
-    let low = c .before .before .before .before .before .lowest in
+    let low = c .before .before .before .before .before .next-after in
     let found = low .ensures .1 (c .before .before .before .before .before .before .loop-test .taken) in
     let one = c .before .single in
     sieving-skip (a .t .now) (a .rules) (a .b) (a .c) (first .result) (turn .result) _ (c .from-touching2 .result)

@@ -8,10 +8,10 @@ use Rattle.search.proofs.users.first_user.Statement.{statement}
 use Rattle.search.proofs.users.first_user.Tie as tie
 
 abbrev Inv-loop : tie.InvT-loop
-Inv-loop t r n had covered masks₀ u₀ masks u = Users t r n had covered masks u
+Inv-loop t r n had covered masks₀ last₀ u₀ masks last u = Users t r n had covered masks u
 
 abbrev μ-loop : tie.MeasureT-loop
-μ-loop t r n had covered masks₀ u₀ masks u = 32 - u
+μ-loop t r n had covered masks₀ last₀ u₀ masks last u = 32 - u
 
 loop-holds : tie.Need-loop-holds Inv-loop μ-loop
 loop-holds c =

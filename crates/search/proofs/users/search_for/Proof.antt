@@ -10,7 +10,7 @@ use Rattle.search.proofs.users.search_for.Tie as tie
 returns : tie.Need-returns
 returns c settle =
     let a = c .before .before .before .before .args in
-    nothing-for (a .t .now) (a .r) (a .n) (a .had) (a .covered) (a .u) 0
+    nothing-for (a .t .now) (a .r) (a .n) (a .had) (a .covered) (a .u) (a .last)
     (uncovered (a .t .now) (a .r) (a .n) (a .had) (a .covered) (a .u)
     (sym (c .before .covers .ensures) ∙ not-true (c .before .covers .result) (c .if1 .taken)))
 
@@ -19,7 +19,7 @@ returns-2 c settle =
     let a = c .before .before .before .before .before .before .args in
     let rules = c .before .before .before .before .others in
     let found = c .before .settled .ensures (c .if2 .taken) in
-    nothing-for (a .t .now) (a .r) (a .n) (a .had) (a .covered) (a .u) 0
+    nothing-for (a .t .now) (a .r) (a .n) (a .had) (a .covered) (a .u) (a .last)
     (settled-none (a .t .now) (a .r) (a .n) (a .had) (a .covered) (a .u) (rules .result) (rules .ensures)
     (getD (a .masks) (found .0) 0) (settle (found .0) (found .1)) (found .2))
 
