@@ -1,4 +1,4 @@
-//! The engine's times, or nothing where the engine is left out.
+//! The engine's times and answers, or nothing where the engine is left out.
 
 use std::ops::Range;
 use std::time::Duration;
@@ -12,6 +12,7 @@ pub use without::*;
 mod with_engine {
     use super::{Duration, Range};
     use crate::clock::best;
+    use pspec::Idleness;
     use std::hint::black_box;
 
     pub fn check(book: &[u8]) -> Option<Duration> {
@@ -34,6 +35,16 @@ mod with_engine {
     pub fn idle(book: &[u8], rules: Range<u32>) -> Option<Duration> {
         let search = |rule: u32| pspec::idle(black_box(book), rule, &mut [0; 36]);
         Some(best(|| rules.clone().all(|rule| search(rule).is_ok())))
+    }
+
+    /// Does the engine say that this user is the first to need the rule, or that none does?
+    pub fn agrees(book: &[u8], rule: u32, needed: Option<u32>) -> bool {
+        let user = match pspec::idle(book, rule, &mut [0; 36]) {
+            Ok(Idleness::Idle) => None,
+            Ok(Idleness::Needed { user, .. }) => Some(user),
+            Err(_) => return false,
+        };
+        user == needed
     }
 }
 
@@ -59,5 +70,9 @@ mod without {
 
     pub fn idle(_: &[u8], _: Range<u32>) -> Option<Duration> {
         None
+    }
+
+    pub fn agrees(_: &[u8], _: u32, _: Option<u32>) -> bool {
+        true
     }
 }

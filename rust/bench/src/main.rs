@@ -1,8 +1,11 @@
-//! Times each call of the engine and of the second implementation, in one run, on the same bytes.
+//! Times each call of the engine and of the second implementation, in one run, on the same bytes,
+//! and counts the steps of the engine's search.
 #![forbid(unsafe_code)]
 
 mod calls;
 mod clock;
+mod places;
+mod steps;
 mod table;
 
 use books::{named, plans, Draft, Random};
@@ -19,6 +22,12 @@ const STEPS: u64 = 1_500_000;
 const CHOICES: u128 = 100_000;
 
 fn main() {
+    times();
+    println!();
+    counts();
+}
+
+fn times() {
     table::head();
     for (name, draft, rule) in named::all() {
         let hard = name.starts_with("hard");
@@ -37,6 +46,20 @@ fn main() {
         input.rules = all;
         idle(&input);
         idle_naive(&input);
+    }
+}
+
+/// Counts the steps for the rule asked about, of every book.
+fn counts() {
+    table::steps_head();
+    for (name, draft, rule) in named::all() {
+        let bytes = draft.bytes();
+        let book = reading::read(&bytes).expect("it is accepted");
+        let (steps, needed) = steps::count(&book, rule as usize);
+        let needed = needed.map(|user| user as u32);
+        // A model that answers otherwise has not gone the engine's way.
+        assert!(calls::agrees(&bytes, rule, needed), "{name}");
+        table::steps_row(&name, rule, &steps, needed);
     }
 }
 

@@ -200,9 +200,12 @@ fn some(random: &mut Random, mut of: Vec<u8>, n: usize) -> Vec<u8> {
 fn restrictions(random: &mut Random, n: usize, references: usize, all: u16) -> Vec<[u16; 3]> {
     let one = |random: &mut Random| {
         let mut masks = [0; 3];
-        for mask in &mut masks[..references] {
-            if random.chance(2, 3) {
-                *mask = random.some_of(all);
+        // a restriction of zero masks alone would make the rule idle by itself
+        while masks == [0; 3] {
+            for mask in &mut masks[..references] {
+                if random.chance(2, 3) {
+                    *mask = random.some_of(all);
+                }
             }
         }
         masks
