@@ -1,8 +1,8 @@
 #!/usr/bin/env bash
 # All tests. Every crate is proved from nothing, each must-fail edit is refused, and what the programs
 # print is compared with what they should (rt ci). Then, over the proved engine: the report's refusals,
-# the example in C, the Rust wrapper, and random books against a second implementation. The last line
-# is 'N passed, 0 failed'.
+# the example in C, the Rust wrapper, policies as text, and random books against a second
+# implementation. The last line is 'N passed, 0 failed'.
 set -euo pipefail
 cd "$(dirname "$0")"
 log=$(mktemp)
@@ -25,8 +25,6 @@ report() {
 rt ci | tee "$log"
 
 report=$PWD/target/bin/policyreport
-bash small-book.sh > "$folder/made"
-same "small.book is what small-book.sh writes" "$folder/made" crates/policyreport/data/small.book
 report "refused 1 block 0" "no file"
 : > "$folder/small.book"
 report "refused 1 block 0" "an empty file"

@@ -1,0 +1,214 @@
+//! A book by its numbers, and its blocks.
+
+use crate::names::Names;
+use pspec::Refusal;
+
+/// The size of a block.
+pub const BLOCK: usize = 512;
+/// The label of a column that has none.
+pub const UNLABELLED: u8 = 255;
+
+/// What a book says, by its numbers.
+#[derive(Clone, Debug, Default, PartialEq, Eq)]
+pub struct Book {
+    /// The parent of each user category.
+    pub users: Vec<u8>,
+    /// The data categories.
+    pub data: Vec<Category>,
+    /// The label of each column.
+    pub columns: Vec<u8>,
+    /// The operation of each function, 0 for none.
+    pub functions: Vec<u8>,
+    /// The rules.
+    pub rules: Vec<Rule>,
+}
+
+/// A data category.
+#[derive(Clone, Copy, Debug, Default, PartialEq, Eq)]
+pub struct Category {
+    /// The category above it.
+    pub parent: u8,
+    /// The mask of its own operations.
+    pub own: u16,
+}
+
+/// A rule.
+#[derive(Clone, Debug, Default, PartialEq, Eq)]
+pub struct Rule {
+    /// The user category.
+    pub user: u8,
+    /// The excluded users.
+    pub excluded: Vec<u8>,
+    /// One to three references.
+    pub references: Vec<Reference>,
+    /// The three masks of each restriction; no restriction forbids.
+    pub restrictions: Vec<[u16; 3]>,
+}
+
+/// A reference of a rule.
+#[derive(Clone, Debug, Default, PartialEq, Eq)]
+pub struct Reference {
+    /// The data category.
+    pub category: u8,
+    /// 1 projection, 2 condition, 3 access.
+    pub action: u8,
+    /// The excluded categories.
+    pub excluded: Vec<u8>,
+}
+
+impl Book {
+    /// The sealed blocks. Every list is short enough for its place: `policy` has seen to it.
+    pub fn bytes(&self) -> Vec<u8> {
+        let data: Vec<u8> = self.data.iter().flat_map(Category::bytes).collect();
+        let mut blocks = vec![
+            block(1, self.users.len(), &self.users),
+            block(2, self.data.len(), &data),
+            block(3, self.columns.len(), &self.columns),
+            block(4, self.functions.len(), &self.functions),
+        ];
+        blocks.extend(self.rules.iter().map(Rule::block));
+        for block in &mut blocks {
+            pspec::seal(block).expect("a block has 512 bytes");
+        }
+        blocks.concat()
+    }
+
+    /// Reads a book that the engine accepts.
+    pub fn read(bytes: &[u8]) -> Result<Book, Refusal> {
+        pspec::check(bytes)?;
+        let blocks: Vec<&[u8]> = bytes.chunks_exact(BLOCK).collect();
+        let fields =
+            |block: usize, width: usize| &blocks[block][2..2 + width * count(blocks[block])];
+        Ok(Book {
+            users: fields(0, 1).to_vec(),
+            data: fields(1, 3).chunks_exact(3).map(Category::read).collect(),
+            columns: fields(2, 1).to_vec(),
+            functions: fields(3, 1).to_vec(),
+            rules: blocks[4..].iter().map(|block| Rule::read(block)).collect(),
+        })
+    }
+
+    /// The parent of each data category.
+    pub fn parents(&self) -> Vec<u8> {
+        self.data.iter().map(|category| category.parent).collect()
+    }
+
+    /// The operations that a data category supports.
+    pub fn supported(&self, category: u8) -> u16 {
+        let Category { parent, own } = self.data[usize::from(category)];
+        match category {
+            0 => own,
+            _ => own | self.supported(parent),
+        }
+    }
+
+    /// The operations in the order in which the text of this book names them.
+    pub fn operations(&self) -> Vec<u8> {
+        let mut masks: Vec<u16> = self.data.iter().map(|category| category.own).collect();
+        masks.extend(self.functions.iter().map(|&k| (1 << k) & !1));
+        let restrictions = self.rules.iter().flat_map(|rule| &rule.restrictions);
+        masks.extend(restrictions.flatten());
+        let mut order = Vec::new();
+        for k in masks.into_iter().flat_map(bits) {
+            if !order.contains(&k) {
+                order.push(k);
+            }
+        }
+        order
+    }
+
+    /// Do these names number the operations as the text alone would?
+    pub fn in_order(&self, names: &Names) -> bool {
+        let all = 1..=names.operations.len() as u8;
+        self.operations().into_iter().eq(all)
+    }
+}
+
+impl Category {
+    fn bytes(&self) -> [u8; 3] {
+        let [high, low] = self.own.to_be_bytes();
+        [self.parent, high, low]
+    }
+
+    fn read(bytes: &[u8]) -> Category {
+        Category {
+            parent: bytes[0],
+            own: u16::from_be_bytes([bytes[1], bytes[2]]),
+        }
+    }
+}
+
+impl Rule {
+    fn block(&self) -> Vec<u8> {
+        let mut block = block(5, self.references.len(), &[self.user]);
+        put_list(&mut block[3..8], &self.excluded);
+        block[8] = self.restrictions.len() as u8;
+        for (reference, place) in self
+            .references
+            .iter()
+            .zip(block[16..64].chunks_exact_mut(16))
+        {
+            place[0] = reference.category;
+            place[1] = reference.action;
+            put_list(&mut place[2..], &reference.excluded);
+        }
+        for (masks, place) in self
+            .restrictions
+            .iter()
+            .zip(block[64..].chunks_exact_mut(6))
+        {
+            let bytes: Vec<u8> = masks.iter().flat_map(|mask| mask.to_be_bytes()).collect();
+            place.copy_from_slice(&bytes);
+        }
+        block
+    }
+
+    fn read(block: &[u8]) -> Rule {
+        let masks = |place: &[u8]| [0, 2, 4].map(|i| u16::from_be_bytes([place[i], place[i + 1]]));
+        let references = block[16..64].chunks_exact(16).take(count(block));
+        let restrictions = block[64..].chunks_exact(6).take(usize::from(block[8]));
+        Rule {
+            user: block[2],
+            excluded: list(&block[3..]),
+            references: references.map(Reference::read).collect(),
+            restrictions: restrictions.map(masks).collect(),
+        }
+    }
+}
+
+impl Reference {
+    fn read(place: &[u8]) -> Reference {
+        Reference {
+            category: place[0],
+            action: place[1],
+            excluded: list(&place[2..]),
+        }
+    }
+}
+
+/// The numbers of the set bits of a mask, lowest first.
+pub fn bits(mask: u16) -> impl Iterator<Item = u8> {
+    (0..16).filter(move |k| mask >> k & 1 == 1)
+}
+
+fn count(block: &[u8]) -> usize {
+    usize::from(block[1])
+}
+
+fn block(kind: u8, count: usize, fields: &[u8]) -> Vec<u8> {
+    let mut block = vec![0; BLOCK];
+    block[0] = kind;
+    block[1] = count as u8;
+    block[2..2 + fields.len()].copy_from_slice(fields);
+    block
+}
+
+/// A list with its count before it.
+fn put_list(place: &mut [u8], list: &[u8]) {
+    place[0] = list.len() as u8;
+    place[1..1 + list.len()].copy_from_slice(list);
+}
+
+fn list(place: &[u8]) -> Vec<u8> {
+    place[1..1 + usize::from(place[0])].to_vec()
+}

@@ -1,0 +1,190 @@
+//! Refusals of the engine in the words of a policy or a plan.
+//!
+//! The engine names the block or row and the kind of fault. What exactly is at fault there is found
+//! here by a second look, which decides nothing: if it finds nothing, the engine's own sentence
+//! stands. Refusals 1 to 5 come from no policy file, as `policy` keeps its counts and parents in
+//! bounds.
+
+use crate::book::{bits, Reference, Rule};
+use crate::hierarchy::{children, leaves, under};
+use crate::names::Names;
+use crate::plan::Plan;
+use crate::policy::Policy;
+use crate::rule::operations;
+use crate::text::{mistake, Mistake};
+use pspec::Refusal;
+
+/// Why the engine refuses the book of a policy, with the line at fault.
+pub fn book(refusal: Refusal, policy: &Policy) -> Mistake {
+    let block = refusal.place as usize;
+    let (line, found) = match block {
+        2 => column(policy),
+        0..=3 => (policy.lines.sections[block + 1], None),
+        _ => rule(refusal.number, block - 4, policy),
+    };
+    let sentence = refusal.reason().sentence().to_string();
+    let what = found.unwrap_or(sentence);
+    let what = format!("refused {}: {what}", refusal.number);
+    mistake(line, what)
+}
+
+/// The first column whose label is no leaf.
+fn column(policy: &Policy) -> (usize, Option<String>) {
+    let (parents, names) = (policy.book.parents(), &policy.names);
+    for (i, &label) in policy.book.columns.iter().enumerate() {
+        let below = children(&parents, label);
+        if !below.is_empty() {
+            let (column, label) = (&names.columns[i], &names.data[usize::from(label)]);
+            let below = named(&below, &names.data);
+            let what = format!(
+                "found the label {label} for the column {column}; \
+                 expected a category without others below it, and {label} has {below}"
+            );
+            return (policy.lines.columns[i], Some(what));
+        }
+    }
+    (policy.lines.sections[3], None)
+}
+
+fn rule(number: u32, r: usize, policy: &Policy) -> (usize, Option<String>) {
+    let Some(rule) = policy.book.rules.get(r) else {
+        return (policy.lines.sections[5], None);
+    };
+    let found = match number {
+        7 => exclusion(rule, policy),
+        8 => shared_leaf(rule, policy),
+        9 => unsupported(rule, policy),
+        _ => None,
+    };
+    (policy.lines.rules[r], found)
+}
+
+fn exclusion(rule: &Rule, policy: &Policy) -> Option<String> {
+    let (book, names) = (&policy.book, &policy.names);
+    let user = not_below(&book.users, rule.user, &rule.excluded, &names.users);
+    let data = |reference: &Reference| {
+        let excluded = &reference.excluded;
+        not_below(&book.parents(), reference.category, excluded, &names.data)
+    };
+    user.or_else(|| rule.references.iter().find_map(data))
+}
+
+/// The first excluded category that is not below the one referred to.
+fn not_below(parents: &[u8], of: u8, excluded: &[u8], names: &[String]) -> Option<String> {
+    let proper = |x: u8| x != of && under(parents, x, of);
+    let &wrong = excluded.iter().find(|&&x| !proper(x))?;
+    let (wrong, of) = (&names[usize::from(wrong)], &names[usize::from(of)]);
+    Some(format!(
+        "found {wrong} excluded from {of}; expected a category below {of}"
+    ))
+}
+
+/// The first two references with a leaf in common.
+fn shared_leaf(rule: &Rule, policy: &Policy) -> Option<String> {
+    let (parents, names) = (policy.book.parents(), &policy.names.data);
+    let sets = rule.references.iter();
+    let sets: Vec<Vec<u8>> = sets
+        .map(|reference| leaves(&parents, reference.category, &reference.excluded))
+        .collect();
+    for j in 1..sets.len() {
+        for i in 0..j {
+            let shared = sets[i].iter().find(|leaf| sets[j].contains(leaf));
+            if let Some(&leaf) = shared {
+                let name = |r: usize| &names[usize::from(rule.references[r].category)];
+                let leaf = &names[usize::from(leaf)];
+                return Some(format!(
+                    "found {leaf} under both {} and {}; expected references that share no leaf",
+                    name(i),
+                    name(j)
+                ));
+            }
+        }
+    }
+    None
+}
+
+/// The first operation that the category of its reference does not support.
+fn unsupported(rule: &Rule, policy: &Policy) -> Option<String> {
+    let (book, names) = (&policy.book, &policy.names);
+    for masks in &rule.restrictions {
+        for (mask, reference) in masks.iter().zip(&rule.references) {
+            let supported = book.supported(reference.category);
+            if let Some(k) = bits(mask & !supported).next() {
+                let category = &names.data[usize::from(reference.category)];
+                let expected = match supported {
+                    0 => format!("none, as {category} supports no operation"),
+                    _ => format!(
+                        "operations that it supports: {}",
+                        operations(supported, names)
+                    ),
+                };
+                let operation = names.operation(k);
+                return Some(format!(
+                    "found the operation {operation} for {category}; expected {expected}"
+                ));
+            }
+        }
+    }
+    None
+}
+
+/// Why the engine refuses a plan, with the line at fault.
+pub fn plan(refusal: Refusal, plan: &Plan) -> Mistake {
+    let count = plan.lines.len();
+    let (row, found) = match refusal.number {
+        21 => (64, Some(format!("found {count} rows; expected at most 64"))),
+        22 => (
+            refusal.place as usize,
+            wrong_row(plan, refusal.place as usize),
+        ),
+        _ => (0, None),
+    };
+    let sentence = refusal.reason().sentence().to_string();
+    let what = format!("refused {}: {}", refusal.number, found.unwrap_or(sentence));
+    let line = plan.lines.get(row).or(plan.lines.last());
+    mistake(line.copied().unwrap_or(1), what)
+}
+
+/// The first row named by this one that may not be.
+fn wrong_row(plan: &Plan, row: usize) -> Option<String> {
+    let rows: Vec<&[u8]> = plan.bytes.chunks_exact(4).collect();
+    let named: &[u8] = match rows.get(row)? {
+        [2, _, b, 255] => &[*b],
+        [2, _, b, c] => &[*b, *c],
+        [3, a, b, c] => &[*a, *b, *c],
+        [_, a, ..] => &[*a],
+        _ => return None,
+    };
+    for &other in named {
+        let other = usize::from(other);
+        if other >= row {
+            return Some(format!(
+                "found row {other} named by row {row}; expected a row above it"
+            ));
+        }
+        if rows[other][0] > 3 {
+            return Some(format!(
+                "found row {other} named by row {row}, which gives no value; \
+                 expected a column, a function or a choice"
+            ));
+        }
+    }
+    None
+}
+
+/// Why the engine takes a category for no user.
+pub fn no_user(category: u8, parents: &[u8], names: &Names) -> String {
+    let below = named(&children(parents, category), &names.users);
+    let name = &names.users[usize::from(category)];
+    format!(
+        "refused 20: found {name}; expected a user without others below it, and {name} has {below}"
+    )
+}
+
+fn named(categories: &[u8], names: &[String]) -> String {
+    let each: Vec<&str> = categories
+        .iter()
+        .map(|&i| names[usize::from(i)].as_str())
+        .collect();
+    each.join(", ")
+}

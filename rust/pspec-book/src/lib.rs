@@ -1,0 +1,43 @@
+//! Policies as text, over the safe wrapper of the engine.
+//!
+//! A policy file names users, data, columns, functions and rules; `build` makes the engine's blocks
+//! of it and `show` makes text of blocks again. `report` and `judge` put the engine's answers in
+//! the policy's names.
+//!
+//! All of this stands outside the proved core. The engine decides whether a book is accepted, which
+//! rules a plan breaks and which are idle; that the text means the blocks is this crate's word,
+//! which its tests try.
+//!
+//! ```
+//! let text = "
+//! users
+//!   Analyst
+//! data
+//!   All
+//!     Name
+//!     Price [avg]
+//! columns
+//!   price: Price
+//! rules
+//!   Analyst, [projection Price] => [{avg}]
+//! ";
+//! let policy = pspec_book::policy::read(text)?;
+//! let bytes = policy.build()?;
+//! assert_eq!(pspec::check(&bytes), Ok(1));
+//! # Ok::<(), pspec_book::text::Mistake>(())
+//! ```
+#![forbid(unsafe_code)]
+#![warn(missing_docs)]
+
+pub mod book;
+pub mod command;
+pub mod explain;
+pub mod hierarchy;
+pub mod judge;
+pub mod names;
+pub mod plan;
+pub mod policy;
+pub mod report;
+pub mod rule;
+pub mod show;
+pub mod text;

@@ -1,0 +1,136 @@
+//! A plan as text, one row a line.
+//!
+//! ```text
+//! 0 = column price           # a column's name, or a label: then its lowest column
+//! 1 = avg(0)                 # a function of one row or of two
+//! 2 = choose 0 ? 0 : 1       # the first row decides
+//! output 2
+//! where 1                    # a condition
+//! ```
+//!
+//! The number before `=` may be left out. Where it stands, it is checked: rows count from 0, and
+//! `output` and `where` are rows too.
+
+use crate::book::Book;
+use crate::names::Names;
+use crate::text::{self, mistake, place, Cursor, Line, Mistake};
+
+/// A plan's rows and the lines that they come from.
+#[derive(Clone, Debug, Default, PartialEq, Eq)]
+pub struct Plan {
+    /// Four bytes a row.
+    pub bytes: Vec<u8>,
+    /// Each row's line.
+    pub lines: Vec<usize>,
+}
+
+/// No second row.
+const NONE: u8 = 255;
+
+const ROW: &str = "'column', a function, 'choose', 'output' or 'where'";
+
+/// Reads a plan for a book with these names.
+pub fn read(text: &str, book: &Book, names: &Names) -> Result<Plan, Mistake> {
+    let mut plan = Plan::default();
+    for line in text::lines(text)? {
+        let row = row(line, plan.lines.len(), book, names)?;
+        plan.bytes.extend(row);
+        plan.lines.push(line.number);
+    }
+    Ok(plan)
+}
+
+fn row(line: Line, number: usize, book: &Book, names: &Names) -> Result<[u8; 4], Mistake> {
+    let mut cursor = Cursor::new(line);
+    if cursor.ahead(1) == Some("=") {
+        let wrong = cursor.found(&format!("{number}, the number of this row"));
+        if cursor.number("the number of this row")? != number {
+            return Err(wrong);
+        }
+        cursor.expect("=")?;
+    }
+    let row = match (cursor.ahead(0), cursor.ahead(1)) {
+        (_, Some("(")) => apply(&mut cursor, names)?,
+        (Some("choose"), Some(_)) => choose(&mut cursor)?,
+        (Some("output"), Some(_)) => last(&mut cursor, "output", 4)?,
+        (Some("where"), Some(_)) => last(&mut cursor, "where", 5)?,
+        _ => column(&mut cursor, book, names)?,
+    };
+    cursor.end()?;
+    Ok(row)
+}
+
+/// 'column' and a name, or the name alone.
+fn column(cursor: &mut Cursor, book: &Book, names: &Names) -> Result<[u8; 4], Mistake> {
+    let introduced = cursor.ahead(1).is_some() && cursor.take("column");
+    let expected = match introduced {
+        true => "a column, or a label that some column has",
+        false => ROW,
+    };
+    let unknown = cursor.found(expected);
+    let name = cursor.name(expected)?;
+    let by_name = place(&names.columns, name);
+    let by_label = || {
+        let label = place(&names.data, name)?;
+        let lowest = book.columns.iter().position(|&of| of == label)?;
+        Some(lowest as u8)
+    };
+    let column = by_name.or_else(by_label).ok_or(unknown)?;
+    Ok([1, column, 0, 0])
+}
+
+fn apply(cursor: &mut Cursor, names: &Names) -> Result<[u8; 4], Mistake> {
+    let function = cursor.known(&names.functions, "a function that the book has")?;
+    cursor.expect("(")?;
+    let first = named_row(cursor)?;
+    let second = match cursor.take(",") {
+        true => named_row(cursor)?,
+        false => NONE,
+    };
+    cursor.expect(")")?;
+    Ok([2, function, first, second])
+}
+
+fn choose(cursor: &mut Cursor) -> Result<[u8; 4], Mistake> {
+    cursor.expect("choose")?;
+    let decides = named_row(cursor)?;
+    cursor.expect("?")?;
+    let yes = named_row(cursor)?;
+    cursor.expect(":")?;
+    let no = named_row(cursor)?;
+    Ok([3, decides, yes, no])
+}
+
+fn last(cursor: &mut Cursor, word: &str, kind: u8) -> Result<[u8; 4], Mistake> {
+    cursor.expect(word)?;
+    Ok([kind, named_row(cursor)?, 0, 0])
+}
+
+/// The number of a row, which must fit a byte and must not be read as 'no second row'.
+fn named_row(cursor: &mut Cursor) -> Result<u8, Mistake> {
+    let line = cursor.line();
+    let number = cursor.number("the number of a row")?;
+    match u8::try_from(number) {
+        Ok(number) if number < NONE => Ok(number),
+        _ => {
+            let what = format!("found row {number}; expected a number up to 63");
+            Err(mistake(line, what))
+        }
+    }
+}
+
+/// The accesses of a plan of the form that Idle shows, in words.
+pub fn accesses(rows: &[u8], book: &Book, names: &Names) -> String {
+    let mut value = String::new();
+    let mut accesses = Vec::new();
+    for row in rows.chunks_exact(4) {
+        let number = usize::from(row[1]);
+        match row[0] {
+            1 => value = names.data[usize::from(book.columns[number])].clone(),
+            2 => value = format!("{}({value})", names.operation(book.functions[number])),
+            4 => accesses.push(format!("output {value}")),
+            _ => accesses.push(format!("condition {value}")),
+        }
+    }
+    accesses.join(", ")
+}

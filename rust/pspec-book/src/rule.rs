@@ -1,0 +1,262 @@
+//! A rule in the paper's notation.
+//!
+//! ```text
+//! Analyst exclude Intern, Guest, [access Address exclude City, projection Price]
+//!     => [{}, {avg}] or [{mask}, {}]
+//! ```
+//!
+//! A rule is written on one line. Restrictions are joined by `or`; `=> forbid` has none.
+
+use crate::book::{bits, Reference, Rule};
+use crate::names::Names;
+use crate::text::{is_name, mistake, place, Cursor, Line, Mistake};
+
+/// The actions; the first has number 1.
+const ACTIONS: [&str; 3] = ["projection", "condition", "access"];
+
+/// What is expected where a category stands.
+const USER: &str = "a user category that the policy names";
+const DATA: &str = "a data category that the policy names";
+
+/// The most that a rule block has room for.
+const EXCLUDED_USERS: usize = 4;
+const REFERENCES: usize = 3;
+const EXCLUDED_DATA: usize = 8;
+const RESTRICTIONS: usize = 8;
+/// The most operations that a book has.
+pub const OPERATIONS: usize = 15;
+
+/// Reads a rule. An operation that was not named before gets the next number.
+pub fn read(line: Line, names: &mut Names) -> Result<Rule, Mistake> {
+    let mut cursor = Cursor::new(line);
+    let user = cursor.known(&names.users, USER)?;
+    let excluded = excluded_users(&mut cursor, names)?;
+    let references = references(&mut cursor, names)?;
+    cursor.expect("=>")?;
+    let restrictions = restrictions(&mut cursor, names, references.len())?;
+    cursor.end()?;
+    Ok(Rule {
+        user,
+        excluded,
+        references,
+        restrictions,
+    })
+}
+
+/// The number of an operation, the next free one if it is new.
+pub fn operation(cursor: &mut Cursor, names: &mut Names) -> Result<u8, Mistake> {
+    let name = cursor.name("an operation")?;
+    let list = &mut names.operations;
+    if let Some(place) = place(list, name) {
+        return Ok(place + 1);
+    }
+    list.push(name.to_string());
+    at_most(cursor, list.len(), OPERATIONS, "operations in a book")?;
+    Ok(list.len() as u8)
+}
+
+/// Refuses more of something than there is room for.
+fn at_most(cursor: &Cursor, count: usize, most: usize, what: &str) -> Result<(), Mistake> {
+    if count <= most {
+        return Ok(());
+    }
+    let what = format!("found {count} {what}; expected at most {most}");
+    Err(mistake(cursor.line(), what))
+}
+
+/// The list ends at the comma before the references.
+fn excluded_users(cursor: &mut Cursor, names: &Names) -> Result<Vec<u8>, Mistake> {
+    let mut excluded = Vec::new();
+    if cursor.take("exclude") {
+        excluded.push(cursor.known(&names.users, USER)?);
+    }
+    loop {
+        match cursor.ahead(0) {
+            Some(",") => cursor.expect(",")?,
+            _ if excluded.is_empty() => return Err(cursor.found("',' or 'exclude'")),
+            _ => return Err(cursor.found("','")),
+        }
+        if excluded.is_empty() || cursor.ahead(0) == Some("[") {
+            break;
+        }
+        excluded.push(cursor.known(
+            &names.users,
+            "a user category that the policy names, or '['",
+        )?);
+    }
+    at_most(
+        cursor,
+        excluded.len(),
+        EXCLUDED_USERS,
+        "excluded users in a rule",
+    )?;
+    Ok(excluded)
+}
+
+fn references(cursor: &mut Cursor, names: &Names) -> Result<Vec<Reference>, Mistake> {
+    let mut references = Vec::new();
+    cursor.expect("[")?;
+    loop {
+        references.push(reference(cursor, names)?);
+        if !cursor.take(",") {
+            break;
+        }
+    }
+    if !cursor.take("]") {
+        return Err(cursor.found("',', 'exclude' or ']'"));
+    }
+    at_most(cursor, references.len(), REFERENCES, "references in a rule")?;
+    Ok(references)
+}
+
+fn reference(cursor: &mut Cursor, names: &Names) -> Result<Reference, Mistake> {
+    let wrong = cursor.found("projection, condition or access");
+    let word = cursor.name("projection, condition or access")?;
+    let action = ACTIONS.iter().position(|&action| action == word);
+    let action = action.ok_or(wrong)? as u8 + 1;
+    let lower = cursor.known(&names.data, DATA)?;
+    let mut excluded = Vec::new();
+    if cursor.take("exclude") {
+        excluded.push(cursor.known(&names.data, DATA)?);
+        while cursor.ahead(0) == Some(",") && !starts_reference(cursor) {
+            cursor.expect(",")?;
+            excluded.push(cursor.known(&names.data, DATA)?);
+        }
+    }
+    at_most(
+        cursor,
+        excluded.len(),
+        EXCLUDED_DATA,
+        "excluded categories in a reference",
+    )?;
+    Ok(Reference {
+        category: lower,
+        action,
+        excluded,
+    })
+}
+
+/// After the comma: two words start a reference, one alone is a further excluded category.
+fn starts_reference(cursor: &Cursor) -> bool {
+    cursor.ahead(2).is_some_and(is_name)
+}
+
+fn restrictions(
+    cursor: &mut Cursor,
+    names: &mut Names,
+    references: usize,
+) -> Result<Vec<[u16; 3]>, Mistake> {
+    let mut restrictions = Vec::new();
+    if cursor.take("forbid") {
+        return Ok(restrictions);
+    }
+    loop {
+        if cursor.ahead(0) != Some("[") {
+            return Err(cursor.found("'[' or 'forbid'"));
+        }
+        restrictions.push(restriction(cursor, names, references)?);
+        if !cursor.take("or") {
+            break;
+        }
+    }
+    at_most(
+        cursor,
+        restrictions.len(),
+        RESTRICTIONS,
+        "restrictions in a rule",
+    )?;
+    Ok(restrictions)
+}
+
+fn restriction(
+    cursor: &mut Cursor,
+    names: &mut Names,
+    references: usize,
+) -> Result<[u16; 3], Mistake> {
+    let mut masks = Vec::new();
+    cursor.expect("[")?;
+    loop {
+        masks.push(mask(cursor, names)?);
+        if !cursor.take(",") {
+            break;
+        }
+    }
+    cursor.expect("]")?;
+    if masks.len() != references {
+        let what = format!(
+            "found {} sets of operations in a restriction; \
+             expected {references}, one for each reference",
+            masks.len()
+        );
+        return Err(mistake(cursor.line(), what));
+    }
+    masks.resize(3, 0);
+    Ok([masks[0], masks[1], masks[2]])
+}
+
+fn mask(cursor: &mut Cursor, names: &mut Names) -> Result<u16, Mistake> {
+    let mut mask = 0;
+    cursor.expect("{")?;
+    if cursor.take("}") {
+        return Ok(mask);
+    }
+    loop {
+        mask |= 1 << operation(cursor, names)?;
+        if !cursor.take(",") {
+            break;
+        }
+    }
+    cursor.expect("}")?;
+    Ok(mask)
+}
+
+/// The text of a rule.
+pub fn text(rule: &Rule, names: &Names) -> String {
+    let user = with_excluded(rule.user, &rule.excluded, &names.users);
+    let references: Vec<String> = rule
+        .references
+        .iter()
+        .map(|reference| reference_text(reference, names))
+        .collect();
+    let end = match rule.restrictions.as_slice() {
+        [] => "forbid".to_string(),
+        restrictions => {
+            let n = references.len();
+            let each = restrictions
+                .iter()
+                .map(|masks| restriction_text(&masks[..n], names));
+            each.collect::<Vec<_>>().join(" or ")
+        }
+    };
+    format!("{user}, [{}] => {end}", references.join(", "))
+}
+
+fn with_excluded(category: u8, excluded: &[u8], list: &[String]) -> String {
+    let name = |&i: &u8| list[usize::from(i)].as_str();
+    match excluded {
+        [] => name(&category).to_string(),
+        _ => {
+            let out: Vec<&str> = excluded.iter().map(name).collect();
+            format!("{} exclude {}", name(&category), out.join(", "))
+        }
+    }
+}
+
+fn reference_text(reference: &Reference, names: &Names) -> String {
+    let action = ACTIONS[usize::from(reference.action) - 1];
+    let data = with_excluded(reference.category, &reference.excluded, &names.data);
+    format!("{action} {data}")
+}
+
+fn restriction_text(masks: &[u16], names: &Names) -> String {
+    let sets = masks
+        .iter()
+        .map(|&mask| format!("{{{}}}", operations(mask, names)));
+    format!("[{}]", sets.collect::<Vec<_>>().join(", "))
+}
+
+/// The names of a mask's operations.
+pub fn operations(mask: u16, names: &Names) -> String {
+    let each: Vec<&str> = bits(mask).map(|k| names.operation(k)).collect();
+    each.join(", ")
+}

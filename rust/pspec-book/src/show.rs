@@ -1,0 +1,79 @@
+//! A book as the text of a policy file.
+
+use crate::book::{Book, UNLABELLED};
+use crate::names::Names;
+use crate::rule;
+
+/// The text that `policy::read` reads as this book.
+pub fn text(book: &Book, names: &Names) -> String {
+    let mut text = String::new();
+    if !book.in_order(names) {
+        text += &section("operations", names.operations.clone());
+    }
+    let users = tree(&book.users, &names.users, |_| String::new());
+    text += &section("users", users);
+    let data = tree(&book.parents(), &names.data, |i| own(book, names, i));
+    text += &section("data", data);
+    text += &section("columns", columns(book, names));
+    text += &section("functions", functions(book, names));
+    let rules = book.rules.iter().map(|rule| rule::text(rule, names));
+    text += &section("rules", rules.collect());
+    text
+}
+
+fn section(header: &str, lines: Vec<String>) -> String {
+    if lines.is_empty() {
+        return String::new();
+    }
+    let lines: String = lines.iter().map(|line| format!("  {line}\n")).collect();
+    format!("{header}\n{lines}")
+}
+
+/// A category stands below its parent where that is still open, else at the left with 'under'.
+fn tree(parents: &[u8], names: &[String], own: impl Fn(usize) -> String) -> Vec<String> {
+    let mut path: Vec<usize> = Vec::new();
+    let mut lines = Vec::new();
+    for (i, &parent) in parents.iter().enumerate() {
+        let parent = usize::from(parent);
+        let open = path.iter().position(|&above| above == parent);
+        path.truncate(open.map_or(0, |depth| depth + 1));
+        let indent = "  ".repeat(path.len());
+        let upper = match open {
+            None if i > 0 => format!(" under {}", names[parent]),
+            _ => String::new(),
+        };
+        lines.push(format!("{indent}{}{}{upper}", names[i], own(i)));
+        path.push(i);
+    }
+    lines
+}
+
+/// The operations that a category owns, as they stand beside it.
+fn own(book: &Book, names: &Names, i: usize) -> String {
+    match book.data[i].own {
+        0 => String::new(),
+        own => format!(" [{}]", rule::operations(own, names)),
+    }
+}
+
+fn columns(book: &Book, names: &Names) -> Vec<String> {
+    let label = |&label: &u8| match label {
+        UNLABELLED => "-",
+        _ => &names.data[usize::from(label)],
+    };
+    let labels = book.columns.iter().map(label);
+    let lines = names.columns.iter().zip(labels);
+    lines
+        .map(|(name, label)| format!("{name}: {label}"))
+        .collect()
+}
+
+fn functions(book: &Book, names: &Names) -> Vec<String> {
+    let operation = |&k: &u8| match k {
+        0 => "-",
+        _ => names.operation(k),
+    };
+    let operations = book.functions.iter().map(operation);
+    let lines = names.functions.iter().zip(operations);
+    lines.map(|(name, k)| format!("{name}: {k}")).collect()
+}

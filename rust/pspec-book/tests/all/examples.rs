@@ -1,0 +1,102 @@
+//! The policies in `examples`: their books, reports and plans.
+
+use crate::common::{built, file, report_on, text};
+use pspec_book::judge;
+
+const SMALL_SHOP: &str = "examples/small-shop.pspec";
+const TPC_DS: &str = "examples/tpc-ds.pspec";
+
+#[test]
+fn small_shop_is_document_01s_book() {
+    let (_, bytes) = built(&text(SMALL_SHOP));
+    let book =
+        std::fs::read(file("crates/policyreport/data/small.book")).expect("the book is there");
+    assert_eq!(bytes, book);
+}
+
+#[test]
+fn reports_are_as_stored() {
+    assert_eq!(
+        report_on(&text(SMALL_SHOP)),
+        text("examples/small-shop.report")
+    );
+    assert_eq!(report_on(&text(TPC_DS)), text("examples/tpc-ds.report"));
+}
+
+/// The line of a report that lists the idle rules.
+fn idle_after(from: &str, to: &str) -> String {
+    let policy = text(TPC_DS);
+    assert!(policy.contains(from));
+    let report = report_on(&policy.replace(from, to));
+    let line = report.lines().find(|line| line.starts_with("Idle: "));
+    line.unwrap_or("none").to_string()
+}
+
+/// The changes that docs/EXAMPLE.md speaks of.
+#[test]
+fn one_word_makes_a_rule_idle() {
+    assert_eq!(
+        idle_after("projection Name", "access Name"),
+        "Idle: rule 6."
+    );
+    assert_eq!(
+        idle_after("projection Street", "access Street"),
+        "Idle: rule 7."
+    );
+    assert_eq!(
+        idle_after("ca_suite_number: Suite", "ca_suite_number: -"),
+        "Idle: rule 7."
+    );
+}
+
+const WIDE: &str = "  Analyst, [projection Birth, projection Address, \
+                    projection QI exclude Name, Birth, Address] => forbid\n";
+
+/// One of the three rules that the wide one stands for.
+fn narrow(third: &str) -> String {
+    format!("  Analyst, [projection Birth, projection Address, projection {third}] => forbid\n")
+}
+
+#[test]
+fn three_rules_together_make_a_fourth_idle() {
+    let with = format!("rules\n{WIDE}");
+    let idle = "Idle: rule 0, rule 4, rule 5, rule 6.";
+    assert_eq!(idle_after("rules\n", &with), idle);
+    let three = ["Gender", "Marital", "Education"].map(narrow).concat();
+    assert_eq!(idle_after(&three, WIDE), "none");
+}
+
+/// A function has another name than its operation, and the report names the operation.
+#[test]
+fn a_report_names_operations_and_conditions() {
+    let policy = "users\n  U\ndata\n  D\n    P [avg, sum]\n    Q\n\
+                  columns\n  p: P\n  q: Q\nfunctions\n  mean: avg\n  total: sum\nrules\n  \
+                  U, [projection P] => [{avg, sum}]\n  \
+                  U, [projection P, condition Q] => [{avg}, {}]\n";
+    let report = report_on(policy);
+    let lines: Vec<&str> = report.lines().collect();
+    assert!(lines[0].ends_with(": needed. U breaks it alone with: output P"));
+    assert!(lines[1].ends_with(": needed. U breaks it alone with: output sum(P), condition Q"));
+    assert_eq!(lines[3], "No rule is idle.");
+    let none = report_on("users\n  U\ndata\n  D\n");
+    assert_eq!(none, "The book has no rules.\n");
+}
+
+fn broken(plan: &str) -> Vec<String> {
+    let (policy, bytes) = built(&text(TPC_DS));
+    let broken = judge::broken(&bytes, &policy.book, &policy.names, "Analyst", &text(plan));
+    broken.ok().expect("the plan is judged")
+}
+
+/// The paper on the system says that such queries violate its rules 3 and 7, and that its own check
+/// rejects `substr` where rule 10 asks for `truncate`.
+#[test]
+fn plans_break_the_rules_that_the_paper_names() {
+    let names = broken("examples/tpc-ds-names.plan");
+    assert_eq!(names.len(), 2);
+    assert!(names[0].starts_with("rule 2 (") && names[1].starts_with("rule 6 ("));
+    assert_eq!(
+        broken("examples/tpc-ds-zip.plan"),
+        ["rule 9 (Analyst, [access Zip] => [{truncate}])"]
+    );
+}

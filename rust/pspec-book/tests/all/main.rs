@@ -1,0 +1,8 @@
+//! The examples, every mistake, the program, random books there and back, and texts of any kind.
+
+mod any_text;
+mod common;
+mod examples;
+mod mistakes;
+mod program;
+mod round_trip;

@@ -1,0 +1,273 @@
+//! The program: what it prints, where, and its exit status.
+
+use crate::common::{file, text};
+use std::fs;
+use std::path::PathBuf;
+use std::process::Command;
+
+/// A folder for one test's files.
+fn folder(test: &str) -> PathBuf {
+    let folder = PathBuf::from(env!("CARGO_TARGET_TMPDIR")).join(test);
+    fs::create_dir_all(&folder).expect("it is made");
+    folder
+}
+
+/// Runs the program in a folder: the status, the answer, the complaint.
+fn run(folder: &PathBuf, arguments: &[&str]) -> (i32, String, String) {
+    let program = env!("CARGO_BIN_EXE_pspec-book");
+    let ran = Command::new(program)
+        .args(arguments)
+        .current_dir(folder)
+        .output();
+    let ran = ran.expect("it runs");
+    let text = |bytes| String::from_utf8(bytes).expect("it is text");
+    let status = ran.status.code().expect("it ends by itself");
+    (status, text(ran.stdout), text(ran.stderr))
+}
+
+/// A folder with the small shop's book.
+fn shop(test: &str) -> PathBuf {
+    let folder = folder(test);
+    let policy = text("examples/small-shop.pspec");
+    fs::write(folder.join("shop.pspec"), policy).expect("it is written");
+    let built = run(&folder, &["build", "shop.pspec", "-o", "shop.book"]);
+    let said = "shop.book: 7 blocks, 3 rules; names in shop.book.names\n";
+    assert_eq!(built, (0, said.to_string(), String::new()));
+    folder
+}
+
+#[test]
+fn from_text_to_report() {
+    let folder = shop("report");
+    let report = text("examples/small-shop.report");
+    assert_eq!(
+        run(&folder, &["report", "shop.book"]),
+        (0, report, String::new())
+    );
+}
+
+#[test]
+fn what_is_shown_builds_the_same_book() {
+    let folder = shop("show");
+    for with_names in [true, false] {
+        if !with_names {
+            fs::remove_file(folder.join("shop.book.names")).expect("it was there");
+        }
+        let (status, shown, _) = run(&folder, &["show", "shop.book"]);
+        assert_eq!((status, shown.contains("Analyst")), (0, with_names));
+        assert_eq!(shown.contains("user0"), !with_names);
+        fs::write(folder.join("shown.pspec"), shown).expect("it is written");
+        run(&folder, &["build", "-o", "again.book", "shown.pspec"]);
+        let read = |name: &str| fs::read(folder.join(name)).expect("it is there");
+        assert_eq!(read("again.book"), read("shop.book"));
+    }
+}
+
+/// Judges a plan for a user of the small shop.
+fn judged(user: &str, plan: &str) -> (i32, String, String) {
+    let folder = shop(&format!("judge-{user}-{:x}", plan.len()));
+    fs::write(folder.join("p.txt"), plan).expect("it is written");
+    run(&folder, &["judge", "shop.book", user, "p.txt"])
+}
+
+#[test]
+fn judging() {
+    let plan =
+        "0 = column State\noutput 0\nprice\n3 = sum(2)  # the column's own name above\noutput 3\n";
+    let broken = "Report breaks rule 1 (Analyst, [access Price] => [{avg}])\n\
+                  Report breaks rule 2 (Report, [projection Address, projection Price] \
+                  => [{}, {avg}])\n";
+    assert_eq!(
+        judged("Report", plan),
+        (1, broken.to_string(), String::new())
+    );
+    let fine = "Report breaks no rule.\n".to_string();
+    assert_eq!(judged("Report", "# nothing\n"), (0, fine, String::new()));
+    let no_user = "refused 20: found Analyst; \
+                   expected a user without others below it, and Analyst has Report, Marketing\n";
+    assert_eq!(
+        judged("Analyst", ""),
+        (1, String::new(), no_user.to_string())
+    );
+    let unknown = "found the user 'Bob'; expected one of Report, Marketing\n";
+    assert_eq!(judged("Bob", ""), (2, String::new(), unknown.to_string()));
+}
+
+/// The complaint about a plan.
+fn plan_says(plan: &str, message: &str) {
+    let complaint = format!("p.txt:{message}\n");
+    assert_eq!(judged("Report", plan), (1, String::new(), complaint));
+}
+
+#[test]
+fn mistakes_in_a_plan() {
+    let row = "'column', a function, 'choose', 'output' or 'where'";
+    plan_says(
+        "1 = column price",
+        "1: found '1'; expected 0, the number of this row",
+    );
+    plan_says(
+        "x = column price",
+        "1: found 'x'; expected the number of this row",
+    );
+    plan_says(
+        "column Address",
+        "1: found 'Address'; expected a column, or a label that some column has",
+    );
+    plan_says("prices", &format!("1: found 'prices'; expected {row}"));
+    plan_says("output", &format!("1: found 'output'; expected {row}"));
+    plan_says(
+        "column price x",
+        "1: found 'x'; expected the end of the line",
+    );
+    plan_says(
+        "max(0)",
+        "1: found 'max'; expected a function that the book has",
+    );
+    plan_says("avg()", "1: found ')'; expected the number of a row");
+    plan_says("concat(0, 1, 2)", "1: found ','; expected ')'");
+    plan_says(
+        "concat(0, 255)",
+        "1: found row 255; expected a number up to 63",
+    );
+    plan_says("choose 0 : 1", "1: found ':'; expected '?'");
+    plan_says("choose 0 ? 1", "1: found the end of the line; expected ':'");
+    plan_says(
+        "output price",
+        "1: found 'price'; expected the number of a row",
+    );
+}
+
+#[test]
+fn plans_that_the_engine_refuses() {
+    let above = "named by row 1; expected a row above it";
+    plan_says(
+        "price\n\navg(1)",
+        &format!("3: refused 22: found row 1 {above}"),
+    );
+    plan_says(
+        "price\nchoose 0 ? 0 : 7",
+        &format!("2: refused 22: found row 7 {above}"),
+    );
+    plan_says(
+        "price\noutput 0\nwhere 1",
+        "3: refused 22: found row 1 named by row 2, which gives no value; \
+         expected a column, a function or a choice",
+    );
+    let rows = "price\n".repeat(65);
+    plan_says(&rows, "65: refused 21: found 65 rows; expected at most 64");
+}
+
+#[test]
+fn a_refused_book_and_its_names() {
+    let folder = shop("refused");
+    let mut book = fs::read(folder.join("shop.book")).expect("it is there");
+    book[512 * 5 + 2] = 1;
+    fs::write(folder.join("changed.book"), &book).expect("it is written");
+    let complaint =
+        "changed.book: refused 2 at block 5: a block has a wrong check (block 5 is rule 1)\n";
+    for command in ["show", "report"] {
+        let ran = run(&folder, &[command, "changed.book"]);
+        assert_eq!(ran, (1, String::new(), complaint.to_string()));
+    }
+    let names = text_of(&folder, "shop.book.names").replace("checks 0007", "checks 0008");
+    fs::write(folder.join("shop.book.names"), names).expect("it is written");
+    let (status, _, complaint) = run(&folder, &["show", "shop.book"]);
+    assert_eq!(status, 2);
+    assert!(complaint.starts_with("shop.book.names:1: found 'checks 0008 "));
+}
+
+fn text_of(folder: &std::path::Path, name: &str) -> String {
+    fs::read_to_string(folder.join(name)).expect("it is there")
+}
+
+/// The complaint about a names file with one part changed.
+fn names_say(from: &str, to: &str, message: &str) {
+    let folder = shop(&format!("names-{from}-{to}").replace(['\n', ' '], ""));
+    let names = text_of(&folder, "shop.book.names");
+    assert!(names.contains(from));
+    fs::write(folder.join("shop.book.names"), names.replacen(from, to, 1)).expect("it is written");
+    let complaint = format!("shop.book.names:{message}\n");
+    assert_eq!(
+        run(&folder, &["report", "shop.book"]),
+        (2, String::new(), complaint)
+    );
+}
+
+#[test]
+fn mistakes_in_a_names_file() {
+    names_say(
+        "  City\n",
+        "",
+        "6: found 4 names of data; expected 5, as in the book",
+    );
+    names_say(
+        "  City\n",
+        "  State\n",
+        "10: found 'State' a second time; expected each name once",
+    );
+    names_say(
+        "  City\n",
+        "  New City\n",
+        "10: found 'City'; expected the end of the line",
+    );
+    names_say("data\n", "dates\n", "6: found 'dates'; expected 'data'");
+}
+
+#[test]
+fn wrong_arguments_and_files() {
+    let folder = folder("arguments");
+    let complains = |arguments: &[&str], message: &str| {
+        let (status, answer, complaint) = run(&folder, arguments);
+        assert_eq!((status, answer.as_str()), (2, ""));
+        assert!(complaint.starts_with(message), "{complaint}");
+    };
+    complains(&[], "found no command\n\npspec-book build ");
+    complains(
+        &["look"],
+        "found 'look'; expected build, show, report, judge or help\n\n",
+    );
+    complains(
+        &["build", "x"],
+        "found 'build x'; expected build POLICY.pspec -o BOOK\n\n",
+    );
+    complains(&["show"], "found 'show'; expected show BOOK\n\n");
+    complains(&["report", "no.book"], "no.book: can't be read: ");
+    complains(
+        &["build", "no.pspec", "-o", "x.book"],
+        "no.pspec: can't be read: ",
+    );
+    let policy = file("examples/small-shop.pspec").display().to_string();
+    complains(
+        &["build", &policy, "-o", "none/x.book"],
+        "none/x.book: can't be written: ",
+    );
+    let (status, help, _) = run(&folder, &["help"]);
+    assert!(status == 0 && help.contains("outside the proof"));
+}
+
+#[test]
+fn a_mistake_has_its_file_and_line() {
+    let folder = folder("mistake");
+    fs::write(
+        folder.join("bad.pspec"),
+        "users\n  A\ndata\n  D\nrules\n  A, [read D] => forbid\n",
+    )
+    .expect("it is written");
+    let complaint = "bad.pspec:6: found 'read'; expected projection, condition or access\n";
+    let ran = run(&folder, &["build", "bad.pspec", "-o", "bad.book"]);
+    assert_eq!(ran, (1, String::new(), complaint.to_string()));
+    assert!(!folder.join("bad.book").exists());
+}
+
+#[test]
+fn a_policy_is_not_written_over() {
+    let folder = shop("over");
+    let complaint = "found the policy after -o; expected another file\n";
+    let (status, _, said) = run(&folder, &["build", "shop.pspec", "-o", "./shop.pspec"]);
+    assert!(status == 2 && said.ends_with(complaint), "{said}");
+    assert_eq!(
+        text_of(&folder, "shop.pspec"),
+        text("examples/small-shop.pspec")
+    );
+}

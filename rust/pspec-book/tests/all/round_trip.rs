@@ -1,0 +1,119 @@
+//! Random books: blocks to text and back.
+
+use crate::common::built;
+use books::valid::{self, Size};
+use books::{plans, Draft, Random};
+use pspec_book::book::Book;
+use pspec_book::names::Names;
+use pspec_book::{plan, show};
+
+const SIZES: [Size; 4] = [Size::Tiny, Size::Small, Size::Middle, Size::Large];
+
+fn drafts() -> impl Iterator<Item = Draft> {
+    (0..400).map(|seed| {
+        let mut random = Random::new(seed);
+        valid::draft(&mut random, SIZES[seed as usize % 4])
+    })
+}
+
+#[test]
+fn the_same_bytes_come_back() {
+    for draft in drafts() {
+        let bytes = draft.bytes();
+        let book = Book::read(&bytes).expect("it is sound");
+        assert_eq!(book.bytes(), bytes);
+        let text = show::text(&book, &Names::numbered(&book));
+        let (policy, again) = built(&text);
+        assert_eq!(again, bytes, "{text}");
+        assert_eq!(show::text(&policy.book, &policy.names), text);
+    }
+}
+
+#[test]
+fn names_survive_their_file() {
+    for draft in drafts() {
+        let bytes = draft.bytes();
+        let book = Book::read(&bytes).expect("it is sound");
+        let mut names = Names::numbered(&book);
+        for name in &mut names.operations {
+            *name = format!("x.{name}");
+        }
+        let read = Names::read(&names.text(&bytes), &bytes, &book);
+        assert_eq!(read.expect("it fits"), names);
+        let (policy, again) = built(&show::text(&book, &names));
+        assert_eq!((again, policy.names), (bytes, names));
+    }
+}
+
+/// A sound plan as text, every second row with its number.
+fn plan_text(bytes: &[u8]) -> String {
+    let rows = bytes.chunks_exact(4).enumerate();
+    let line = |(i, row): (usize, &[u8])| {
+        let [kind, a, b, c] = [row[0], row[1], row[2], row[3]];
+        let said = match (kind, c) {
+            (1, _) => format!("column column{a}"),
+            (2, 255) => format!("function{a}({b})"),
+            (2, _) => format!("function{a}({b}, {c})"),
+            (3, _) => format!("choose {a} ? {b} : {c}"),
+            (4, _) => format!("output {a}"),
+            _ => format!("where {a}"),
+        };
+        match i % 2 {
+            0 => format!("{i} = {said}\n"),
+            _ => format!("{said}\n"),
+        }
+    };
+    rows.map(line).collect()
+}
+
+#[test]
+fn plans_are_read_as_they_are_written() {
+    for (seed, draft) in drafts().enumerate() {
+        let book = Book::read(&draft.bytes()).expect("it is sound");
+        let bytes = plans::sound(&mut Random::new(seed as u64), &draft);
+        let text = plan_text(&bytes);
+        let plan = plan::read(&text, &book, &Names::numbered(&book)).expect("it is a plan");
+        assert_eq!(plan.bytes, bytes);
+    }
+}
+
+/// Words with a place in the notation may be names where no doubt is left.
+#[test]
+fn words_of_the_notation_as_names() {
+    let text = "\
+operations
+  sum
+  avg
+users
+  users
+    rules
+    data
+  access under rules
+data
+  All [avg]
+    access
+    projection [sum]
+    column
+  columns under access
+columns
+  column: columns
+  output: -
+functions
+  choose: avg
+rules
+  users exclude rules, data, [access All exclude access, projection, condition projection] => forbid
+  data, [access access exclude columns] => [{}] or [{avg}]
+";
+    let (policy, bytes) = built(text);
+    assert_eq!(show::text(&policy.book, &policy.names), text);
+    assert_eq!(policy.book.users, [0, 0, 0, 1]);
+    assert_eq!(policy.book.rules[0].references.len(), 2);
+    let book = Book::read(&bytes).expect("it is sound");
+    let plan = plan::read(
+        "column column\noutput\nchoose(0)\noutput 2",
+        &book,
+        &policy.names,
+    );
+    let bytes = [1, 0, 0, 0, 1, 1, 0, 0, 2, 0, 0, 255, 4, 2, 0, 0];
+    assert_eq!(plan.expect("it is a plan").bytes, bytes);
+}
