@@ -181,26 +181,15 @@ fn among(
             last,
         };
         let sought = beside_first(t, r, n, rules, a, seconds, from);
-        match sought {
-            Sought::Found {
-                first,
-                second,
-                third,
-            } => {
-                return Sought::Found {
-                    first,
-                    second,
-                    third,
-                };
-            }
-            Sought::Nothing {
-                rules: more,
-                last: next,
-            } => {
-                seen = more;
-                last = next;
-            }
-        }
+        let Sought::Nothing {
+            rules: more,
+            last: next,
+        } = sought
+        else {
+            return sought;
+        };
+        seen = more;
+        last = next;
         a = first_from(firsts, a + 1);
     }
     Sought::Nothing { rules: seen, last }

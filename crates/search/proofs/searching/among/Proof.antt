@@ -30,17 +30,18 @@ loop-holds c begun =
 returns : tie.Need-returns Inv-loop μ-loop
 unfolding Searched
 returns c begun =
-    let a = c .before .before .before .before .before .before .before .before .before .args in
-    let loop = c .before .before .before .before .before .loop in
-    let sought = c .before .before .before .beside-first in
-    let told = c .before .sought .given in
+    let a = c .before .before .before .before .before .before .before .before .args in
+    let loop = c .before .before .before .before .loop in
+    let sought = c .before .before .beside-first in
+    let told = c .enum-told .given in
     let inside =
     grown-within (has (a .rules)) (has (a .before .rules)) (has (loop .seen)) begun (loop .inv begun .only) in
-    among-found (a .t .now) (a .r) (a .n) (a .firsts) (a .seconds) (a .before .places) (a .rules) (a .before .rules)
+    rw (told .1)
+    (among-found (a .t .now) (a .r) (a .n) (a .firsts) (a .seconds) (a .before .places) (a .rules) (a .before .rules)
     (loop .seen) (loop .a) (told .0 .0) (told .0 .1 .0) (told .0 .1 .1 .0) begun
-    (c .before .before .before .before .loop-test .taken) (loop .inv begun)
+    (c .before .before .before .loop-test .taken) (loop .inv begun)
     (found-solved (solvesFirst (a .t .now) (a .r) (a .n) (loop .a) (a .seconds) (a .before .places)) (a .rules)
-    (loop .seen) (sought .result) (told .0 .0) (told .0 .1 .0) (told .0 .1 .1 .0) (told .1) (sought .ensures inside))
+    (loop .seen) (sought .result) (told .0 .0) (told .0 .1 .0) (told .0 .1 .1 .0) (told .1) (sought .ensures inside)))
 
 loop-less : tie.Need-loop-less Inv-loop μ-loop
 loop-less c = omega (arith, c .first-from2 .ensures (omega arith) .low)
@@ -50,7 +51,7 @@ loop-again c begun =
     let a = c .before .before .before .before .before .before .before .before .before .before .args in
     let loop = c .before .before .before .before .before .before .loop in
     let sought = c .before .before .before .before .beside-first in
-    let told = c .before .before .sought2 .given in
+    let told = c .before .before .sought .given in
     let inside =
     grown-within (has (a .rules)) (has (a .before .rules)) (has (loop .seen)) begun (loop .inv begun .only) in
     let none =
@@ -87,8 +88,8 @@ among-spec =
     loop-holds
     (λ c κs. search needs)
     (λ c. search needs)
-    returns
     (λ c. search needs)
+    returns
     (λ c. search needs)
     (λ c κs. search needs)
     loop-less
