@@ -21,71 +21,56 @@ pub trait Engine {
     fn idle(&self, book: &[u8], rule: u32, buffer: &mut [u8]) -> Idleness;
 }
 
-/// The second implementation; it gives up on a search after so many steps.
+/// The second implementation, with one of its searches.
 pub struct Second {
-    /// The steps of one search.
-    pub steps: u64,
+    /// How it searches.
+    pub search: Search,
+}
+
+/// The searches of the second implementation, and when each gives up.
+pub enum Search {
+    /// The one that skips: after so many steps.
+    Skipping(u64),
+    /// The naive one: before so many choices, over all users.
+    Naive(u128),
 }
 
 impl Engine for Second {
     fn name(&self) -> &'static str {
-        "second"
-    }
-    fn check(&self, book: &[u8]) -> Result<u32, Refusal> {
-        second::check(book)
-    }
-    fn seal(&self, block: &mut [u8]) -> Result<(), Refusal> {
-        second::seal(block)
-    }
-    fn flows(&self, book: &[u8], plan: &[u8], words: &mut [u64]) -> Result<(), Refusal> {
-        second::flows(book, plan, words)
-    }
-    fn judge(&self, book: &[u8], user: u32, plan: &[u8]) -> Result<u32, Refusal> {
-        second::judge(book, user, plan)
-    }
-    fn idle(&self, book: &[u8], rule: u32, buffer: &mut [u8]) -> Idleness {
-        second::idle_within(book, rule, buffer, self.steps)
-    }
-}
-
-/// The second implementation with its naive search; it gives up before too many choices.
-pub struct Naive {
-    /// The choices of one search, over all users.
-    pub choices: u128,
-}
-
-impl Naive {
-    fn too_many(&self, book: &[u8], rule: u32) -> bool {
-        let Ok(book) = reading::read(book) else {
-            return false;
-        };
-        let rule = rule as usize;
-        let users = book.users.leaves().len() as u128;
-        rule < book.rules.len() && users * idle::choices(&book, rule) > self.choices
-    }
-}
-
-impl Engine for Naive {
-    fn name(&self) -> &'static str {
-        "naive"
-    }
-    fn check(&self, book: &[u8]) -> Result<u32, Refusal> {
-        second::check(book)
-    }
-    fn seal(&self, block: &mut [u8]) -> Result<(), Refusal> {
-        second::seal(block)
-    }
-    fn flows(&self, book: &[u8], plan: &[u8], words: &mut [u64]) -> Result<(), Refusal> {
-        second::flows(book, plan, words)
-    }
-    fn judge(&self, book: &[u8], user: u32, plan: &[u8]) -> Result<u32, Refusal> {
-        second::judge(book, user, plan)
-    }
-    fn idle(&self, book: &[u8], rule: u32, buffer: &mut [u8]) -> Idleness {
-        if self.too_many(book, rule) {
-            return None;
+        match self.search {
+            Search::Skipping(_) => "second",
+            Search::Naive(_) => "naive",
         }
-        Some(second::idle_naive(book, rule, buffer))
+    }
+    fn check(&self, book: &[u8]) -> Result<u32, Refusal> {
+        second::check(book)
+    }
+    fn seal(&self, block: &mut [u8]) -> Result<(), Refusal> {
+        second::seal(block)
+    }
+    fn flows(&self, book: &[u8], plan: &[u8], words: &mut [u64]) -> Result<(), Refusal> {
+        second::flows(book, plan, words)
+    }
+    fn judge(&self, book: &[u8], user: u32, plan: &[u8]) -> Result<u32, Refusal> {
+        second::judge(book, user, plan)
+    }
+    fn idle(&self, book: &[u8], rule: u32, buffer: &mut [u8]) -> Idleness {
+        match self.search {
+            Search::Skipping(steps) => second::idle_within(book, rule, buffer, steps),
+            Search::Naive(most) if choices(book, rule) > most => None,
+            Search::Naive(_) => Some(second::idle_naive(book, rule, buffer)),
+        }
+    }
+}
+
+/// The choices of a rule, over all users; none where there is no such rule.
+fn choices(book: &[u8], rule: u32) -> u128 {
+    let rule = rule as usize;
+    match reading::read(book) {
+        Ok(book) if rule < book.rules.len() => {
+            book.users.leaves().len() as u128 * idle::choices(&book, rule)
+        }
+        _ => 0,
     }
 }
 
@@ -131,12 +116,16 @@ pub const STEPS: u64 = 30_000;
 /// The engine of a name.
 pub fn by_name(name: &str) -> Option<Box<dyn Engine>> {
     match name {
-        "second" => Some(Box::new(Second { steps: STEPS })),
-        "naive" => Some(Box::new(Naive { choices: 5_000 })),
+        "second" => second(Search::Skipping(STEPS)),
+        "naive" => second(Search::Naive(5_000)),
         #[cfg(feature = "engine")]
         "engine" => Some(Box::new(Proved)),
         _ => None,
     }
+}
+
+fn second(search: Search) -> Option<Box<dyn Engine>> {
+    Some(Box::new(Second { search }))
 }
 
 /// The two that are tried against each other when nothing else is asked.

@@ -1,7 +1,7 @@
 //! Faulty engines: the random cases tell each from the second implementation, and what is printed
 //! of a difference shows it again.
 
-use against::engine::{Idleness, Second, STEPS};
+use against::engine::{Idleness, Search, Second, STEPS};
 use against::run::compare;
 use against::{run, text, Engine, Limit, Tally};
 use books::draft::BLOCK;
@@ -9,7 +9,9 @@ use second::access::Access;
 use second::{breaking, path, plan, reading, Refusal};
 use std::collections::BTreeSet;
 
-const GOOD: Second = Second { steps: STEPS };
+const GOOD: Second = Second {
+    search: Search::Skipping(STEPS),
+};
 
 /// The faults, among them those of document 01's "Mistakes near at hand".
 #[derive(Clone, Copy, Debug, PartialEq, Eq)]

@@ -46,8 +46,10 @@ fn assert_alike(case: &Case) {
 #[test]
 fn late_choices() {
     use against::answer::Answer;
-    use against::engine::{Proved, Second};
-    let second = Second { steps: 20_000_000 };
+    use against::engine::{Proved, Search, Second};
+    let second = Second {
+        search: Search::Skipping(20_000_000),
+    };
     for draft in named::late() {
         match compare([&Proved, &second], &idle(&draft, 0)) {
             Ok(answers) => {
