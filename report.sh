@@ -3,7 +3,7 @@
 #   bash report.sh [BOOK]
 set -eu
 root=$(cd "$(dirname "$0")" && pwd)
-book=$(realpath "${1:-$root/crates/policyreport/data/small.book}")
+book=$(realpath -m "${1:-$root/crates/policyreport/data/small.book}")
 echo "proving and building the report; this takes some minutes the first time" >&2
 (cd "$root" && rt check policyreport) >&2
 folder=$(mktemp -d)

@@ -15,7 +15,7 @@ same() {
     echo "passed: $1"
 }
 
-# report TEXT: what policyreport prints on small.book in the folder, if there is one.
+# report TEXT NAME: policyreport prints the text on small.book in the folder, if there is one.
 report() {
     (cd "$folder" && "$report") > "$folder/said"
     echo "$1" > "$folder/wanted"
