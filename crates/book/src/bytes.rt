@@ -27,7 +27,7 @@ pub fn part(s: &[u8], start: usize, count: usize) -> &[u8]
 }
 
 // a - b, or 0 where b is larger.
-pub fn less(a: usize, b: usize) -> usize
+pub fn saturating_sub(a: usize, b: usize) -> usize
     ensures { λ r. ⌜ r ≡ a - b ⌝ }
 {
     if a < b {

@@ -17,7 +17,8 @@ ghost use lib.ListN.{getD};
 ghost use Rattle.book.specs.Lists.{any};
 ghost use Rattle.book.specs.Sets.{has, WordOf};
 ghost use Rattle.book.specs.Hierarchies.{covers, leaf, upward};
-ghost use Rattle.book.specs.Head.{countIn, isDataLeaf, parentIn, supportOf, supports};
+ghost use Rattle.book.specs.Head.{supportOf};
+ghost use Rattle.book.specs.Inner.Reading.{countIn, parentIn, Supporting};
 
 // A set of categories with i added where its parent p is a lower member.
 fn with_child(set: u64, p: usize, i: usize) -> u64
@@ -102,7 +103,7 @@ fn with_leaf(words: [u64; 16], leaf: u64, mask: u64) -> [u64; 16]
 
 // For each operation the data leaves that support it.
 pub fn supporters(head: &[u8]) -> [u64; 16]
-    ensures { λ r. ⌜ ((k : ℕ) → k < 16 → WordOf (λ d. isDataLeaf (now (head .entry)) d && supports (now (head .entry)) d k) (getD r k 0)) ⌝ }
+    ensures { λ r. ⌜ Supporting (now (head .entry)) r ⌝ }
 {
     let all = leaves(head, Hierarchy::Data);
     let mut words = [0u64; 16];

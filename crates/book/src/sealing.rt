@@ -32,7 +32,8 @@ pub fn check_holds(block: &[u8]) -> bool
 // Seal: writes the check of a block of 512 bytes and leaves its other bytes as they were. Any other
 // length is refused, and nothing is written.
 pub fn seal(block: &mut [u8]) -> Sealed
-    ensures { λ r. ⌜ (r ≡ sealAnswer (now (block .entry))) × (now (block .exit) ≡ sealBytes (now (block .entry))) ⌝ }
+    ensures { λ r. ⌜ (r ≡ sealAnswer (now (block .entry)))
+        × (now (block .exit) ≡ sealBytes (now (block .entry))) ⌝ }
 {
     if block.len() != 512 {
         return Sealed::Refused(Refusal {

@@ -1,6 +1,8 @@
 // Sets of numbers below 64, as words: number i is a member when bit i is set.
 ghost use mathlib.Core.Path.{_≡_};
+ghost use mathlib.Core.Bool.{cond};
 ghost use lib.Dec.{eqb, ltb};
+ghost use lib.ListN.{getD};
 ghost use Rattle.book.specs.Lists.{any};
 ghost use Rattle.book.specs.Sets.{has, WordOf};
 
@@ -42,4 +44,24 @@ pub fn set_of(list: &[u8]) -> u64
         set = set | single(list[i] as usize);
     }
     set
+}
+
+// A word, or the empty one.
+pub fn word_if(wanted: bool, word: u64) -> u64
+    ensures { λ r. ⌜ r ≡ cond wanted word 0 ⌝ }
+{
+    if wanted {
+        return word;
+    }
+    0
+}
+
+// The word at i, or 0 past the end.
+pub fn word_at(s: &[u64], i: usize) -> u64
+    ensures { λ r. ⌜ r ≡ getD (now (s .entry)) i 0 ⌝ }
+{
+    if i < s.len() {
+        return s[i];
+    }
+    0
 }

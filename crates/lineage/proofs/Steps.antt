@@ -18,7 +18,8 @@ use Rattle.book.proofs.Members.{has-zero, has-and, has-or, has-minus}
 use Rattle.lineage.specs.Rows.{Column, Apply, Choose, isValue, kindAt, kindByte, kindOf, rowA, rowB, rowC}
 use Rattle.lineage.specs.Paths.{labels, takes}
 use Rattle.lineage.specs.Accesses.{reaches}
-use Rattle.lineage.specs.Table.{Moved, PlanSound, Reached, RowReached, Stored, Supporting}
+use Rattle.lineage.specs.Inner.Table.{Moved, PlanSound, Reached, RowReached, Stored}
+use Rattle.book.specs.Inner.Reading.{Supporting}
 use Rattle.lineage.proofs.Paths.{reaches-column, reaches-choose, reaches-apply, reaches-none}
 
 -- Column

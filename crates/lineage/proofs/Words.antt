@@ -18,7 +18,7 @@ use Rattle.book.proofs.Lists.{and-end, and-false, and-or, or-end, any-more, any
 use Rattle.book.proofs.Members.{has-zero, has-or, has-single, same-members, has-cond}
 use Rattle.lineage.specs.Rows.{kindAt, kindByte, kindOf, rowA, rowCount}
 use Rattle.lineage.specs.Accesses.{accessWords, gives, isAccess, reaches, wordOf}
-use Rattle.lineage.specs.Table.{Gathered, Given, Reached}
+use Rattle.lineage.specs.Inner.Table.{Gathered, Given, Reached}
 use Rattle.lineage.proofs.Steps.{getD-zeros, kind-is}
 
 -- A word by its members

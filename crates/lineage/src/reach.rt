@@ -8,26 +8,16 @@ use book::categories::supporters;
 use book::fields::label;
 use book::fields::operation;
 use book::sets::single;
+use book::sets::word_at;
 ghost use mathlib.Core.Path.{_≡_};
-ghost use mathlib.Core.Bool.{_&&_};
 ghost use Prim.Native.Nat.{ℕ, _+_, _*_, _≤_, _<_};
 ghost use lib.Bits.{bitOr};
-ghost use lib.Dec.{eqb, ltb};
+ghost use lib.Dec.{eqb};
 ghost use lib.ListN.{getD};
 ghost use Rattle.book.specs.Lists.{any};
 ghost use Rattle.book.specs.Sets.{WordOf};
 ghost use Rattle.lineage.specs.Paths.{labels};
-ghost use Rattle.lineage.specs.Table.{Moved, PlanSound, Reached, RowReached, Stored, Supporting};
-
-// The word at i, or 0 past the end.
-pub fn word_at(s: &[u64], i: usize) -> u64
-    ensures { λ r. ⌜ r ≡ getD (now (s .entry)) i 0 ⌝ }
-{
-    if i < s.len() {
-        return s[i];
-    }
-    0
-}
+ghost use Rattle.lineage.specs.Inner.Table.{ColumnReached, Moved, PlanSound, Reached, RowStep, Stored};
 
 // The words of row r; all zero past the table's end.
 pub fn row_words(table: &[u64], r: u8) -> [u64; 16]
@@ -77,7 +67,7 @@ fn moved(row: [u64; 16], o: usize, supporting: [u64; 16]) -> [u64; 16]
 
 // The words of a Column row.
 fn column_reach(head: &[u8], column: u8) -> [u64; 16]
-    ensures { λ r. ⌜ ((k : ℕ) → k < 16 → WordOf (λ d. any (eqb d) (labels (now (head .entry)) column) && eqb k 0) (getD r k 0)) ⌝ }
+    ensures { λ r. ⌜ ColumnReached (now (head .entry)) column r ⌝ }
 {
     let mut row = [0u64; 16];
     row[0] = label_set(head, column);
@@ -86,7 +76,7 @@ fn column_reach(head: &[u8], column: u8) -> [u64; 16]
 
 // The words of row i, given those of the lower rows.
 fn row_reach(head: &[u8], plan: &[u8], supporting: [u64; 16], table: &[u64], i: u8) -> [u64; 16]
-    ensures { λ r. ⌜ (Supporting (now (head .entry)) supporting → PlanSound (now (head .entry)) (now (plan .entry)) → Reached (now (head .entry)) (now (plan .entry)) i (now (table .entry)) → RowReached (now (head .entry)) (now (plan .entry)) i r) ⌝ }
+    ensures { λ r. ⌜ RowStep (now (head .entry)) (now (plan .entry)) supporting (now (table .entry)) i r ⌝ }
 {
     let b = row_words(table, row_b(plan, i));
     let c = row_words(table, row_c(plan, i));
@@ -114,7 +104,8 @@ fn store_row(table: &mut [u64], i: u8, row: [u64; 16])
 
 // The words of the first n rows, from row 0 up.
 pub fn reach_table(head: &[u8], plan: &[u8], n: u8) -> [u64; 1024]
-    ensures { λ r. ⌜ (PlanSound (now (head .entry)) (now (plan .entry)) → n ≤ 64 → Reached (now (head .entry)) (now (plan .entry)) n r) ⌝ }
+    ensures { λ r. ⌜ (PlanSound (now (head .entry)) (now (plan .entry)) → n ≤ 64
+        → Reached (now (head .entry)) (now (plan .entry)) n r) ⌝ }
 {
     let supporting = supporters(head);
     let mut table = [0u64; 1024];

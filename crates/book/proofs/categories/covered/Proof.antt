@@ -2,7 +2,7 @@
 use Prim.Native.Nat.{_-_, _^_}
 use lib.Bits.{bitAnd}
 use borrow.Author.Needs.{needs}
-use Rattle.book.specs.Head.{parentIn}
+use Rattle.book.specs.Inner.Reading.{parentIn}
 use Rattle.book.proofs.Members.{has-minus}
 use Rattle.book.proofs.Hierarchies.{covered-at}
 use Rattle.book.proofs.categories.covered.Statement.{statement}

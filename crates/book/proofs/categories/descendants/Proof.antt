@@ -1,7 +1,7 @@
 -- One rising pass: the law `risen-more` is its step. Assumes nothing.
 use Prim.Native.Nat.{_-_}
 use borrow.Author.Needs.{needs}
-use Rattle.book.specs.Head.{parentIn}
+use Rattle.book.specs.Inner.Reading.{parentIn}
 use Rattle.book.proofs.Members.{has-above}
 use Rattle.book.proofs.Hierarchies.{Risen, risen-none, risen-more, risen-end}
 use Rattle.book.proofs.categories.descendants.Statement.{statement}

@@ -3,7 +3,7 @@ use Prim.Native.Nat.{_-_, _≤_}
 use native.Mathlib.Omega.{arith}
 use mathlib.Core.Path.{_≡_, _∙_}
 use lib.ListN.{length}
-use Rattle.lineage.specs.Table.{PlanSound, Reached}
+use Rattle.lineage.specs.Inner.Table.{PlanSound, Reached}
 use Rattle.lineage.proofs.Steps.{reached-none, reached-more}
 use borrow.Author.Needs.{needs}
 use Rattle.lineage.proofs.reach.reach_table.Statement.{statement}

@@ -3,7 +3,7 @@ use Prim.Native.Nat.{ℕ, _<_}
 use lib.ListN.{getD}
 use Rattle.book.specs.Sets.{WordOf}
 use Rattle.lineage.specs.Rows.{kindAt, kindOf}
-use Rattle.lineage.specs.Table.{Reached}
+use Rattle.lineage.specs.Inner.Table.{Reached}
 use Rattle.lineage.proofs.Steps.{brought, joined-words, column-row, apply-row, choose-row, no-row, kind-is, no-value}
 use borrow.Author.Needs.{needs}
 use Rattle.lineage.proofs.reach.row_reach.Statement.{statement}

@@ -1,0 +1,24 @@
+-- Both hierarchies of a book under one name, for the functions that serve both, and the words that the crates above keep.
+-- No call's promise leans on this file. Assumes nothing.
+use Prim.Native.Nat.{ℕ, _<_}
+use mathlib.Core.Bool.{_&&_}
+use mathlib.Core.List.{List}
+use lib.ListN.{getD}
+use Rattle.book.specs.Sets.{WordOf}
+use Rattle.book.specs.Blocks.{Head}
+use Rattle.book.specs.Head.{userCount, userParent, dataCount, dataParent, isDataLeaf, supports}
+use Rattle.book.specs.declared.Hierarchy.{Hierarchy}
+use Rattle.book.specs.declared.Hierarchy.the-variants.{Users, Data}
+
+abbrev pub countIn : Hierarchy → Head → ℕ
+countIn Users head = userCount head
+countIn Data head = dataCount head
+
+abbrev pub parentIn : Hierarchy → Head → ℕ → ℕ
+parentIn Users head i = userParent head i
+parentIn Data head i = dataParent head i
+
+-- for each operation the leaves that support it
+abbrev pub Supporting : Head → List ℕ → Type 0
+Supporting head words =
+    (k : ℕ) → k < 16 → WordOf (λ d. isDataLeaf head d && supports head d k) (getD words k 0)
