@@ -1,13 +1,14 @@
 -- Laws of Book check: the outcome of its tests by those of the three passes, and its answer by that outcome.
 -- Assumes nothing.
 use Prim.Native.Nat.{ℕ, _≤_}
-use mathlib.Core.Path.{_≡_, sym, ap, _∙_}
+use native.Mathlib.Omega.{arith}
+use mathlib.Core.Path.{_≡_, refl, sym, ap, _∙_}
 use mathlib.Core.Bool.{true, false}
 use mathlib.Core.List.{List, _++_}
 use lib.ListN.{length}
 use Rattle.book.specs.Lists.{flat, upTo}
 use Rattle.book.specs.Blocks.{blockCount, ruleCount}
-use Rattle.book.specs.Tests.{firstFailing}
+use Rattle.book.specs.Tests.{firstFailing, refusedOr, answered}
 use Rattle.book.specs.Refusals.{BookAccepted, bookTests, blockByBlock, checkTests, contentTests, kindTests}
 use Rattle.book.specs.Refusals.{lengthHolds, lengthTests}
 use Rattle.book.specs.Answers.{checkAnswer}
@@ -60,3 +61,17 @@ module _ (book : List ℕ) where
   unfolding checkAnswer
   check-refused r h =
       sym (answered-refused (bookTests book) checked.Refused (checked.Accepted (ruleCount book)) r h)
+
+  -- an accepting answer says that nothing is refused, and gives the number of rules
+  pub accepted-passes : (n : ℕ) → checkAnswer book ≡ checked.Accepted n → BookAccepted book × (ruleCount book ≡ n)
+  unfolding checkAnswer answered refusedOr
+  accepted-passes n h = go (firstFailing (bookTests book)) refl
+    where
+      go : (f : Tested) → firstFailing (bookTests book) ≡ f → BookAccepted book × (ruleCount book ≡ n)
+      go tested.Passed e =
+          let a : checked.Accepted (ruleCount book) ≡ checked.Accepted n = rw e at h in
+          (e, cc)
+      go (tested.Refused r) e =
+          let a : checked.Refused r ≡ checked.Accepted n = rw e at h in
+          let z : _≡_ {A = ℕ} 0 1 = cc in
+          absurd (omega arith)

@@ -18,11 +18,13 @@ use Rattle.book.specs.Refusals.{referenceHolds, numbersHold, leafSetsApa
 use Rattle.book.specs.Refusals.{maskHolds, masksHold, lengthTests, checkTests, kindTests}
 use Rattle.book.specs.Refusals.{usersBlockTests, dataBlockTests, columnsBlockTests, functionsBlockTests}
 use Rattle.book.specs.Refusals.{ruleBlockTests, blockTests, contentTests, blockByBlock, bookTests, sealTests}
+use Rattle.book.specs.Refusals.{BookAccepted}
 use Rattle.book.specs.Tests.{firstFailing, refusedOr, answered}
 use Rattle.book.specs.Answers.{checkAnswer, withCheck, sealBytes}
 use Rattle.book.specs.Shop.{padded, block, users, categories, columns, functions, rule, rule0, rule1, rule2, shop}
 use Rattle.book.specs.declared.Checked.{Checked}
 use Rattle.book.specs.declared.Checked.the-variants.{Accepted}
+use Rattle.book.proofs.CheckLaws.{accepted-passes}
 
 -- "* A block of kind 4, all else zero, has check 4; a block with only byte 509 set, to 255, has 64,529."
 unfoldable pub checkCases : List (List ℕ × ℕ)
@@ -42,3 +44,6 @@ unfolding all any upTo from has upwardIn upward under leaf covers properDescenda
     sealTests flat firstFailing refusedOr answered checkAnswer withCheck sealBytes padded block users categories columns functions
     rule rule0 rule1 rule2 shop
 shop-accepted = refl
+
+pub shop-passes : BookAccepted shop
+shop-passes = accepted-passes shop 3 shop-accepted .0

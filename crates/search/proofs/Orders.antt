@@ -9,12 +9,11 @@ use mathlib.Core.List.{List, [], _∷_, map, List·Memᴰ, List·Memᴰ·head, M
 use lib.Dec.{eqb, ltb}
 use borrow.Author.Tests.{eqb-true, eq-eqb, ltb-true, le-ltb}
 use Rattle.book.specs.Lists.{all, any, upTo}
-use Rattle.book.specs.Blocks.{headOf, ruleAt}
+use Rattle.book.specs.Blocks.{headOf, ruleAt, ruleCount}
 use Rattle.book.specs.Hierarchies.{leaf}
 use Rattle.book.specs.Head.{dataCount, functionCount, isUser, operation, supports, userCount, userParent}
 use Rattle.book.specs.Rule.{referenceCount}
-use Rattle.book.specs.Answers.{checkAnswer, ruleCount}
-use Rattle.book.specs.declared.Checked.the-variants.{Accepted}
+use Rattle.book.specs.Refusals.{BookAccepted}
 use Rattle.book.proofs.Accepted.{HeadHolds, accepted-head}
 use Rattle.book.proofs.Lists.{and-true, and-left, and-right, and-both, and-false, or-true, map-all}
 use Rattle.verdicts.specs.Accesses.{Access, Accesses, everyAccess, fits, fitting, flat, keep, same}
@@ -300,7 +299,7 @@ module _ (head rule : List ℕ) (holds : HeadHolds head) where
 
 -- The first candidate that breaks a rule alone
 
-module _ (book : List ℕ) (n : ℕ) (accepted : checkAnswer book ≡ Accepted n) (r : ℕ) (l : r < ruleCount book) where
+module _ (book : List ℕ) (accepted : BookAccepted book) (r : ℕ) (l : r < ruleCount book) where
   pub first-none :
       ((c : Candidate)
       → isUser (headOf book) (c .user) ≡ true
@@ -329,7 +328,7 @@ module _ (book : List ℕ) (n : ℕ) (accepted : checkAnswer book ≡ Accepted n
   first-shown c u h p lower =
       shown-first (candidateAlone book r) candidateBefore (candidates (headOf book) (ruleAt book r)) c
       (candidates-rising (headOf book) (ruleAt book r))
-      (candidate-in (headOf book) (ruleAt book r) (accepted-head book n accepted) c u h) p
+      (candidate-in (headOf book) (ruleAt book r) (accepted-head book accepted) c u h) p
       (λ d m.
       let q = candidate-parts (headOf book) (ruleAt book r) d m in
       lower d (q .0) (q .1))
@@ -344,7 +343,7 @@ module _ (book : List ℕ) (n : ℕ) (accepted : checkAnswer book ≡ Accepted n
   unfolding firstAlone
   none-alone e c u h =
       first-nothing (candidateAlone book r) (candidates (headOf book) (ruleAt book r)) e c
-      (candidate-in (headOf book) (ruleAt book r) (accepted-head book n accepted) c u h)
+      (candidate-in (headOf book) (ruleAt book r) (accepted-head book accepted) c u h)
 
   pub shown-alone :
       (c : Candidate)
@@ -367,5 +366,5 @@ module _ (book : List ℕ) (n : ℕ) (accepted : checkAnswer book ≡ Accepted n
         p .0,
         p .1,
         s .1,
-        λ d u h. s .2 d (candidate-in head rule (accepted-head book n accepted) d u h),
+        λ d u h. s .2 d (candidate-in head rule (accepted-head book accepted) d u h),
       )

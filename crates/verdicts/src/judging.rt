@@ -82,22 +82,20 @@ pub fn broken(book: &[u8], n: u8, rules: u64, words: [u64; 32]) -> u64
     found
 }
 
-fn user_check(head: &[u8], user: u32) -> Checked
-    ensures { λ r. ⌜ (userCount (now (head .entry)) ≤ 64 → r ≡ userAnswer (now (head .entry)) user) ⌝ }
+fn test_user(head: &[u8], user: u32) -> Tested
+    ensures { λ r. ⌜ (userCount (now (head .entry)) ≤ 64
+        → r ≡ firstFailing (userTests (now (head .entry)) user)) ⌝ }
 {
-    if contains(leaves(head, Hierarchy::Users), user as usize) {
-        return Checked::Accepted(0);
-    }
-    refused(NO_USER, 0)
+    test(NO_USER, 0, contains(leaves(head, Hierarchy::Users), user as usize))
 }
 
-// The refusal that comes first, of the book, of the user, of the plan.
-fn judge_check(book: &[u8], user: u32, plan: &[u8]) -> Checked
-    ensures { λ r. ⌜ r ≡ judgeCheck (now (book .entry)) user (now (plan .entry)) ⌝ }
+// The tests of the book, of the user, of the plan.
+fn test_judge(book: &[u8], user: u32, plan: &[u8]) -> Tested
+    ensures { λ r. ⌜ r ≡ firstFailing (judgeTests (now (book .entry)) user (now (plan .entry))) ⌝ }
 {
     let head = head_of(book);
-    let rest = or_else(user_check(head, user), plan_check(head, plan));
-    or_else(check(book), rest)
+    let both = or_else(test_book(book), test_user(head, user));
+    or_else(both, test_plan(head, plan))
 }
 
 // The mask of the rules that a user and an accepted plan break.
@@ -113,9 +111,9 @@ fn mask_of(book: &[u8], user: u32, plan: &[u8]) -> u32
 pub fn judge(book: &[u8], user: u32, plan: &[u8]) -> Judged
     ensures { λ r. ⌜ r ≡ judgeAnswer (now (book .entry)) user (now (plan .entry)) ⌝ }
 {
-    let checked = judge_check(book, user, plan);
-    match checked {
-        Checked::Refused(refusal) => Judged::Refused(refusal),
-        Checked::Accepted(_) => Judged::Broken(mask_of(book, user, plan)),
+    let outcome = test_judge(book, user, plan);
+    match outcome {
+        Tested::Refused(refusal) => Judged::Refused(refusal),
+        Tested::Passed => Judged::Broken(mask_of(book, user, plan)),
     }
 }
