@@ -13,11 +13,11 @@ use Rattle.book.specs.Sets.{has}
 use Rattle.book.proofs.Lists.{and-true, and-left, and-both, or-neither, same-test}
 use Rattle.book.proofs.Members.{has-zero, has-and, has-minus, has-single}
 use Rattle.lineage.proofs.Tables.{Filled, fill-none, fill-more}
-use Rattle.search.specs.Places.{inPlaces}
-use Rattle.search.specs.Table.{meets}
-use Rattle.search.specs.Closing.{acceptedAt, closes, Sifted}
-use Rattle.search.specs.Search.{candidate, refuses, drops, solves, solvesIn}
-use Rattle.search.specs.Search.{Thirds, Possible}
+use Rattle.search.specs.Inner.Places.{inPlaces}
+use Rattle.search.specs.Inner.Table.{meets}
+use Rattle.search.specs.Inner.Closing.{acceptedAt, closes, Sifted}
+use Rattle.search.specs.Inner.Search.{candidate, refuses, drops, solves, solvesIn}
+use Rattle.search.specs.Inner.Search.{Thirds, Possible}
 use Rattle.search.specs.declared.sifting.Remaining.{Remaining}
 use Rattle.search.proofs.Solutions.{Grown, Within, dropIn, grown-join, grown-within, passes, passing}
 use Rattle.search.proofs.Solutions.{place-below, unmarked}

@@ -15,9 +15,9 @@ use Rattle.book.proofs.Lists.{and-left, and-right, any-none, any-more, or-assoc
 use Rattle.book.proofs.Members.{has-zero, has-or, has-and, has-not, has-minus}
 use Rattle.lineage.proofs.Tables.{Filled}
 use Rattle.verdicts.proofs.Marks.{has-if}
-use Rattle.search.specs.Places.{inPlaces}
-use Rattle.search.specs.Table.{meets, takesAt}
-use Rattle.search.specs.Closing.{acceptedAt, closesAt}
+use Rattle.search.specs.Inner.Places.{inPlaces}
+use Rattle.search.specs.Inner.Table.{meets, takesAt}
+use Rattle.search.specs.Inner.Closing.{acceptedAt, closesAt}
 
 module _ (t : List ℕ) (q i k l b c : ℕ) where
   -- The restrictions

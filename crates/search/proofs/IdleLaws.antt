@@ -22,10 +22,10 @@ use Rattle.lineage.proofs.FlowLaws.{else-accepted}
 use Rattle.search.specs.Shown.{shownPlan}
 use Rattle.search.specs.Answers.{ruleAnswer, bufferAnswer, idleCheck, idlenessOf, refusedOr, idleAnswer, written}
 use Rattle.search.specs.Answers.{idleBuffer}
-use Rattle.search.specs.Places.{choiceAt, rowsAt}
-use Rattle.search.specs.Table.{TableHolds, HadHolds, CoversHold}
-use Rattle.search.specs.Search.{NeedsFirst}
-use Rattle.search.specs.First.{foundOf, FirstNeeds, answerOf, bufferOf}
+use Rattle.search.specs.Inner.Places.{choiceAt, rowsAt}
+use Rattle.search.specs.Inner.Table.{TableHolds, HadHolds, CoversHold}
+use Rattle.search.specs.Inner.Search.{NeedsFirst}
+use Rattle.search.specs.Inner.First.{foundOf, FirstNeeds, answerOf, bufferOf}
 use Rattle.search.specs.declared.Idleness.{Idleness}
 use Rattle.search.specs.declared.Idleness.the-variants as idleness
 use Rattle.search.specs.declared.users.Needs.{Needs}

@@ -28,10 +28,10 @@ use Rattle.verdicts.proofs.Quantifiers.{any-below}
 use Rattle.verdicts.proofs.Sound.{few-rules, rules-sound}
 use Rattle.search.specs.Choices.{Candidate, candidateBefore, choiceBefore, isChoice}
 use Rattle.search.specs.Alone.{breaksAlone, candidateAlone}
-use Rattle.search.specs.Places.{choiceAt}
-use Rattle.search.specs.Table.{CoversHold, HadHolds, TableHolds}
-use Rattle.search.specs.Search.{NeedsFirst, NeedsUser, candidate, drops, othersFor, refuses, solves, solvesFor}
-use Rattle.search.specs.First.{FirstNeeds, foundOf}
+use Rattle.search.specs.Inner.Places.{choiceAt}
+use Rattle.search.specs.Inner.Table.{CoversHold, HadHolds, TableHolds}
+use Rattle.search.specs.Inner.Search.{NeedsFirst, NeedsUser, candidate, drops, othersFor, refuses, solves, solvesFor}
+use Rattle.search.specs.Inner.First.{FirstNeeds, foundOf}
 use Rattle.search.specs.declared.users.Needs.{Needs}
 use Rattle.search.specs.declared.users.Needs.the-variants.{Nobody, User}
 use Rattle.search.proofs.Orders as orders

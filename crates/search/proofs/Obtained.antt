@@ -12,8 +12,8 @@ use Rattle.book.specs.Sets.{has, WordOf}
 use Rattle.book.specs.Head.{functionCount, operation, supportOf, supports}
 use Rattle.book.proofs.Members.{has-or, has-and, has-single}
 use Rattle.search.specs.Obtainable.{labelled, operated, canBeHad}
-use Rattle.search.specs.Places.{accessAt}
-use Rattle.search.specs.Table.{HadHolds}
+use Rattle.search.specs.Inner.Places.{accessAt}
+use Rattle.search.specs.Inner.Table.{HadHolds}
 use Rattle.search.proofs.Building.{Built}
 
 -- the operations of a label that some column has

@@ -20,10 +20,10 @@ use Rattle.verdicts.proofs.Masks.{beside}
 use Rattle.verdicts.proofs.Offers.{in-offers, found-offers, offers-present, offers-absent}
 use Rattle.verdicts.proofs.Choices.{refusesThree, refused-by-operations}
 use Rattle.verdicts.proofs.Closing.{Apart, same-equal, same-self}
-use Rattle.search.specs.Places.{accessAt, chosenAt, choiceAt, nowhere}
-use Rattle.search.specs.Table.{meets, takesAt, takesOperation, TableHolds}
-use Rattle.search.specs.Closing.{acceptedAt, closesAt, closesBy, closes}
-use Rattle.search.specs.Search.{drops}
+use Rattle.search.specs.Inner.Places.{accessAt, chosenAt, choiceAt, nowhere}
+use Rattle.search.specs.Inner.Table.{meets, takesAt, takesOperation, TableHolds}
+use Rattle.search.specs.Inner.Closing.{acceptedAt, closesAt, closesBy, closes}
+use Rattle.search.specs.Inner.Search.{drops}
 use Rattle.search.proofs.AloneLaws.{members}
 
 -- Tests in another order

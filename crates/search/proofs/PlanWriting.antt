@@ -12,7 +12,7 @@ use lib.Dec.{eqb, ltb, leb}
 use borrow.Author.Tests.{ltb-true, ltb-false, lt-ltb, le-ltb, leb-true, leb-false, lt-leb, eq-eqb, ne-eqb}
 use Rattle.book.proofs.Lists.{and-true, and-left, or-rest, or-neither}
 use Rattle.verdicts.specs.Accesses.{Access}
-use Rattle.search.specs.Places.{accessAt, chosenAt, choiceAt, rowsAt}
+use Rattle.search.specs.Inner.Places.{accessAt, chosenAt, choiceAt, rowsAt}
 use Rattle.search.specs.Shown.{columnFor, functionFor, columnRow, applyRow, lastRow, rowsOf, accessRows}
 use Rattle.search.specs.Shown.{shownFrom, shownPlan}
 use Rattle.search.proofs.PlaceLaws.{rows-nowhere, rows-plain, rows-applied, rows-some, rows-most}

@@ -15,9 +15,9 @@ use Rattle.book.specs.Sets.{has, WordOf}
 use Rattle.book.proofs.Lists.{and-true, and-left, and-right, and-end, and-false, or-neither, or-rest, or-true}
 use Rattle.book.proofs.Members.{has-zero, has-or, has-minus, has-above, has-and}
 use Rattle.verdicts.proofs.Quantifiers.{any-wider, at-any}
-use Rattle.search.specs.Places.{inPlaces}
-use Rattle.search.specs.Table.{meets}
-use Rattle.search.specs.Closing.{closes, closesBy, Turned, Sifted, Skipping}
+use Rattle.search.specs.Inner.Places.{inPlaces}
+use Rattle.search.specs.Inner.Table.{meets}
+use Rattle.search.specs.Inner.Closing.{closes, closesBy, Turned, Sifted, Skipping}
 use Rattle.search.specs.declared.sifting.Remaining.{Remaining}
 use Rattle.search.proofs.Fours.{has-cut}
 

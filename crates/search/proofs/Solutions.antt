@@ -13,10 +13,10 @@ use Rattle.book.specs.Sets.{has}
 use Rattle.book.proofs.Lists.{and-true, and-left, and-right, at-none, none-at}
 use Rattle.book.proofs.Members.{has-zero}
 use Rattle.verdicts.proofs.Quantifiers.{any-at}
-use Rattle.search.specs.Places.{FirstFrom, inPlaces}
-use Rattle.search.specs.Closing.{closes}
-use Rattle.search.specs.Search.{candidate, refuses, drops, solves, solvesIn, solvesBeside}
-use Rattle.search.specs.Search.{tripleBefore, Solved, Unsolved, Searched}
+use Rattle.search.specs.Inner.Places.{FirstFrom, inPlaces}
+use Rattle.search.specs.Inner.Closing.{closes}
+use Rattle.search.specs.Inner.Search.{candidate, refuses, drops, solves, solvesIn, solvesBeside}
+use Rattle.search.specs.Inner.Search.{tripleBefore, Solved, Unsolved, Searched}
 use Rattle.search.specs.declared.searching.Sought.{Sought}
 use Rattle.search.specs.declared.searching.Sought.the-variants.{Found, Nothing}
 use Rattle.search.proofs.Sieves.{both}

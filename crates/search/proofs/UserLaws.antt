@@ -14,8 +14,8 @@ use Rattle.book.specs.Sets.{has}
 use Rattle.book.proofs.Lists.{and-true, and-left, and-right, and-second}
 use Rattle.book.proofs.Members.{has-zero, has-minus}
 use Rattle.verdicts.proofs.Marks.{Marks}
-use Rattle.search.specs.Search.{coversIn, othersFor, solves, solvesFor, Settles, Searched, SearchedFor}
-use Rattle.search.specs.Search.{NeedsFirst}
+use Rattle.search.specs.Inner.Search.{coversIn, othersFor, solves, solvesFor, Settles, Searched, SearchedFor}
+use Rattle.search.specs.Inner.Search.{NeedsFirst}
 use Rattle.search.specs.declared.searching.Sought.{Sought}
 use Rattle.search.specs.declared.searching.Sought.the-variants.{Found, Nothing}
 use Rattle.search.specs.declared.users.Needs.the-variants.{Nobody, User}

@@ -8,9 +8,9 @@ ghost use mathlib.Core.Bool.{_&&_, _||_, not};
 ghost use Prim.Native.Nat.{ℕ, _+_, _*_, _%_, _<_};
 ghost use lib.ListN.{getD};
 ghost use Rattle.book.specs.Sets.{has};
-ghost use Rattle.search.specs.Places.{inPlaces};
-ghost use Rattle.search.specs.Table.{meets};
-ghost use Rattle.search.specs.Closing.{acceptedAt, closesAt, closesBy};
+ghost use Rattle.search.specs.Inner.Places.{inPlaces};
+ghost use Rattle.search.specs.Inner.Table.{meets};
+ghost use Rattle.search.specs.Inner.Closing.{acceptedAt, closesAt, closesBy};
 
 // Whether place p meets reference i of rule q.
 fn meets(t: &[u64], q: u8, i: u8, p: usize) -> bool

@@ -26,7 +26,7 @@ ghost use Rattle.book.specs.Answers.{checkAnswer, ruleCount};
 ghost use Rattle.book.specs.declared.Checked.the-variants.{Accepted};
 ghost use Rattle.search.specs.Answers.{ruleAnswer, bufferAnswer, idleCheck, idleAnswer, idleBuffer};
 ghost use Rattle.search.specs.Demand.{Demand3};
-ghost use Rattle.search.specs.First.{FirstNeeds, answerOf, bufferOf};
+ghost use Rattle.search.specs.Inner.First.{FirstNeeds, answerOf, bufferOf};
 
 fn rule_check(book: &[u8], rule: u32) -> Checked
     ensures { λ r. ⌜ r ≡ ruleAnswer (now (book .entry)) rule ⌝ }

@@ -15,7 +15,7 @@ ghost use Rattle.book.specs.Lists.{any, upTo};
 ghost use Rattle.book.specs.Sets.{has, WordOf};
 ghost use Rattle.book.specs.Head.{functionCount, operation};
 ghost use Rattle.search.specs.Obtainable.{labelled, operated};
-ghost use Rattle.search.specs.Table.{HadHolds};
+ghost use Rattle.search.specs.Inner.Table.{HadHolds};
 
 // The labels of the columns.
 fn labels_of(head: &[u8]) -> u64

@@ -5,7 +5,7 @@ ghost use mathlib.Core.Bool.{true, false};
 ghost use Prim.Native.Nat.{ℕ, _≤_, _<_};
 ghost use lib.ListN.{getD};
 ghost use Rattle.book.specs.Sets.{has};
-ghost use Rattle.search.specs.Places.{FirstFrom, rowsAt};
+ghost use Rattle.search.specs.Inner.Places.{FirstFrom, rowsAt};
 
 pub const NOWHERE: usize = 2048;
 

@@ -13,8 +13,8 @@ ghost use mathlib.Core.Path.{_≡_};
 ghost use mathlib.Core.Bool.{true, _&&_, not};
 ghost use Prim.Native.Nat.{ℕ, _+_, _*_, _%_, _<_};
 ghost use Rattle.book.specs.Sets.{has};
-ghost use Rattle.search.specs.Places.{inPlaces};
-ghost use Rattle.search.specs.Search.{referenceAt, candidate, solves, solvesIn, solvesFirst, solvesBeside, Searched, Thirds, Possible};
+ghost use Rattle.search.specs.Inner.Places.{inPlaces};
+ghost use Rattle.search.specs.Inner.Search.{referenceAt, candidate, solves, solvesIn, solvesFirst, solvesBeside, Searched, Thirds, Possible};
 
 // The first three places; or the rules that took places away, and which of them did so last.
 pub enum Sought {

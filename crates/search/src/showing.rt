@@ -10,7 +10,7 @@ ghost use mathlib.Core.Path.{_≡_};
 ghost use mathlib.Core.List.{[], _∷_, _++_};
 ghost use Prim.Native.Nat.{_+_, _*_, _≤_, _<_};
 ghost use lib.ListN.{length, take, drop};
-ghost use Rattle.search.specs.Places.{chosenAt, choiceAt, rowsAt};
+ghost use Rattle.search.specs.Inner.Places.{chosenAt, choiceAt, rowsAt};
 ghost use Rattle.search.specs.Shown.{columnFor, functionFor, lastRow, shownFrom, shownPlan};
 
 // The lowest column with a label.

@@ -12,7 +12,7 @@ ghost use mathlib.Core.Bool.{true, false};
 ghost use Prim.Native.Nat.{ℕ, _≤_, _<_};
 ghost use lib.ListN.{getD};
 ghost use Rattle.book.specs.Sets.{has};
-ghost use Rattle.search.specs.Closing.{closes, Turned, Sifted, Skipping};
+ghost use Rattle.search.specs.Inner.Closing.{closes, Turned, Sifted, Skipping};
 
 // What remains of a set of places; the rules that took some away, and which of them did so last.
 pub struct Remaining {

@@ -22,7 +22,7 @@ ghost use Rattle.book.specs.Sets.{has, WordOf};
 ghost use Rattle.book.specs.Blocks.{headOf, ruleAt};
 ghost use Rattle.book.specs.Rule.{coversUser, inLeafSet};
 ghost use Rattle.verdicts.specs.Accesses.{actionFits};
-ghost use Rattle.search.specs.Table.{TableHolds, CoversHold, RuleWord, meetsReference, takesOperation};
+ghost use Rattle.search.specs.Inner.Table.{TableHolds, CoversHold, RuleWord, meetsReference, takesOperation};
 
 // All operations of one leaf, if it is in a set.
 fn if_leaf(leaves: u64, d: usize) -> u64

@@ -11,7 +11,7 @@ ghost use Prim.Native.Nat.{ℕ, _<_};
 ghost use lib.Dec.{ltb};
 ghost use lib.ListN.{getD};
 ghost use Rattle.book.specs.Sets.{has};
-ghost use Rattle.search.specs.Search.{coversIn, othersFor, Settles, SearchedFor, NeedsFirst};
+ghost use Rattle.search.specs.Inner.Search.{coversIn, othersFor, Settles, SearchedFor, NeedsFirst};
 
 // Nobody; or the first user, and the three places of its first choice.
 pub enum Needs {

@@ -1,7 +1,7 @@
 -- Each turn drops one rule that breaks at no place (`Skipping`), which makes the word smaller. Assumes nothing.
 use Prim.Native.Nat.{_^_, _<_}
 use native.Mathlib.Omega.{arith}
-use Rattle.search.specs.Closing.{Skipping}
+use Rattle.search.specs.Inner.Closing.{Skipping}
 use Rattle.search.proofs.Sieves.{less-smaller, skip-none, skip-more, skip-end}
 use borrow.Author.Needs.{needs}
 use Rattle.search.proofs.sifting.from_touching.Statement.{statement}

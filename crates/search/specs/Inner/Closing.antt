@@ -1,12 +1,13 @@
--- Which places break a rule beside two others, in the tables' terms. Assumes nothing.
+-- Which places break a rule beside two others, in the tables' terms. No call's promise leans on this file. Assumes
+-- nothing.
 use Prim.Native.Nat.{ℕ, _≤_, _<_}
 use mathlib.Core.Path.{_≡_}
 use mathlib.Core.Bool.{Bool, true, false, _&&_, _||_, not}
 use mathlib.Core.List.{List}
 use Rattle.book.specs.Lists.{any, upTo}
 use Rattle.book.specs.Sets.{has}
-use Rattle.search.specs.Places.{inPlaces, pastPlaces}
-use Rattle.search.specs.Table.{meets, takesAt}
+use Rattle.search.specs.Inner.Places.{inPlaces, pastPlaces}
+use Rattle.search.specs.Inner.Table.{meets, takesAt}
 use Rattle.search.specs.declared.sifting.Remaining.{Remaining}
 
 -- some restriction takes p at reference i, b at k and c at l

@@ -1,5 +1,5 @@
--- What the search looks for, in the tables' terms: three places, one for each reference of rule r, the absent ones first.
--- Assumes nothing.
+-- What the search looks for, in the tables' terms: three places, one for each reference of rule r, the absent ones
+-- first. No call's promise leans on this file. Assumes nothing.
 use Prim.Native.Nat.{ℕ, _+_, _/_, _%_, _<_}
 use mathlib.Core.Path.{_≡_}
 use mathlib.Core.Bool.{Bool, true, false, _&&_, _||_, not, cond}
@@ -8,9 +8,9 @@ use lib.ListN.{getD}
 use lib.Dec.{eqb, ltb}
 use Rattle.book.specs.Lists.{any, upTo}
 use Rattle.book.specs.Sets.{has}
-use Rattle.search.specs.Places.{inPlaces, nowhere, pastPlaces}
-use Rattle.search.specs.Table.{meets}
-use Rattle.search.specs.Closing.{acceptedAt, closes}
+use Rattle.search.specs.Inner.Places.{inPlaces, nowhere, pastPlaces}
+use Rattle.search.specs.Inner.Table.{meets}
+use Rattle.search.specs.Inner.Closing.{acceptedAt, closes}
 use Rattle.search.specs.declared.sifting.Remaining.{Remaining}
 use Rattle.search.specs.declared.searching.Sought.{Sought}
 use Rattle.search.specs.declared.searching.Sought.the-variants.{Found, Nothing}

@@ -1,12 +1,12 @@
--- What the search says of a book: the first user and choice, as places. The calls' promises do not lean on this file.
--- Assumes nothing.
+-- What the search says of a book: the first user and choice, as places. No call's promise leans on this file. Assumes
+-- nothing.
 use Prim.Native.Nat.{ℕ}
 use mathlib.Core.Path.{_≡_}
 use mathlib.Core.List.{List}
 use Rattle.search.specs.Choices.{Candidate}
 use Rattle.search.specs.Alone.{First, none, shown, firstAlone}
 use Rattle.search.specs.Answers.{idlenessOf, written}
-use Rattle.search.specs.Places.{choiceAt}
+use Rattle.search.specs.Inner.Places.{choiceAt}
 use Rattle.search.specs.declared.Idleness.{Idleness}
 use Rattle.search.specs.declared.users.Needs.{Needs}
 use Rattle.search.specs.declared.users.Needs.the-variants.{Nobody, User}

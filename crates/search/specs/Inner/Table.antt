@@ -1,4 +1,5 @@
--- The tables of the search: 128 words for each rule, and what they say of the book. Assumes nothing.
+-- The tables of the search: 128 words for each rule, and what they say of the book. No call's promise leans on this
+-- file. Assumes nothing.
 use Prim.Native.Nat.{ℕ, _+_, _-_, _*_, _/_, _%_, _≤_, _<_}
 use mathlib.Core.Path.{_≡_}
 use mathlib.Core.Bool.{Bool, true, _&&_, cond}
@@ -11,7 +12,7 @@ use Rattle.book.specs.Rule.{action, referenceCount, restrictionCount, restricti
 use Rattle.verdicts.specs.Accesses.{actionFits, fits}
 use Rattle.verdicts.specs.Words.{maskTakes}
 use Rattle.search.specs.Obtainable.{canBeHad}
-use Rattle.search.specs.Places.{accessAt, nowhere}
+use Rattle.search.specs.Inner.Places.{accessAt, nowhere}
 
 -- place p meets reference i of rule q: 33 words of places a reference
 unfoldable pub meets : List ℕ → ℕ → ℕ → ℕ → Bool

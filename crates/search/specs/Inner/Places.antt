@@ -1,4 +1,4 @@
--- Accesses as numbers, in document 01's order, and sets of them as 33 words. The calls' promises do not lean on this file.
+-- Accesses as numbers, in document 01's order, and sets of them as 33 words. No call's promise leans on this file.
 -- Assumes nothing.
 use Prim.Native.Nat.{ℕ, _+_, _*_, _/_, _%_, _≤_, _<_}
 use mathlib.Core.Path.{_≡_}
