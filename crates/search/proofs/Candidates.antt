@@ -73,7 +73,7 @@ candidate-absent t r n had i reference zeros p same absent size none l =
 -- the words of a reference's places that can be had; the last word stays empty
 pub record Candidates (t had : List ℕ) (r reference : ℕ) (found : List ℕ) (w : ℕ) : Type 0 where
   pub short : w ≤ 32
-  pub filled : Filled 33 (λ k. bitAnd (getD had k 0) (getD t (128 * r + 33 * reference + k) 0)) found w
+  pub filled : Filled 33 (λ k x. x ≡ bitAnd (getD had k 0) (getD t (128 * r + 33 * reference + k) 0)) found w
   pub last : getD found 32 0 ≡ 0
 
 module _ (t had : List ℕ) (r reference : ℕ) where
@@ -125,7 +125,7 @@ pub less-operations :
     (places rest : List ℕ) (operations w p : ℕ)
     → operations < 2 ^ 64
     → getD places (p / 64) 0 < 2 ^ 64
-    → Filled 33 (λ k. bitAnd (getD places k 0) ((2 ^ 64 - 1) - operations)) rest w
+    → Filled 33 (λ k x. x ≡ bitAnd (getD places k 0) ((2 ^ 64 - 1) - operations)) rest w
     → p / 64 < w
     → inPlaces rest p ≡ (inPlaces places p && not (has operations (p % 64)))
 unfolding inPlaces

@@ -112,7 +112,7 @@ module _ (t : List ℕ) (q first second third : ℕ) where
       → second < 2 ^ 64
       → third < 2 ^ 64
       → getD set (p / 64) 0 < 2 ^ 64
-      → Filled 33 (lessWord set) rest w
+      → Filled 33 (λ k x. x ≡ lessWord set k) rest w
       → p / 64 < w
       → inPlaces rest p
       ≡ (inPlaces set p

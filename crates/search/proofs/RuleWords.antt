@@ -12,11 +12,11 @@ use Rattle.book.specs.Blocks.{headOf, ruleAt}
 use Rattle.book.specs.Rule.{action, referenceCount, restrictionCount, restrictionMask, coversUser, inLeafSet}
 use Rattle.book.proofs.Lists.{and-end}
 use Rattle.book.proofs.Members.{has-cond, has-below, has-zero}
+use Rattle.lineage.proofs.Tables.{Filled}
 use Rattle.verdicts.specs.Accesses.{actionFits, fits}
 use Rattle.verdicts.specs.Words.{maskTakes}
 use Rattle.search.specs.Inner.Places.{accessAt, nowhere}
 use Rattle.search.specs.Inner.Table.{meets, takesAt, meetsReference, takesOperation, RuleWord, TableHolds}
-use Rattle.search.proofs.Building.{Built}
 
 -- Words
 
@@ -104,7 +104,7 @@ module _
     (sets t : List ℕ)
     (count : ℕ)
     (leaves : LeafSets book n sets)
-    (b : Built 4096 (TableWord book sets) t count)
+    (b : Filled 4096 (TableWord book sets) t count)
     (whole : 128 * n ≤ count)
   where
     -- what meets a reference, by the leaf set's word and by the leaf set

@@ -3,6 +3,7 @@ use Prim.Native.Nat.{_-_, _/_}
 use native.Mathlib.Omega.{arith}
 use mir.Syntax.{w64}
 use mir.Val.{Fits}
+use mathlib.Core.Path.{_≡_}
 use lib.ListN.{getD}
 use Rattle.lineage.proofs.Tables.{Filled, fill-none, fill-more}
 use Rattle.search.proofs.ClosingLaws.{lessWord, less-places}
@@ -11,7 +12,7 @@ use Rattle.search.proofs.closing.less_closing.Statement.{statement}
 use Rattle.search.proofs.closing.less_closing.Tie as tie
 
 abbrev Inv-loop : tie.InvT-loop
-Inv-loop t q first second third set at rest₀ w₀ rest w = Filled 33 (lessWord t q first second third set) rest w
+Inv-loop t q first second third set at rest₀ w₀ rest w = Filled 33 (λ k x. x ≡ lessWord t q first second third set k) rest w
 
 abbrev μ-loop : tie.MeasureT-loop
 μ-loop t q first second third set at rest₀ w₀ rest w = 33 - w

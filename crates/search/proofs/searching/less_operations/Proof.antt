@@ -3,7 +3,7 @@ use Prim.Native.Nat.{_-_, _/_, _^_}
 use native.Mathlib.Omega.{arith}
 use mir.Syntax.{w64}
 use mir.Val.{Fits}
-use mathlib.Core.Path.{refl}
+use mathlib.Core.Path.{_≡_, refl}
 use lib.Bits.{bitAnd}
 use lib.ListN.{getD}
 use Rattle.lineage.proofs.Tables.{Filled, fill-none, fill-more}
@@ -13,7 +13,7 @@ use Rattle.search.proofs.searching.less_operations.Statement.{statement
 use Rattle.search.proofs.searching.less_operations.Tie as tie
 
 abbrev Inv-loop : tie.InvT-loop
-Inv-loop operations set rest₀ w₀ rest w = Filled 33 (λ k. bitAnd (getD set k 0) ((2 ^ 64 - 1) - operations)) rest w
+Inv-loop operations set rest₀ w₀ rest w = Filled 33 (λ k x. x ≡ bitAnd (getD set k 0) ((2 ^ 64 - 1) - operations)) rest w
 
 abbrev μ-loop : tie.MeasureT-loop
 μ-loop operations set rest₀ w₀ rest w = 33 - w
