@@ -62,7 +62,7 @@ module _ (book : List ℕ) (n : ℕ) (accepted : checkAnswer book ≡ Accepted n
   covers-rule : (u : ℕ) → u < 32 → has (getD covered r 0) u ≡ coversUser (headOf book) (ruleAt book r) u
   covers-rule u lu =
       let m = few-rules book n accepted in
-      covers r u (omega arith) lu ∙ rw (lt-ltb r (ruleCount book) l)
+      covers r (omega arith) u lu ∙ rw (lt-ltb r (ruleCount book) l)
 
   -- Places that stand for a choice, and a user
 
@@ -121,10 +121,10 @@ module _ (book : List ℕ) (n : ℕ) (accepted : checkAnswer book ≡ Accepted n
               → ((has (getD covered q 0) u && not (eqb q r)) && drops t q a y x)
               ≡ (b && (not (eqb q r) && broken q))
           go q lq true e =
-              rw (covers q u lq lu, e, drops-broken q (ltb-true q (ruleCount book) e))
+              rw (covers q lq u lu, e, drops-broken q (ltb-true q (ruleCount book) e))
               (turn (coversUser (headOf book) (ruleAt book q) u) (not (eqb q r))
               (someChoiceRefused (headOf book) (ruleAt book q) (members (choiceAt a y x))))
-          go q lq false e = rw (covers q u lq lu, e)
+          go q lq false e = rw (covers q lq u lu, e)
 
       others-spared :
           not (any (λ q. othersFor r covered u q && drops t q a y x) (upTo 32))

@@ -5,18 +5,18 @@ use native.Mathlib.Omega.{arith}
 use mathlib.Core.Path.{_≡_, sym, ap, _∙_}
 use mathlib.Core.Bool.{Bool, _&&_, _||_}
 use mathlib.Core.List.{List}
-use lib.Dec.{eqb, ltb}
+use lib.Dec.{ltb}
 use lib.Bits.{bitAnd, bitOr}
 use borrow.Author.Tests.{lt-ltb}
 use Rattle.book.specs.Lists.{any, upTo}
 use Rattle.book.specs.Sets.{has, WordOf}
-use Rattle.book.specs.Head.{functionCount, operation, supportOf, supports}
+use Rattle.book.specs.Head.{supportOf, supports}
 use Rattle.book.proofs.Lists.{and-or, and-false, any-none, any-more}
 use Rattle.book.proofs.Members.{has-or, has-and, has-zero, has-single}
 use Rattle.lineage.proofs.Tables.{Filled}
 use Rattle.search.specs.Obtainable.{labelled, operated, canBeHad}
 use Rattle.search.specs.Inner.Places.{accessAt}
-use Rattle.search.specs.Inner.Table.{HadHolds}
+use Rattle.search.specs.Inner.Table.{ofFunction, HadHolds}
 
 -- A word that gathers what passes one of the tests so far
 
@@ -46,15 +46,14 @@ gather-end f i n found old low high =
 module _ (head : List ℕ) (d s operations : ℕ) where
   pub had-operations :
       s ≡ supportOf head d
-      → WordOf (λ k. any (λ f. eqb (operation head f) k) (upTo (functionCount head))) operations
+      → WordOf (ofFunction head) operations
       → (k : ℕ)
       → k < 16
       → has (bitOr 1 (bitAnd s operations)) k ≡ operated head d k
   unfolding operated supports
   had-operations e all k l =
       rw (has-or 1 (bitAnd s operations) k, has-and s operations k, all k, lt-ltb k 64 (omega arith), e)
-      (ap (λ (t : Bool). t || (has (supportOf head d) k && any (λ f. eqb (operation head f) k) (upTo (functionCount head))))
-      (has-single k 0))
+      (ap (λ (t : Bool). t || (has (supportOf head d) k && ofFunction head k)) (has-single k 0))
 
 -- word w of the set: four leaves with sixteen operations each
 abbrev pub HadWord : List ℕ → ℕ → ℕ → Type 0

@@ -3,7 +3,7 @@ use crate::BUFFER_LENGTH;
 use crate::Idleness;
 use crate::NO_RULE;
 use crate::obtaining::obtainable;
-use crate::showing::row_total;
+use crate::showing::row_count;
 use crate::showing::shown_plan;
 use crate::showing::write_plan;
 use crate::tables::covered_by;
@@ -26,7 +26,7 @@ ghost use Rattle.book.specs.Answers.{checkAnswer, ruleCount};
 ghost use Rattle.book.specs.declared.Checked.the-variants.{Accepted};
 ghost use Rattle.search.specs.Answers.{ruleAnswer, bufferAnswer, idleCheck, idleAnswer, idleBuffer};
 ghost use Rattle.search.specs.Demand.{Demand3};
-ghost use Rattle.search.specs.Inner.First.{FirstNeeds, answerOf, bufferOf};
+ghost use Rattle.search.specs.Inner.First.{FirstNeeds, ShownAs};
 
 fn rule_check(book: &[u8], rule: u32) -> Checked
     ensures { λ r. ⌜ r ≡ ruleAnswer (now (book .entry)) rule ⌝ }
@@ -56,7 +56,8 @@ fn idle_check(book: &[u8], rule: u32, buffer: &[u8]) -> Checked
 
 // The first user and choice that break a rule of an accepted book alone.
 fn needs(book: &[u8], rule: u8) -> Needs
-    ensures { λ s. ⌜ ((n : ℕ) → checkAnswer (now (book .entry)) ≡ Accepted n → rule < ruleCount (now (book .entry)) → FirstNeeds (now (book .entry)) rule s) ⌝ }
+    ensures { λ s. ⌜ ((n : ℕ) → checkAnswer (now (book .entry)) ≡ Accepted n
+        → rule < ruleCount (now (book .entry)) → FirstNeeds (now (book .entry)) rule s) ⌝ }
 {
     let n = rule_total(book);
     let t = table(book, n);
@@ -72,7 +73,7 @@ fn needs(book: &[u8], rule: u8) -> Needs
 
 // The answer for what was found, with the plan in the buffer.
 fn shown(head: &[u8], found: Needs, buffer: &mut [u8]) -> Idleness
-    ensures { λ r. ⌜ (36 ≤ length (now (buffer .entry)) → (r ≡ answerOf (now (head .entry)) found) × (now (buffer .exit) ≡ bufferOf (now (head .entry)) found (now (buffer .entry)))) ⌝ }
+    ensures { λ r. ⌜ ShownAs (now (head .entry)) found (now (buffer .entry)) (now (buffer .exit)) r ⌝ }
 {
     match found {
         Needs::Nobody => Idleness::Idle,
@@ -82,7 +83,7 @@ fn shown(head: &[u8], found: Needs, buffer: &mut [u8]) -> Idleness
             second,
             third,
         } => {
-            let rows = row_total(first, second, third);
+            let rows = row_count(first, second, third);
             write_plan(buffer, shown_plan(head, first, second, third), 4 * rows);
             Idleness::Needed {
                 user: user as u32,

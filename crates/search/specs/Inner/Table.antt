@@ -5,13 +5,15 @@ use mathlib.Core.Path.{_≡_}
 use mathlib.Core.Bool.{Bool, true, _&&_, cond}
 use mathlib.Core.List.{List}
 use lib.ListN.{getD}
-use lib.Dec.{ltb}
-use Rattle.book.specs.Sets.{has}
+use lib.Dec.{eqb, ltb}
+use Rattle.book.specs.Lists.{any, upTo}
+use Rattle.book.specs.Sets.{has, WordOf}
 use Rattle.book.specs.Blocks.{headOf, ruleAt}
-use Rattle.book.specs.Rule.{action, referenceCount, restrictionCount, restrictionMask, coversUser}
+use Rattle.book.specs.Head.{functionCount, operation}
+use Rattle.book.specs.Rule.{action, referenceCount, restrictionCount, restrictionMask, coversUser, inLeafSet}
 use Rattle.verdicts.specs.Accesses.{actionFits, fits}
 use Rattle.verdicts.specs.Words.{maskTakes}
-use Rattle.search.specs.Obtainable.{canBeHad}
+use Rattle.search.specs.Obtainable.{labelled, operated, canBeHad}
 use Rattle.search.specs.Inner.Places.{accessAt, nowhere}
 
 -- place p meets reference i of rule q: 33 words of places a reference
@@ -32,12 +34,39 @@ meetsReference rule leaves i p =
 unfoldable pub takesOperation : List ℕ → ℕ → ℕ → ℕ → Bool
 takesOperation rule i j p = ltb j (restrictionCount rule) && maskTakes (restrictionMask rule j i) (p % 16)
 
+-- Words
+
+-- bit i of four masks of 16 bits, one above the other
+abbrev pub inFour : ℕ → ℕ → ℕ → ℕ → ℕ → Bool
+inFour a b c d i = has (cond (ltb i 16) a (cond (ltb i 32) b (cond (ltb i 48) c d))) (i % 16)
+
+-- word w of the places of some leaves under an action, with every operation
+abbrev pub FittingWord : ℕ → ℕ → ℕ → ℕ → Type 0
+FittingWord action leaves w word =
+    (i : ℕ) → i < 64 → w < 32 → has word i ≡ (actionFits action (w / 16) && has leaves (w % 16 * 4 + i / 16))
+
+-- word w of the places that meet reference i of a rule
+abbrev pub ReferenceWord : List ℕ → ℕ → ℕ → ℕ → ℕ → Type 0
+ReferenceWord rule leaves i w word =
+    (p : ℕ) → p ≤ nowhere → p / 64 ≡ w → has word (p % 64) ≡ meetsReference rule leaves i p
+
+-- the operations that restriction j of a rule takes at reference i
+abbrev pub RestrictionWord : List ℕ → ℕ → ℕ → ℕ → Type 0
+RestrictionWord rule i j word = (p : ℕ) → has word (p % 64) ≡ takesOperation rule i j p
+
 -- word k of the 128 words of a rule, given the leaves of the reference that it is about
 pub record RuleWord (rule : List ℕ) (leaves k word : ℕ) : Type 0 where
-  pub meeting :
-      (p : ℕ) → k < 99 → p ≤ nowhere → p / 64 ≡ k % 33 → has word (p % 64) ≡ meetsReference rule leaves (k / 33) p
-  pub taking :
-      (p : ℕ) → 99 ≤ k → k < 123 → has word (p % 64) ≡ takesOperation rule ((k - 99) / 8) ((k - 99) % 8) p
+  pub meeting : k < 99 → ReferenceWord rule leaves (k / 33) (k % 33) word
+  pub taking : 99 ≤ k → k < 123 → RestrictionWord rule ((k - 99) / 8) ((k - 99) % 8) word
+
+-- the leaf set of reference m % 3 of rule m / 3, and those of the first n rules
+abbrev pub LeafWord : List ℕ → ℕ → ℕ → Type 0
+LeafWord book m word = WordOf (inLeafSet (headOf book) (ruleAt book (m / 3)) (m % 3)) word
+
+abbrev pub LeafSets : List ℕ → ℕ → List ℕ → Type 0
+LeafSets book n sets = (m : ℕ) → m < 3 * n → LeafWord book m (getD sets m 0)
+
+-- Tables
 
 -- the tables of the first n rules of a book: every place meets an absent reference
 pub record TableHolds (book : List ℕ) (n : ℕ) (t : List ℕ) : Type 0 where
@@ -56,14 +85,32 @@ pub record TableHolds (book : List ℕ) (n : ℕ) (t : List ℕ) : Type 0 where
       → j < 8
       → takesAt t q i j p ≡ takesOperation (ruleAt book q) i j p
 
--- the set of accesses that can be had
+-- Accesses that can be had
+
+-- some function has operation k
+abbrev pub ofFunction : List ℕ → ℕ → Bool
+ofFunction head k = any (λ f. eqb (operation head f) k) (upTo (functionCount head))
+
+-- the operations with which an access of label d can be had, given the columns' labels and the functions' operations
+abbrev pub HadWith : List ℕ → ℕ → ℕ → ℕ → ℕ → Type 0
+HadWith head labels operations d word =
+    WordOf (labelled head) labels
+    → WordOf (ofFunction head) operations
+    → d < 64
+    → (k : ℕ)
+    → k < 16
+    → has word k ≡ (labelled head d && operated head d k)
+
+-- the set of them
 abbrev pub HadHolds : List ℕ → List ℕ → Type 0
 HadHolds head had = (p : ℕ) → p < nowhere → has (getD had (p / 64) 0) (p % 64) ≡ canBeHad head (accessAt p)
 
--- for each of the first n rules the users that it covers
+-- Users
+
+-- the users that rule r covers, if it is one of the first n
+abbrev pub CoveredWord : List ℕ → ℕ → ℕ → ℕ → Type 0
+CoveredWord book n r word =
+    (u : ℕ) → u < 32 → has word u ≡ (ltb r n && coversUser (headOf book) (ruleAt book r) u)
+
 abbrev pub CoversHold : List ℕ → ℕ → List ℕ → Type 0
-CoversHold book n covered =
-    (r u : ℕ)
-    → r < 32
-    → u < 32
-    → has (getD covered r 0) u ≡ (ltb r n && coversUser (headOf book) (ruleAt book r) u)
+CoversHold book n covered = (r : ℕ) → r < 32 → CoveredWord book n r (getD covered r 0)

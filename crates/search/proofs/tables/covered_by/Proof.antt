@@ -2,7 +2,7 @@
 use Prim.Native.Nat.{_-_}
 use native.Mathlib.Omega.{arith}
 use Rattle.lineage.proofs.Tables.{Filled, fill-none, fill-more}
-use Rattle.search.proofs.RuleWords.{CoveredWord}
+use Rattle.search.specs.Inner.Table.{CoveredWord}
 use borrow.Author.Needs.{needs}
 use Rattle.search.proofs.tables.covered_by.Statement.{statement}
 use Rattle.search.proofs.tables.covered_by.Tie as tie
@@ -20,7 +20,7 @@ loop-again : tie.Need-loop-again Inv-loop μ-loop
 loop-again c = fill-more (c .before .before .loop .inv) (c .before .loop-test .taken) (c .covered-at .ensures)
 
 returns : tie.Need-returns Inv-loop μ-loop
-returns c r u l m = c .before .loop .inv .at r (omega arith) u m
+returns c r l = c .before .loop .inv .at r (omega arith)
 
 pub covered-by-spec : {M : Type 1} → statement M
 covered-by-spec =

@@ -2,7 +2,7 @@
 use Prim.Native.Nat.{_-_, _*_, _≤_}
 use native.Mathlib.Omega.{arith}
 use Rattle.lineage.proofs.Tables.{Filled, fill-none, fill-more}
-use Rattle.search.proofs.RuleWords.{LeafWord}
+use Rattle.search.specs.Inner.Table.{LeafWord}
 use borrow.Author.Needs.{needs}
 use Rattle.search.proofs.tables.leaf_sets.Statement.{statement}
 use Rattle.search.proofs.tables.leaf_sets.Tie as tie
