@@ -51,16 +51,6 @@ module _ (head plan : List ℕ) (i : ℕ) (holds : rowHolds head plan i ≡ true
       let b = and-both (names plan i (rowB plan i)) last (a .1) in
       (ltb-true (rowA plan i) (functionCount head) (a .0), b .0, b .1)
 
-  pub choose-holds :
-      kindAt plan i ≡ Choose →
-      (names plan i (rowA plan i) ≡ true) × (names plan i (rowB plan i) ≡ true) × (names plan i (rowC plan i) ≡ true)
-  unfolding rowHolds soundAs
-  choose-holds e =
-      let a =
-      and-both (names plan i (rowA plan i)) (names plan i (rowB plan i) && names plan i (rowC plan i)) (rw e at holds) in
-      let b = and-both (names plan i (rowB plan i)) (names plan i (rowC plan i)) (a .1) in
-      (a .0, b .0, b .1)
-
   -- a row that gives accesses gives those of a row that it names
   pub gives-names : (s : ℕ) → gives (kindAt plan i) s ≡ true → names plan i (rowA plan i) ≡ true
   unfolding rowHolds soundAs gives

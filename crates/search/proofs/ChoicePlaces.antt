@@ -16,8 +16,8 @@ use Rattle.verdicts.proofs.Accesses.{access, fits-bounds}
 use Rattle.verdicts.proofs.Closing.{same-equal}
 use Rattle.search.specs.Obtainable.{canBeHad}
 use Rattle.search.specs.Choices.{accessBefore, choiceBefore, isChoiceFrom}
-use Rattle.search.specs.Places.{accessAt, choiceAt, chosenAt, nowhere, placeOf}
-use Rattle.search.specs.Search.{referenceAt, tripleBefore}
+use Rattle.search.specs.Inner.Places.{accessAt, choiceAt, chosenAt, nowhere, placeOf}
+use Rattle.search.specs.Inner.Search.{referenceAt, tripleBefore}
 use Rattle.search.proofs.Orders.{had-small}
 
 -- Places

@@ -22,10 +22,10 @@ use Rattle.verdicts.proofs.Closing.{Apart, fits-one, same-equal, same-self}
 use Rattle.verdicts.proofs.Quantifiers.{any-below}
 use Rattle.search.specs.Obtainable.{canBeHad}
 use Rattle.search.specs.Choices.{isChoice, isChoiceFrom}
-use Rattle.search.specs.Places.{accessAt, choiceAt, nowhere}
-use Rattle.search.specs.Table.{HadHolds, TableHolds, meets, takesAt, takesOperation}
-use Rattle.search.specs.Closing.{acceptedAt}
-use Rattle.search.specs.Search.{candidate, referenceAt, refuses}
+use Rattle.search.specs.Inner.Places.{accessAt, choiceAt, nowhere}
+use Rattle.search.specs.Inner.Table.{HadHolds, TableHolds, meets, takesAt, takesOperation}
+use Rattle.search.specs.Inner.Closing.{acceptedAt}
+use Rattle.search.specs.Inner.Search.{candidate, referenceAt, refuses}
 use Rattle.search.proofs.Rising.{all-member, member-all, member-any}
 use Rattle.search.proofs.Orders.{choice-had}
 use Rattle.search.proofs.AloneLaws.{members, members-within, own-refused, refused-choice}

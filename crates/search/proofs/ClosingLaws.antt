@@ -15,9 +15,9 @@ use Rattle.book.proofs.Lists.{and-left, and-right, any-none, any-more, or-assoc
 use Rattle.book.proofs.Members.{has-zero, has-or, has-and, has-not, has-minus}
 use Rattle.lineage.proofs.Tables.{Filled}
 use Rattle.verdicts.proofs.Marks.{has-if}
-use Rattle.search.specs.Places.{inPlaces}
-use Rattle.search.specs.Table.{meets, takesAt}
-use Rattle.search.specs.Closing.{acceptedAt, closesAt}
+use Rattle.search.specs.Inner.Places.{inPlaces}
+use Rattle.search.specs.Inner.Table.{meets, takesAt}
+use Rattle.search.specs.Inner.Closing.{acceptedAt, closesAt, meetsWith}
 
 module _ (t : List ℕ) (q i k l b c : ℕ) where
   -- The restrictions
@@ -96,31 +96,28 @@ module _ (t : List ℕ) (q i k l b c : ℕ) where
       go true false e = refl
       go false v e = refl
 
--- Sets less what breaks a rule
+-- Sets without what breaks a rule
 
 module _ (t : List ℕ) (q first second third : ℕ) where
-  -- word w of a set, less the places that meet a reference with one of the operations given for it
-  abbrev pub lessWord : List ℕ → ℕ → ℕ
-  lessWord set w =
+  -- word w of a set, without the places that meet a reference with one of the operations given for it
+  abbrev pub wordWithout : List ℕ → ℕ → ℕ
+  wordWithout set w =
       bitAnd (getD set w 0) ((2 ^ 64 - 1)
       - bitOr (bitOr (bitAnd (getD t (128 * q + w) 0) first) (bitAnd (getD t (128 * q + 33 + w) 0) second))
       (bitAnd (getD t (128 * q + 66 + w) 0) third))
 
-  pub less-places :
+  pub without-places :
       (set rest : List ℕ) (w p : ℕ)
       → first < 2 ^ 64
       → second < 2 ^ 64
       → third < 2 ^ 64
       → getD set (p / 64) 0 < 2 ^ 64
-      → Filled 33 (lessWord set) rest w
+      → Filled 33 (λ k x. x ≡ wordWithout set k) rest w
       → p / 64 < w
       → inPlaces rest p
-      ≡ (inPlaces set p
-      && not
-      ((meets t q 0 p && has first (p % 64))
-      || ((meets t q 1 p && has second (p % 64)) || (meets t q 2 p && has third (p % 64)))))
+      ≡ (inPlaces set p && not (meetsWith t q first second third p))
   unfolding inPlaces meets
-  less-places set rest w p lf ls lt fits filled below =
+  without-places set rest w p lf ls lt fits filled below =
       let a = getD t (128 * q + p / 64) 0 in
       let b = getD t (128 * q + 33 + p / 64) 0 in
       let c = getD t (128 * q + 66 + p / 64) 0 in

@@ -20,10 +20,10 @@ use Rattle.lineage.specs.Rows.{rowCount}
 use Rattle.search.specs.Shown.{shownPlan}
 use Rattle.search.specs.Alone.{firstAlone}
 use Rattle.search.specs.Answers.{ruleTests, bufferTests, idleTests, idlenessOf, idleAnswer, written, idleBuffer}
-use Rattle.search.specs.Places.{choiceAt, rowsAt}
-use Rattle.search.specs.Table.{TableHolds, HadHolds, CoversHold}
-use Rattle.search.specs.Search.{NeedsFirst}
-use Rattle.search.specs.First.{foundOf, FirstNeeds, answerOf, bufferOf}
+use Rattle.search.specs.Inner.Places.{choiceAt, rowsAt}
+use Rattle.search.specs.Inner.Table.{TableHolds, HadHolds, CoversHold}
+use Rattle.search.specs.Inner.Search.{NeedsFirst}
+use Rattle.search.specs.Inner.First.{foundOf, FirstNeeds, answerOf, bufferOf}
 use Rattle.search.specs.declared.Idleness.{Idleness}
 use Rattle.search.specs.declared.Idleness.the-variants as idleness
 use Rattle.search.specs.declared.users.Needs.{Needs}

@@ -14,7 +14,6 @@ pub mod Rising
 pub mod Orders
 pub mod AloneLaws
 pub mod DemandLaws
-pub mod Building
 pub mod Obtained
 pub mod RuleWords
 pub mod Placements

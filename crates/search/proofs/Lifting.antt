@@ -27,10 +27,10 @@ use Rattle.verdicts.proofs.Quantifiers.{any-below}
 use Rattle.verdicts.proofs.Sound.{few-rules, rules-sound}
 use Rattle.search.specs.Choices.{Candidate, candidateBefore, choiceBefore, isChoice}
 use Rattle.search.specs.Alone.{breaksAlone, candidateAlone}
-use Rattle.search.specs.Places.{choiceAt}
-use Rattle.search.specs.Table.{CoversHold, HadHolds, TableHolds}
-use Rattle.search.specs.Search.{NeedsFirst, NeedsUser, candidate, drops, othersFor, refuses, solves, solvesFor}
-use Rattle.search.specs.First.{FirstNeeds, foundOf}
+use Rattle.search.specs.Inner.Places.{choiceAt}
+use Rattle.search.specs.Inner.Table.{CoversHold, HadHolds, TableHolds}
+use Rattle.search.specs.Inner.Search.{NeedsFirst, NeedsUser, candidate, drops, othersFor, refuses, solves, solvesFor}
+use Rattle.search.specs.Inner.First.{FirstNeeds, foundOf}
 use Rattle.search.specs.declared.users.Needs.{Needs}
 use Rattle.search.specs.declared.users.Needs.the-variants.{Nobody, User}
 use Rattle.search.proofs.Orders as orders
@@ -60,7 +60,7 @@ module _ (book : List ℕ) (accepted : BookAccepted book) (bytes : (i : ℕ) →
   covers-rule : (u : ℕ) → u < 32 → has (getD covered r 0) u ≡ coversUser (headOf book) (ruleAt book r) u
   covers-rule u lu =
       let m = few-rules book accepted in
-      covers r u (omega arith) lu ∙ rw (lt-ltb r (ruleCount book) l)
+      covers r (omega arith) u lu ∙ rw (lt-ltb r (ruleCount book) l)
 
   -- Places that stand for a choice, and a user
 
@@ -119,10 +119,10 @@ module _ (book : List ℕ) (accepted : BookAccepted book) (bytes : (i : ℕ) →
               → ((has (getD covered q 0) u && not (eqb q r)) && drops t q a y x)
               ≡ (b && (not (eqb q r) && broken q))
           go q lq true e =
-              rw (covers q u lq lu, e, drops-broken q (ltb-true q (ruleCount book) e))
+              rw (covers q lq u lu, e, drops-broken q (ltb-true q (ruleCount book) e))
               (turn (coversUser (headOf book) (ruleAt book q) u) (not (eqb q r))
               (someChoiceRefused (headOf book) (ruleAt book q) (members (choiceAt a y x))))
-          go q lq false e = rw (covers q u lq lu, e)
+          go q lq false e = rw (covers q lq u lu, e)
 
       others-spared :
           not (any (λ q. othersFor r covered u q && drops t q a y x) (upTo 32))

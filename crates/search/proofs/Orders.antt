@@ -7,7 +7,7 @@ use mathlib.Core.Logic.{_⊎_}
 use mathlib.Core.Bool.{Bool, true, false, _&&_, _||_, not, false≢true}
 use mathlib.Core.List.{List, [], _∷_, map, List·Memᴰ, List·Memᴰ·head, Memᴰ·cast, Memᴰ·map}
 use lib.Dec.{eqb, ltb}
-use borrow.Author.Tests.{eqb-true, eq-eqb, ltb-true, le-ltb}
+use borrow.Author.Tests.{eqb-true, eq-eqb, ltb-true}
 use Rattle.book.specs.Lists.{all, any, upTo}
 use Rattle.book.specs.Blocks.{headOf, ruleAt, ruleCount}
 use Rattle.book.specs.Hierarchies.{leaf}
@@ -15,7 +15,7 @@ use Rattle.book.specs.Head.{dataCount, functionCount, isUser, operation, suppor
 use Rattle.book.specs.Rule.{referenceCount}
 use Rattle.book.specs.Refusals.{BookAccepted}
 use Rattle.book.proofs.Accepted.{HeadHolds, accepted-head}
-use Rattle.book.proofs.Lists.{and-true, and-left, and-right, and-both, and-false, or-true, map-all}
+use Rattle.book.proofs.Lists.{and-true, and-left, and-right, and-both, or-true, map-all}
 use Rattle.verdicts.specs.Accesses.{Access, Accesses, everyAccess, fits, fitting, flat, keep, same}
 use Rattle.verdicts.specs.Breaking.{choicesFrom}
 use Rattle.verdicts.proofs.Accesses.{access, in-fitting}
@@ -30,26 +30,6 @@ use Rattle.search.proofs.Rising.{flat-member, keep-passes, map-every, n
 use Rattle.search.proofs.Rising.{rising-keep, rising-map, shown-first, upTo-rising}
 
 -- The orders
-
--- nothing is before itself
-not-below : (n : ℕ) → ltb n n ≡ false
-not-below n = le-ltb n n (omega arith)
-
-pub access-irreflexive : (x : Access) → accessBefore x x ≡ false
-unfolding accessBefore
-access-irreflexive x =
-    rw (not-below (x .channel), not-below (x .leaf), not-below (x .operation), and-false (eqb (x .leaf) (x .leaf)))
-    (and-false (eqb (x .channel) (x .channel)))
-
-pub choice-irreflexive : (c : List Access) → choiceBefore c c ≡ false
-unfolding choiceBefore
-choice-irreflexive [] = refl
-choice-irreflexive (x ∷ c) = rw (access-irreflexive x, choice-irreflexive c) (and-false (same x x))
-
-pub candidate-irreflexive : (c : Candidate) → candidateBefore c c ≡ false
-unfolding candidateBefore
-candidate-irreflexive c =
-    rw (not-below (c .user), choice-irreflexive (c .choice)) (and-false (eqb (c .user) (c .user)))
 
 -- by the first part that differs
 module _ (x y : Access) where

@@ -9,14 +9,14 @@ use lib.Dec.{ltb}
 use borrow.Author.Tests.{lt-ltb, le-ltb}
 use Rattle.book.specs.Sets.{has, WordOf}
 use Rattle.book.specs.Blocks.{headOf, ruleAt}
-use Rattle.book.specs.Rule.{action, referenceCount, restrictionCount, restrictionMask, coversUser, inLeafSet}
+use Rattle.book.specs.Rule.{action, referenceCount, restrictionCount, restrictionMask, inLeafSet}
 use Rattle.book.proofs.Lists.{and-end}
 use Rattle.book.proofs.Members.{has-cond, has-below, has-zero}
+use Rattle.lineage.proofs.Tables.{Filled}
 use Rattle.verdicts.specs.Accesses.{actionFits, fits}
 use Rattle.verdicts.specs.Words.{maskTakes}
-use Rattle.search.specs.Places.{accessAt, nowhere}
-use Rattle.search.specs.Table.{meets, takesAt, meetsReference, takesOperation, RuleWord, TableHolds}
-use Rattle.search.proofs.Building.{Built}
+use Rattle.search.specs.Inner.Places.{accessAt, nowhere}
+use Rattle.search.specs.Inner.Table.{meets, takesAt, meetsReference, takesOperation, RuleWord, LeafSets, TableHolds}
 
 -- Words
 
@@ -80,7 +80,7 @@ pub word-leaves :
     → RuleWord rule other k word
 word-leaves rule leaves other k word w same =
     record {
-      meeting = λ p low l e. w .meeting p low l e ∙ ap (λ (x : ℕ). meetsReference rule x (k / 33) p) (same low);
+      meeting = λ low p l e. w .meeting low p l e ∙ ap (λ (x : ℕ). meetsReference rule x (k / 33) p) (same low);
       taking = w .taking;
     }
 
@@ -91,20 +91,13 @@ abbrev pub TableWord : List ℕ → List ℕ → ℕ → ℕ → Type 0
 TableWord book sets m word =
     RuleWord (ruleAt book (m / 128)) (getD sets (3 * (m / 128) + m % 128 / 33) 0) (m % 128) word
 
--- word m of the leaf sets
-abbrev pub LeafWord : List ℕ → ℕ → ℕ → Type 0
-LeafWord book m word = WordOf (inLeafSet (headOf book) (ruleAt book (m / 3)) (m % 3)) word
-
-abbrev pub LeafSets : List ℕ → ℕ → List ℕ → Type 0
-LeafSets book n sets = (m : ℕ) → m < 3 * n → LeafWord book m (getD sets m 0)
-
 module _
     (book : List ℕ)
     (n : ℕ)
     (sets t : List ℕ)
     (count : ℕ)
     (leaves : LeafSets book n sets)
-    (b : Built 4096 (TableWord book sets) t count)
+    (b : Filled 4096 (TableWord book sets) t count)
     (whole : 128 * n ≤ count)
   where
     -- what meets a reference, by the leaf set's word and by the leaf set
@@ -145,7 +138,7 @@ module _
             let g : (33 * i + p / 64) / 33 ≡ i = omega arith in
             let w : RuleWord (ruleAt book q) (getD sets (3 * q + (33 * i + p / 64) / 33) 0) (33 * i + p / 64) (getD t m 0) =
             rw (e, f) at (b .at m (omega arith)) in
-            rw g at (w .meeting p (omega arith) h (omega arith))
+            rw g at (w .meeting (omega arith) p h (omega arith))
 
         taking :
             (q i j p : ℕ)
@@ -161,10 +154,4 @@ module _
             let k : (99 + 8 * i + j - 99) % 8 ≡ j = omega arith in
             let w : RuleWord (ruleAt book q) (getD sets (3 * q + (99 + 8 * i + j) / 33) 0) (99 + 8 * i + j) (getD t m 0) =
             rw (e, f) at (b .at m (omega arith)) in
-            rw (g, k) at (w .taking p (omega arith) (omega arith))
-
--- Users
-
-abbrev pub CoveredWord : List ℕ → ℕ → ℕ → ℕ → Type 0
-CoveredWord book n r word =
-    (u : ℕ) → u < 32 → has word u ≡ (ltb r n && coversUser (headOf book) (ruleAt book r) u)
+            rw (g, k) at (w .taking (omega arith) (omega arith) p)

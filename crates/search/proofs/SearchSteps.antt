@@ -12,13 +12,13 @@ use borrow.Author.Tests.{eqb-true, eq-eqb, ne-eqb}
 use Rattle.book.specs.Sets.{has}
 use Rattle.book.proofs.Lists.{or-neither}
 use Rattle.book.proofs.Members.{has-zero}
-use Rattle.search.specs.Places.{FirstFrom, inPlaces}
-use Rattle.search.specs.Closing.{closes, Sifted}
-use Rattle.search.specs.Search.{refuses, solvesIn, solvesFirst, solvesBeside}
-use Rattle.search.specs.Search.{tripleBefore, Solved, Unsolved, Thirds}
+use Rattle.search.specs.Inner.Places.{FirstFrom, inPlaces}
+use Rattle.search.specs.Inner.Closing.{closes, Within, Sifted}
+use Rattle.search.specs.Inner.Search.{refuses, solvesIn, solvesFirst, solvesBeside}
+use Rattle.search.specs.Inner.Search.{tripleBefore, Solved, Unsolved, Thirds}
 use Rattle.search.specs.declared.sifting.Remaining.{Remaining}
 use Rattle.search.proofs.Sieves.{both}
-use Rattle.search.proofs.Solutions.{Seeking, Within, before-cases, beside-fewer, dropIn, fails, grown-within}
+use Rattle.search.proofs.Solutions.{Seeking, before-cases, beside-fewer, dropIn, fails, grown-within}
 use Rattle.search.proofs.Solutions.{in-fewer, passes, passing, place-below, seeking-before, unmarked}
 
 -- The third place, beside the first and the second

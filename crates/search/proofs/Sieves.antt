@@ -15,9 +15,8 @@ use Rattle.book.specs.Sets.{has, WordOf}
 use Rattle.book.proofs.Lists.{and-true, and-left, and-right, and-end, and-false, or-neither, or-rest, or-true}
 use Rattle.book.proofs.Members.{has-zero, has-or, has-minus, has-above, has-and}
 use Rattle.verdicts.proofs.Quantifiers.{any-wider, at-any}
-use Rattle.search.specs.Places.{inPlaces}
-use Rattle.search.specs.Table.{meets}
-use Rattle.search.specs.Closing.{closes, closesBy, Turned, Sifted, Skipping}
+use Rattle.search.specs.Inner.Places.{inPlaces, PlacesOf}
+use Rattle.search.specs.Inner.Closing.{closes, closesBy, meetsWith, Within, Turned, Sifted, Skipping}
 use Rattle.search.specs.declared.sifting.Remaining.{Remaining}
 use Rattle.search.proofs.Fours.{has-cut}
 
@@ -47,19 +46,11 @@ module _
         or-neither (has first (p % 64)) (has second (p % 64)) (sym (has-or first second (p % 64)) ∙ two .0) in
         rw (← ef p, ← es p, ← et p, one .0, one .1, two .1, and-false, and-false, and-false)
 
-    -- the set less what breaks the rule
+    -- the set without what breaks the rule
     pub kept-closes :
         (old new : List ℕ)
-        → ((p : ℕ)
-        → p < 2112
-        → inPlaces new p
-        ≡ (inPlaces old p
-        && not
-        ((meets t q 0 p && has first (p % 64))
-        || ((meets t q 1 p && has second (p % 64)) || (meets t q 2 p && has third (p % 64))))))
-        → (p : ℕ)
-        → p < 2112
-        → inPlaces new p ≡ (inPlaces old p && not (closes t q b c p))
+        → PlacesOf (λ p. inPlaces old p && not (meetsWith t q first second third p)) new
+        → PlacesOf (λ p. inPlaces old p && not (closes t q b c p)) new
     unfolding closes
     kept-closes old new h p l = rw (← ef p, ← es p, ← et p) (h p l)
 
@@ -67,7 +58,7 @@ module _
 pub turn-none :
     (t : List ℕ) (q b c : ℕ) (rest : Remaining) (places : List ℕ)
     → places ≡ rest .places
-    → ((p : ℕ) → p < 2112 → inPlaces places p ≡ (inPlaces (rest .places) p && not (closes t q b c p)))
+    → PlacesOf (λ p. inPlaces (rest .places) p && not (closes t q b c p)) places
     → Turned t q b c rest rest
 turn-none t q b c rest places e h =
     record {
@@ -85,7 +76,7 @@ pub turn-some :
     (t : List ℕ) (q b c one last : ℕ) (before : Remaining) (places : List ℕ)
     → q < 32
     → WordOf (λ j. eqb j q) one
-    → ((p : ℕ) → p < 2112 → inPlaces places p ≡ (inPlaces (before .places) p && not (closes t q b c p)))
+    → PlacesOf (λ p. inPlaces (before .places) p && not (closes t q b c p)) places
     → Turned t q b c before (record { places = places; rules = bitOr (before .rules) one; last = last })
 turn-some t q b c one last before places small single h =
     record {
@@ -115,7 +106,7 @@ module _ (t : List ℕ) (rules b c : ℕ) where
   -- what is gone stays gone with more rules marked
   gone-more :
       (p : ℕ) (some more : ℕ → Bool)
-      → ((j : ℕ) → some j ≡ true → more j ≡ true)
+      → Within some more
       → any (λ q. some q && closes t q b c p) (upTo 32) ≡ true
       → any (λ q. more q && closes t q b c p) (upTo 32) ≡ true
   gone-more p some more h e =
@@ -272,18 +263,18 @@ module _ (t : List ℕ) (rules b c : ℕ) where
       allows j h n true e = old .only j e n
       allows j h n false e = new .only j h e
 
--- a set less one member
+-- a set without one member
 
 -- the code's `waiting & !single(q)`
-pub less-single :
+pub without-single :
     (word one q j : ℕ)
     → word < 2 ^ 64
     → one < 2 ^ 64
     → WordOf (λ i. eqb i q) one
     → has (bitAnd word ((2 ^ 64 - 1) - one)) j ≡ (has word j && not (ltb j 64 && eqb j q))
-less-single word one q j lw lo single = rw (has-minus 64 word one j lw lo, single j)
+without-single word one q j lw lo single = rw (has-minus 64 word one j lw lo, single j)
 
-pub less-smaller :
+pub without-smaller :
     (word one q : ℕ)
     → word < 2 ^ 64
     → one < 2 ^ 64
@@ -291,10 +282,10 @@ pub less-smaller :
     → WordOf (λ i. eqb i q) one
     → has word q ≡ true
     → bitAnd word ((2 ^ 64 - 1) - one) < word
-less-smaller word one q lw lo small single h =
+without-smaller word one q lw lo small single h =
     let low = and-le-l word ((2 ^ 64 - 1) - one) in
     let gone : has (bitAnd word ((2 ^ 64 - 1) - one)) q ≡ false =
-    less-single word one q q lw lo single ∙ rw (lt-ltb q 64 small, eq-eqb q q refl, and-false) in
+    without-single word one q q lw lo single ∙ rw (lt-ltb q 64 small, eq-eqb q q refl, and-false) in
     let other : bitAnd word ((2 ^ 64 - 1) - one) ≡ word → ⊥ =
     λ e. both h (ap (λ (w : ℕ). has w q) (sym e) ∙ gone) in
     omega arith
@@ -331,8 +322,8 @@ module _ (t : List ℕ) (rules b c : ℕ) where
         fewer = omega (arith, old .fewer);
         members = λ j h.
             old .members j
-            (and-left (has left j) (not (ltb j 64 && eqb j q)) (sym (less-single left one q j ll lo single) ∙ h));
-        idle = λ j p h n. go j p h (has left j) refl (sym (less-single left one q j ll lo single) ∙ n);
+            (and-left (has left j) (not (ltb j 64 && eqb j q)) (sym (without-single left one q j ll lo single) ∙ h));
+        idle = λ j p h n. go j p h (has left j) refl (sym (without-single left one q j ll lo single) ∙ n);
       }
     where
       go :
@@ -409,12 +400,12 @@ module _ (t : List ℕ) (rules b c : ℕ) where
         members = λ j m.
             old .members j
             (and-left (has waiting j) (not (ltb j 64 && eqb j q))
-            (sym (less-single waiting one q j lw lo single) ∙ m));
+            (sym (without-single waiting one q j lw lo single) ∙ m));
         sifted =
             sifted-turn t rules b c (λ j. has rules j && not (has waiting j))
             (λ j. has rules j && not (has (bitAnd waiting ((2 ^ 64 - 1) - one)) j)) q before rest after
             (old .members q h .0) (old .members q h .1)
-            (λ j d n. rw (less-single waiting one q j lw lo single, ne-eqb j q n, and-false, and-end) at d)
+            (λ j d n. rw (without-single waiting one q j lw lo single, ne-eqb j q n, and-false, and-end) at d)
             (old .sifted) (turn (old .members q h .0));
       }
 

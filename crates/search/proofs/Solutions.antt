@@ -13,10 +13,10 @@ use Rattle.book.specs.Sets.{has}
 use Rattle.book.proofs.Lists.{and-true, and-left, and-right, at-none, none-at}
 use Rattle.book.proofs.Members.{has-zero}
 use Rattle.verdicts.proofs.Quantifiers.{any-at}
-use Rattle.search.specs.Places.{FirstFrom, inPlaces}
-use Rattle.search.specs.Closing.{closes}
-use Rattle.search.specs.Search.{candidate, refuses, drops, solves, solvesIn, solvesBeside}
-use Rattle.search.specs.Search.{tripleBefore, Solved, Unsolved, Searched}
+use Rattle.search.specs.Inner.Places.{FirstFrom, inPlaces}
+use Rattle.search.specs.Inner.Closing.{closes, Within, Grown}
+use Rattle.search.specs.Inner.Search.{candidate, refuses, drops, solves, solvesIn, solvesBeside}
+use Rattle.search.specs.Inner.Search.{tripleBefore, Solved, Unsolved, Searched}
 use Rattle.search.specs.declared.searching.Sought.{Sought}
 use Rattle.search.specs.declared.searching.Sought.the-variants.{Found, Nothing}
 use Rattle.search.proofs.Sieves.{both}
@@ -43,7 +43,7 @@ place-below places p size h = go (ltb p 2112) refl
 -- no rule of a set drops, so none of a smaller set does
 pub unmarked :
     (some marked drop : ℕ → Bool)
-    → ((q : ℕ) → some q ≡ true → marked q ≡ true)
+    → Within some marked
     → ((q : ℕ) → q < 32 → marked q ≡ true → drop q ≡ false)
     → any (λ q. some q && drop q) (upTo 32) ≡ true
     → ⊥
@@ -155,12 +155,6 @@ module _
 -- One search through another
 
 -- marks only grow, within the rules given
-abbrev pub Within : (ℕ → Bool) → (ℕ → Bool) → Type 0
-Within some rules = (q : ℕ) → some q ≡ true → rules q ≡ true
-
-abbrev pub Grown : (ℕ → Bool) → (ℕ → Bool) → (ℕ → Bool) → Type 0
-Grown rules before after = (q : ℕ) → after q ≡ true → before q ≡ false → rules q ≡ true
-
 pub grown-join :
     (rules before rest after : ℕ → Bool) → Grown rules before rest → Grown rules rest after → Grown rules before after
 grown-join rules before rest after old new q h n = go (rest q) refl

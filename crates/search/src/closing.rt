@@ -4,13 +4,13 @@ use book::sets::contains;
 use lineage::reach::word_at;
 use verdicts::breaking::word_if;
 ghost use mathlib.Core.Path.{_≡_};
-ghost use mathlib.Core.Bool.{_&&_, _||_, not};
-ghost use Prim.Native.Nat.{ℕ, _+_, _*_, _%_, _<_};
+ghost use mathlib.Core.Bool.{_&&_, not};
+ghost use Prim.Native.Nat.{ℕ, _+_, _*_, _%_};
 ghost use lib.ListN.{getD};
 ghost use Rattle.book.specs.Sets.{has};
-ghost use Rattle.search.specs.Places.{inPlaces};
-ghost use Rattle.search.specs.Table.{meets};
-ghost use Rattle.search.specs.Closing.{acceptedAt, closesAt, closesBy};
+ghost use Rattle.search.specs.Inner.Places.{inPlaces, PlacesOf};
+ghost use Rattle.search.specs.Inner.Table.{meets};
+ghost use Rattle.search.specs.Inner.Closing.{acceptedAt, closesAt, closesBy, meetsWith};
 
 // Whether place p meets reference i of rule q.
 fn meets(t: &[u64], q: u8, i: u8, p: usize) -> bool
@@ -59,8 +59,8 @@ pub fn closing_mask(t: &[u64], q: u8, i: u8, k: u8, l: u8, b: usize, c: usize) -
     closing_one(t, q, i, k, l, b, c) | closing_one(t, q, i, k, l, c, b)
 }
 
-// A set less the places that meet a reference of rule q with one of the operations given for it.
-pub fn less_closing(
+// A set without the places that meet a reference of rule q with one of the operations given for it.
+pub fn without_closing(
     t: &[u64],
     q: u8,
     first: u64,
@@ -68,7 +68,7 @@ pub fn less_closing(
     third: u64,
     set: [u64; 33],
 ) -> [u64; 33]
-    ensures { λ r. ⌜ ((p : ℕ) → p < 2112 → inPlaces r p ≡ (inPlaces set p && not ((meets (now (t .entry)) q 0 p && has first (p % 64)) || ((meets (now (t .entry)) q 1 p && has second (p % 64)) || (meets (now (t .entry)) q 2 p && has third (p % 64)))))) ⌝ }
+    ensures { λ r. ⌜ PlacesOf (λ p. inPlaces set p && not (meetsWith (now (t .entry)) q first second third p)) r ⌝ }
 {
     let at = 128 * (q as usize);
     let mut rest = set;

@@ -3,7 +3,7 @@ use crate::BUFFER_LENGTH;
 use crate::Idleness;
 use crate::NO_RULE;
 use crate::obtaining::obtainable;
-use crate::showing::row_total;
+use crate::showing::row_count;
 use crate::showing::shown_plan;
 use crate::showing::write_plan;
 use crate::tables::covered_by;
@@ -27,7 +27,7 @@ ghost use Rattle.book.specs.Tests.{firstFailing};
 ghost use Rattle.book.specs.Refusals.{BookAccepted};
 ghost use Rattle.search.specs.Answers.{idleAnswer, idleBuffer, idleTests, ruleTests};
 ghost use Rattle.search.specs.Demand.{Demand3, IdleAccepted};
-ghost use Rattle.search.specs.First.{FirstNeeds, answerOf, bufferOf};
+ghost use Rattle.search.specs.Inner.First.{FirstNeeds, ShownAs};
 
 // The test 24.
 pub fn test_rule(book: &[u8], rule: u32) -> Tested
@@ -64,7 +64,7 @@ fn needs(book: &[u8], rule: u8) -> Needs
 
 // The answer for what was found, with the plan in the buffer.
 fn shown(head: &[u8], found: Needs, buffer: &mut [u8]) -> Idleness
-    ensures { λ r. ⌜ (36 ≤ length (now (buffer .entry)) → (r ≡ answerOf (now (head .entry)) found) × (now (buffer .exit) ≡ bufferOf (now (head .entry)) found (now (buffer .entry)))) ⌝ }
+    ensures { λ r. ⌜ ShownAs (now (head .entry)) found (now (buffer .entry)) (now (buffer .exit)) r ⌝ }
 {
     match found {
         Needs::Nobody => Idleness::Idle,
@@ -74,7 +74,7 @@ fn shown(head: &[u8], found: Needs, buffer: &mut [u8]) -> Idleness
             second,
             third,
         } => {
-            let rows = row_total(first, second, third);
+            let rows = row_count(first, second, third);
             write_plan(buffer, shown_plan(head, first, second, third), 4 * rows);
             Idleness::Needed {
                 user: user as u32,

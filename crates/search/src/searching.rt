@@ -10,11 +10,12 @@ use crate::sifting::Remaining;
 use crate::sifting::sift;
 use lineage::reach::word_at;
 ghost use mathlib.Core.Path.{_≡_};
-ghost use mathlib.Core.Bool.{true, _&&_, not};
-ghost use Prim.Native.Nat.{ℕ, _+_, _*_, _%_, _<_};
+ghost use mathlib.Core.Bool.{_&&_, not};
+ghost use Prim.Native.Nat.{_%_, _<_};
 ghost use Rattle.book.specs.Sets.{has};
-ghost use Rattle.search.specs.Places.{inPlaces};
-ghost use Rattle.search.specs.Search.{referenceAt, candidate, solves, solvesIn, solvesFirst, solvesBeside, Searched, Thirds, Possible};
+ghost use Rattle.search.specs.Inner.Places.{inPlaces, PlacesOf};
+ghost use Rattle.search.specs.Inner.Search.{referenceAt, candidate, solves, solvesIn, solvesFirst, solvesBeside};
+ghost use Rattle.search.specs.Inner.Search.{Searched, SearchedFrom, Thirds, Possible};
 
 // The first three places; or the rules that took places away, and which of them did so last.
 pub enum Sought {
@@ -38,7 +39,7 @@ fn reference_at(n: u8, i: u8) -> u8
 
 // The places that can be chosen for it.
 fn candidates(t: &[u64], r: u8, n: u8, had: [u64; 32], i: u8) -> [u64; 33]
-    ensures { λ c. ⌜ ((p : ℕ) → p < 2112 → inPlaces c p ≡ candidate (now (t .entry)) r n had i p) ⌝ }
+    ensures { λ c. ⌜ PlacesOf (candidate (now (t .entry)) r n had i) c ⌝ }
 {
     let reference = reference_at(n, i);
     let mut found = [0u64; 33];
@@ -53,9 +54,9 @@ fn candidates(t: &[u64], r: u8, n: u8, had: [u64; 32], i: u8) -> [u64; 33]
     found
 }
 
-// A set less the places with some operations.
-fn less_operations(set: [u64; 33], operations: u64) -> [u64; 33]
-    ensures { λ r. ⌜ ((p : ℕ) → p < 2112 → inPlaces r p ≡ (inPlaces set p && not (has operations (p % 64)))) ⌝ }
+// A set without the places with some operations.
+fn without_operations(set: [u64; 33], operations: u64) -> [u64; 33]
+    ensures { λ r. ⌜ PlacesOf (λ p. inPlaces set p && not (has operations (p % 64))) r ⌝ }
 {
     let mut rest = set;
     for w in 0..33usize {
@@ -78,7 +79,7 @@ fn thirds(t: &[u64], r: u8, n: u8, rules: u64, a: usize, y: usize, before: Remai
         y,
     );
     let all = before.places;
-    let places = less_operations(all, accepted);
+    let places = without_operations(all, accepted);
     let refused = Remaining {
         places,
         rules: before.rules,
@@ -97,7 +98,7 @@ fn beside(
     seconds: [u64; 33],
     before: Remaining,
 ) -> Sought
-    ensures { λ s. ⌜ (((j : ℕ) → has (before .rules) j ≡ true → has rules j ≡ true) → Searched (solvesBeside (now (t .entry)) r n a seconds (before .places)) rules (before .rules) s) ⌝ }
+    ensures { λ s. ⌜ SearchedFrom (solvesBeside (now (t .entry)) r n a seconds) rules before s ⌝ }
 {
     let places = before.places;
     let mut seen = before.rules;
@@ -139,7 +140,7 @@ fn beside_first(
     seconds: [u64; 33],
     before: Remaining,
 ) -> Sought
-    ensures { λ s. ⌜ (((j : ℕ) → has (before .rules) j ≡ true → has rules j ≡ true) → Searched (solvesFirst (now (t .entry)) r n a seconds (before .places)) rules (before .rules) s) ⌝ }
+    ensures { λ s. ⌜ SearchedFrom (solvesFirst (now (t .entry)) r n a seconds) rules before s ⌝ }
 {
     let from = Remaining {
         places: seconds,
@@ -168,7 +169,7 @@ fn among(
     seconds: [u64; 33],
     before: Remaining,
 ) -> Sought
-    ensures { λ s. ⌜ (((j : ℕ) → has (before .rules) j ≡ true → has rules j ≡ true) → Searched (solvesIn (now (t .entry)) r n firsts seconds (before .places)) rules (before .rules) s) ⌝ }
+    ensures { λ s. ⌜ SearchedFrom (solvesIn (now (t .entry)) r n firsts seconds) rules before s ⌝ }
 {
     let places = before.places;
     let mut seen = before.rules;

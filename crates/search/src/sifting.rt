@@ -1,6 +1,6 @@
-// Sets of places, less what breaks a rule beside two places.
+// Sets of places without what breaks a rule beside two places.
 use crate::closing::closing_mask;
-use crate::closing::less_closing;
+use crate::closing::without_closing;
 use crate::places::is_empty;
 use crate::places::lowest;
 use crate::places::same;
@@ -12,7 +12,7 @@ ghost use mathlib.Core.Bool.{true, false};
 ghost use Prim.Native.Nat.{ℕ, _≤_, _<_};
 ghost use lib.ListN.{getD};
 ghost use Rattle.book.specs.Sets.{has};
-ghost use Rattle.search.specs.Closing.{closes, Turned, Sifted, Skipping};
+ghost use Rattle.search.specs.Inner.Closing.{closes, Turned, Sifted, Skipping};
 
 // What remains of a set of places; the rules that took some away, and which of them did so last.
 pub struct Remaining {
@@ -32,7 +32,7 @@ fn turn(t: &[u64], q: u8, b: usize, c: usize, before: Remaining) -> Remaining
         return before;
     }
     let old = before.places;
-    let places = less_closing(t, q, first, second, third, old);
+    let places = without_closing(t, q, first, second, third, old);
     if same(places, old) {
         return before;
     }
@@ -43,7 +43,8 @@ fn turn(t: &[u64], q: u8, b: usize, c: usize, before: Remaining) -> Remaining
     }
 }
 
-// Whether a rule has anything to take beside b and c.
+// Whether a rule has anything to take beside b and c. Only `false` is promised: the rule is then
+// passed over, and a turn that takes nothing would only cost time.
 fn touches(t: &[u64], q: u8, b: usize, c: usize) -> bool
     ensures { λ r. ⌜ (r ≡ false → (p : ℕ) → closes (now (t .entry)) q b c p ≡ false) ⌝ }
 {
@@ -91,7 +92,8 @@ fn again(t: &[u64], rules: u64, b: usize, c: usize, before: Remaining) -> Remain
     before
 }
 
-// Whether rule q took last, and left nothing.
+// Whether rule q took last, and left nothing. Only `true` is promised: it ends the sieve early, and
+// after `false` the other rules have their turns.
 fn emptied(rest: Remaining, q: u8) -> bool
     ensures { λ r. ⌜ (r ≡ true → (w : ℕ) → getD (rest .places) w 0 ≡ 0) ⌝ }
 {

@@ -14,15 +14,12 @@ use verdicts::breaking::action_fits;
 use verdicts::breaking::all_if_zero;
 use verdicts::breaking::word_if;
 ghost use mathlib.Core.Path.{_≡_};
-ghost use mathlib.Core.Bool.{_&&_, cond};
-ghost use Prim.Native.Nat.{ℕ, _+_, _*_, _/_, _%_, _≤_, _<_};
-ghost use lib.Dec.{ltb};
+ghost use mathlib.Core.Bool.{cond};
+ghost use Prim.Native.Nat.{_+_, _*_, _/_, _≤_, _<_};
 ghost use lib.ListN.{getD};
-ghost use Rattle.book.specs.Sets.{has, WordOf};
-ghost use Rattle.book.specs.Blocks.{headOf, ruleAt};
-ghost use Rattle.book.specs.Rule.{coversUser, inLeafSet};
-ghost use Rattle.verdicts.specs.Accesses.{actionFits};
-ghost use Rattle.search.specs.Table.{TableHolds, CoversHold, RuleWord, meetsReference, takesOperation};
+ghost use Rattle.book.specs.Sets.{has};
+ghost use Rattle.search.specs.Inner.Table.{FittingWord, ReferenceWord, RestrictionWord, RuleWord, LeafSets};
+ghost use Rattle.search.specs.Inner.Table.{TableHolds, CoveredWord, CoversHold};
 
 // All operations of one leaf, if it is in a set.
 fn if_leaf(leaves: u64, d: usize) -> u64
@@ -33,7 +30,7 @@ fn if_leaf(leaves: u64, d: usize) -> u64
 
 // Word w of the places of some leaves under an action, with every operation.
 fn fitting_word(action: usize, leaves: u64, w: usize) -> u64
-    ensures { λ r. ⌜ ((i : ℕ) → i < 64 → w < 32 → has r i ≡ (actionFits action (w / 16) && has leaves (w % 16 * 4 + i / 16))) ⌝ }
+    ensures { λ r. ⌜ FittingWord action leaves w r ⌝ }
 {
     if action_fits(action, w / 16) {
         let d = w % 16 * 4;
@@ -49,7 +46,7 @@ fn fitting_word(action: usize, leaves: u64, w: usize) -> u64
 
 // Word w of the places that meet reference i, all of them where it is absent.
 fn reference_word(rule: &[u8], leaves: u64, i: u8, w: usize) -> u64
-    ensures { λ r. ⌜ ((p : ℕ) → p ≤ 2048 → p / 64 ≡ w → has r (p % 64) ≡ meetsReference (now (rule .entry)) leaves i p) ⌝ }
+    ensures { λ r. ⌜ ReferenceWord (now (rule .entry)) leaves i w r ⌝ }
 {
     if reference_count(rule) <= i as usize {
         return 18446744073709551615;
@@ -62,7 +59,7 @@ fn reference_word(rule: &[u8], leaves: u64, i: u8, w: usize) -> u64
 
 // The operations that restriction j takes at reference i, four times over.
 fn restriction_word(rule: &[u8], i: u8, j: u8) -> u64
-    ensures { λ r. ⌜ ((p : ℕ) → has r (p % 64) ≡ takesOperation (now (rule .entry)) i j p) ⌝ }
+    ensures { λ r. ⌜ RestrictionWord (now (rule .entry)) i j r ⌝ }
 {
     if restriction_count(rule) <= j as usize {
         return 0;
@@ -86,7 +83,7 @@ fn rule_word(rule: &[u8], leaves: u64, k: usize) -> u64
 
 // The leaf sets of the references of the first n rules, three for each.
 fn leaf_sets(book: &[u8], n: u8) -> [u64; 96]
-    ensures { λ r. ⌜ (n ≤ 32 → (m : ℕ) → m < 3 * n → WordOf (inLeafSet (headOf (now (book .entry))) (ruleAt (now (book .entry)) (m / 3)) (m % 3)) (getD r m 0)) ⌝ }
+    ensures { λ r. ⌜ (n ≤ 32 → LeafSets (now (book .entry)) n r) ⌝ }
 {
     let head = head_of(book);
     let mut sets = [0u64; 96];
@@ -132,7 +129,7 @@ pub fn table(book: &[u8], n: u8) -> [u64; 4096]
 
 // The users that rule r covers, if it is one of the first n.
 fn covered_at(book: &[u8], n: u8, r: u8) -> u64
-    ensures { λ w. ⌜ ((u : ℕ) → u < 32 → has w u ≡ (ltb r n && coversUser (headOf (now (book .entry))) (ruleAt (now (book .entry)) r) u)) ⌝ }
+    ensures { λ w. ⌜ CoveredWord (now (book .entry)) n r w ⌝ }
 {
     if n <= r {
         return 0;

@@ -9,7 +9,7 @@ use Rattle.lineage.proofs.reach.row_words.Statement.{statement}
 use Rattle.lineage.proofs.reach.row_words.Tie as tie
 
 abbrev Inv-loop : tie.InvT-loop
-Inv-loop table r at row₀ k₀ row k = (at ≡ r) × Filled 16 (λ j. getD table (16 * r + j) 0) row k
+Inv-loop table r at row₀ k₀ row k = (at ≡ r) × Filled 16 (λ j x. x ≡ getD table (16 * r + j) 0) row k
 
 abbrev μ-loop : tie.MeasureT-loop
 μ-loop table r at row₀ k₀ row k = 16 - k

@@ -1,6 +1,6 @@
 -- The two orders joined. Assumes nothing.
 use Rattle.book.proofs.Members.{has-or}
-use Rattle.search.specs.Closing.{closesBy}
+use Rattle.search.specs.Inner.Closing.{closesBy}
 use borrow.Author.Needs.{needs}
 use Rattle.search.proofs.closing.closing_mask.Statement.{statement}
 use Rattle.search.proofs.closing.closing_mask.Tie as tie

@@ -2,9 +2,10 @@
 use Prim.Native.Nat.{_-_}
 use native.Mathlib.Omega.{arith}
 use Rattle.book.specs.Sets.{has}
-use Rattle.search.specs.Search.{solvesIn, solvesFirst, Searched}
+use Rattle.search.specs.Inner.Closing.{Within}
+use Rattle.search.specs.Inner.Search.{solvesIn, solvesFirst, Searched}
 use Rattle.search.proofs.Solutions.{Seeking, seeking-start, seeking-more, seeking-end}
-use Rattle.search.proofs.Solutions.{Within, grown-within, found-solved, nothing-unsolved}
+use Rattle.search.proofs.Solutions.{grown-within, found-solved, nothing-unsolved}
 use Rattle.search.proofs.SearchSteps.{in-inside, in-lessen, among-none, among-found}
 use borrow.Author.Needs.{needs}
 use Rattle.search.proofs.searching.among.Statement.{statement}

@@ -3,7 +3,7 @@ use Prim.Native.Nat.{_-_}
 use native.Mathlib.Omega.{arith}
 use mathlib.Core.Path.{_≡_}
 use lib.ListN.{length}
-use Rattle.search.specs.Search.{solvesBeside, Searched}
+use Rattle.search.specs.Inner.Search.{solvesBeside, Searched}
 use Rattle.search.proofs.Solutions.{Seeking, seeking-start, seeking-more, seeking-end}
 use Rattle.search.proofs.SearchSteps.{beside-inside, beside-lessen, beside-empty, thirds-none, thirds-found}
 use borrow.Author.Needs.{needs}

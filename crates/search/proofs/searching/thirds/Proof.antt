@@ -12,11 +12,11 @@ returns c =
     let third = c .before .before .before .before .reference-at3 in
     let second = c .before .before .before .before .before .reference-at2 in
     let first = c .before .before .before .before .before .before .reference-at in
-    let less = c .before .less-operations in
+    let rest = c .before .without-operations in
     thirds-made (a .t .now) (a .r) (a .n) (a .rules) (a .a) (a .y) (a .before)
-    (record { places = less .result; rules = a .before .rules; last = a .before .last }) (c .sift .result)
+    (record { places = rest .result; rules = a .before .rules; last = a .before .last }) (c .sift .result)
     (accepted .result) (rw (first .ensures .0, second .ensures .0, third .ensures .0) at (accepted .ensures))
-    (less .ensures) refl (c .sift .ensures)
+    (rest .ensures) refl (c .sift .ensures)
 
 pub thirds-spec : {M : Type 1} → statement M
 thirds-spec =

@@ -1,8 +1,8 @@
 -- Each turn drops one rule that breaks at no place (`Skipping`), which makes the word smaller. Assumes nothing.
 use Prim.Native.Nat.{_^_, _<_}
 use native.Mathlib.Omega.{arith}
-use Rattle.search.specs.Closing.{Skipping}
-use Rattle.search.proofs.Sieves.{less-smaller, skip-none, skip-more, skip-end}
+use Rattle.search.specs.Inner.Closing.{Skipping}
+use Rattle.search.proofs.Sieves.{without-smaller, skip-none, skip-more, skip-end}
 use borrow.Author.Needs.{needs}
 use Rattle.search.proofs.sifting.from_touching.Statement.{statement}
 use Rattle.search.proofs.sifting.from_touching.Tie as tie
@@ -25,7 +25,7 @@ loop-less c =
     let fits : loop .waiting < 2 ^ 64 = omega (arith, loop .inv .fewer) in
     let low = c .before .before .before .next-after in
     let found = low .ensures .1 (c .before .before .before .before .loop-test .taken) in
-    less-smaller (loop .waiting) (c .single .result) (low .result) fits (search needs) (found .0) (c .single .ensures)
+    without-smaller (loop .waiting) (c .single .result) (low .result) fits (search needs) (found .0) (c .single .ensures)
     (found .1)
 
 loop-again : tie.Need-loop-again Inv-loop μ-loop

@@ -2,7 +2,7 @@
 use native.Mathlib.Omega.{arith}
 use mathlib.Core.Bool.{false, not, _&&_, false≢true}
 use Rattle.book.specs.Sets.{has}
-use Rattle.search.proofs.Sieves.{sifted-turn, sifted-empty, sifted-join, less-smaller}
+use Rattle.search.proofs.Sieves.{sifted-turn, sifted-empty, sifted-join, without-smaller}
 use Rattle.search.proofs.Sieves.{Sieving, sieving-start, sieving-more, sieving-skip, sieving-end}
 use borrow.Author.Needs.{needs}
 use Rattle.search.proofs.sifting.sift.Statement.{statement}
@@ -51,7 +51,7 @@ loop-less c =
     let found = low .ensures .1 (c .before .before .before .before .before .before .loop-test .taken) in
     let one = c .before .single in
     let less =
-    less-smaller (loop .waiting) (one .result) (low .result) (loop .inv .fits) (search needs) (found .0)
+    without-smaller (loop .waiting) (one .result) (low .result) (loop .inv .fits) (search needs) (found .0)
     (one .ensures) (found .1) in
     omega (arith, less, c .from-touching2 .ensures .fewer)
 

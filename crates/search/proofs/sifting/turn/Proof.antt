@@ -20,10 +20,10 @@ returns-2 c small =
     let first = c .before .before .before .before .before .before .before .closing-mask in
     let second = c .before .before .before .before .before .before .closing-mask2 in
     let third = c .before .before .before .before .before .closing-mask3 in
-    let less = c .before .before .less-closing in
-    turn-none (a .t .now) (a .q) (a .b) (a .c) (a .before) (less .result) (c .before .same .ensures (c .if2 .taken))
+    let rest = c .before .before .without-closing in
+    turn-none (a .t .now) (a .q) (a .b) (a .c) (a .before) (rest .result) (c .before .same .ensures (c .if2 .taken))
     (kept-closes (a .t .now) (a .q) (a .b) (a .c) (first .result) (second .result) (third .result) (first .ensures)
-    (second .ensures) (third .ensures) (a .before .places) (less .result) (less .ensures))
+    (second .ensures) (third .ensures) (a .before .places) (rest .result) (rest .ensures))
 
 returns-3 : tie.Need-returns-3
 returns-3 c small =
@@ -31,11 +31,11 @@ returns-3 c small =
     let first = c .before .before .before .before .before .before .before .before .before .closing-mask in
     let second = c .before .before .before .before .before .before .before .before .closing-mask2 in
     let third = c .before .before .before .before .before .before .before .closing-mask3 in
-    let less = c .before .before .before .before .less-closing in
+    let rest = c .before .before .before .before .without-closing in
     let one = c .before .single in
-    turn-some (a .t .now) (a .q) (a .b) (a .c) (one .result) (a .q) (a .before) (less .result) small (one .ensures)
+    turn-some (a .t .now) (a .q) (a .b) (a .c) (one .result) (a .q) (a .before) (rest .result) small (one .ensures)
     (kept-closes (a .t .now) (a .q) (a .b) (a .c) (first .result) (second .result) (third .result) (first .ensures)
-    (second .ensures) (third .ensures) (a .before .places) (less .result) (less .ensures))
+    (second .ensures) (third .ensures) (a .before .places) (rest .result) (rest .ensures))
 
 pub turn-spec : {M : Type 1} → statement M
 turn-spec =

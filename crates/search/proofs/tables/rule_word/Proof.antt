@@ -7,22 +7,22 @@ use Rattle.search.proofs.tables.rule_word.Tie as tie
 returns : tie.Need-returns
 returns c =
     record {
-      meeting = λ p low l e. c .reference-word .ensures p l e;
-      taking = λ p high l. absurd (omega arith);
+      meeting = λ low. c .reference-word .ensures;
+      taking = λ high l. absurd (omega arith);
     }
 
 returns-2 : tie.Need-returns-2
 returns-2 c =
     record {
-      meeting = λ p low l e. absurd (omega arith);
-      taking = λ p high l. c .restriction-word .ensures p;
+      meeting = λ low. absurd (omega arith);
+      taking = λ high l. c .restriction-word .ensures;
     }
 
 returns-3 : tie.Need-returns-3
 returns-3 c =
     record {
-      meeting = λ p low l e. absurd (omega arith);
-      taking = λ p high l. absurd (omega arith);
+      meeting = λ low. absurd (omega arith);
+      taking = λ high l. absurd (omega arith);
     }
 
 pub rule-word-spec : {M : Type 1} → statement M

@@ -1,17 +1,17 @@
--- One word a turn (`Built`); the law `table-holds` reads the words as the book. Assumes nothing.
+-- One word a turn (`Filled`); the law `table-holds` reads the words as the book. Assumes nothing.
 use Prim.Native.Nat.{_+_, _-_, _*_, _/_, _%_, _≤_}
 use native.Mathlib.Omega.{arith}
 use lib.ListN.{getD}
 use denote.Ref.{now}
 use Rattle.book.specs.Blocks.{ruleAt}
-use Rattle.search.proofs.Building.{Built, build-none, build-more}
+use Rattle.lineage.proofs.Tables.{Filled, fill-none, fill-more}
 use Rattle.search.proofs.RuleWords.{TableWord, word-leaves, table-holds}
 use borrow.Author.Needs.{needs}
 use Rattle.search.proofs.tables.table.Statement.{statement}
 use Rattle.search.proofs.tables.table.Tie as tie
 
 abbrev Inv-loop : tie.InvT-loop
-Inv-loop book n sets t₀ count m₀ t m = (m ≤ 128 * n) × Built 4096 (TableWord book sets) t m
+Inv-loop book n sets t₀ count m₀ t m = (m ≤ 128 * n) × Filled 4096 (TableWord book sets) t m
 
 abbrev μ-loop : tie.MeasureT-loop
 μ-loop book n sets t₀ count m₀ t m = 128 * n - m
@@ -20,7 +20,7 @@ returns : tie.Need-returns Inv-loop μ-loop
 returns c few = absurd (omega arith)
 
 loop-holds : tie.Need-loop-holds Inv-loop μ-loop
-loop-holds c = (omega arith, build-none (search needs))
+loop-holds c = (omega arith, fill-none (search needs))
 
 loop-again : tie.Need-loop-again Inv-loop μ-loop
 loop-again c =
@@ -28,7 +28,7 @@ loop-again c =
     let book = now (c .before .before .before .before .before .before .before .before .args .book) in
     let sets = c .before .before .before .before .before .before .leaf-sets .result in (
       omega arith,
-      build-more (c .before .before .before .before .loop .inv .1) (omega arith)
+      fill-more (c .before .before .before .before .loop .inv .1) (omega arith)
           (word-leaves (ruleAt book (m / 128)) (c .before .before .leaves-for .result)
           (getD sets (3 * (m / 128) + m % 128 / 33) 0) (m % 128) (c .rule-word .result)
           (rw (← (c .before .rule-at .ensures)) (c .rule-word .ensures))

@@ -1,4 +1,4 @@
--- Accesses as numbers, in document 01's order, and sets of them as 33 words. The calls' promises do not lean on this file.
+-- Accesses as numbers, in document 01's order, and sets of them as 33 words. No call's promise leans on this file.
 -- Assumes nothing.
 use Prim.Native.Nat.{ℕ, _+_, _*_, _/_, _%_, _≤_, _<_}
 use mathlib.Core.Path.{_≡_}
@@ -29,9 +29,12 @@ chosenAt p = cond (ltb p nowhere) (accessAt p ∷ []) []
 unfoldable pub choiceAt : ℕ → ℕ → ℕ → List Access
 choiceAt a y x = chosenAt a ++ (chosenAt y ++ chosenAt x)
 
--- the rows of the shown plan for the access at a place
+-- the rows of the shown plan for the access at a place, and of the choice at three
 unfoldable pub rowsAt : ℕ → ℕ
 rowsAt p = cond (ltb p nowhere) (rowsOf (accessAt p)) 0
+
+abbrev pub rowsFor : ℕ → ℕ → ℕ → ℕ
+rowsFor a y x = rowsAt a + (rowsAt y + rowsAt x)
 
 -- place p is in a set of 33 words
 unfoldable pub inPlaces : List ℕ → ℕ → Bool
@@ -40,6 +43,16 @@ inPlaces set p = has (getD set (p / 64) 0) (p % 64)
 -- one past the last place that 33 words have room for
 abbrev pub pastPlaces : ℕ
 pastPlaces = 2112
+
+-- the places of a set are those that pass a test
+abbrev pub PlacesOf : (ℕ → Bool) → List ℕ → Type 0
+PlacesOf test set = (p : ℕ) → p < pastPlaces → inPlaces set p ≡ test p
+
+-- the lowest member of a word, if it has one
+pub record Lowest (word found : ℕ) : Type 0 where
+  pub bound : found ≤ 64
+  pub member : (word ≡ 0 → ⊥) → (found < 64) × (has word found ≡ true)
+  pub skipped : (j : ℕ) → j < found → has word j ≡ false
 
 -- the lowest place of a set from p on, or past all of them
 pub record FirstFrom (set : List ℕ) (p found : ℕ) : Type 0 where

@@ -1,17 +1,19 @@
--- One word a turn (`Filled`); the law `less-places` reads the words as places. Assumes nothing.
+-- One word a turn (`Filled`); the law `without-places` reads the words as places. Assumes nothing.
 use Prim.Native.Nat.{_-_, _/_}
 use native.Mathlib.Omega.{arith}
 use mir.Syntax.{w64}
 use mir.Val.{Fits}
+use mathlib.Core.Path.{_≡_}
 use lib.ListN.{getD}
 use Rattle.lineage.proofs.Tables.{Filled, fill-none, fill-more}
-use Rattle.search.proofs.ClosingLaws.{lessWord, less-places}
+use Rattle.search.proofs.ClosingLaws.{wordWithout, without-places}
 use borrow.Author.Needs.{needs}
-use Rattle.search.proofs.closing.less_closing.Statement.{statement}
-use Rattle.search.proofs.closing.less_closing.Tie as tie
+use Rattle.search.proofs.closing.without_closing.Statement.{statement}
+use Rattle.search.proofs.closing.without_closing.Tie as tie
 
 abbrev Inv-loop : tie.InvT-loop
-Inv-loop t q first second third set at rest₀ w₀ rest w = Filled 33 (lessWord t q first second third set) rest w
+Inv-loop t q first second third set at rest₀ w₀ rest w =
+    Filled 33 (λ k x. x ≡ wordWithout t q first second third set k) rest w
 
 abbrev μ-loop : tie.MeasureT-loop
 μ-loop t q first second third set at rest₀ w₀ rest w = 33 - w
@@ -31,12 +33,12 @@ returns c p h =
     let a = c .before .before .before .args in
     let fits = c .before .before .before .fits in
     let f : Fits w64 (getD (a .t6) (p / 64) 0) = search needs in
-    less-places (a .t .now) (a .q) (a .first) (a .second) (a .third) (a .t6) (c .before .loop .rest)
+    without-places (a .t .now) (a .q) (a .first) (a .second) (a .third) (a .t6) (c .before .loop .rest)
     (c .before .loop .w) p
     (fits .first .fits) (fits .second .fits) (fits .third .fits) (f .fits) (c .before .loop .inv) (omega arith)
 
-pub less-closing-spec : {M : Type 1} → statement M
-less-closing-spec =
+pub without-closing-spec : {M : Type 1} → statement M
+without-closing-spec =
     tie.close
     (tie.spec
     Inv-loop

@@ -1,5 +1,5 @@
--- What the search looks for, in the tables' terms: three places, one for each reference of rule r, the absent ones first.
--- Assumes nothing.
+-- What the search looks for, in the tables' terms: three places, one for each reference of rule r, the absent ones
+-- first. No call's promise leans on this file. Assumes nothing.
 use Prim.Native.Nat.{ℕ, _+_, _/_, _%_, _<_}
 use mathlib.Core.Path.{_≡_}
 use mathlib.Core.Bool.{Bool, true, false, _&&_, _||_, not, cond}
@@ -8,9 +8,9 @@ use lib.ListN.{getD}
 use lib.Dec.{eqb, ltb}
 use Rattle.book.specs.Lists.{any, upTo}
 use Rattle.book.specs.Sets.{has}
-use Rattle.search.specs.Places.{inPlaces, nowhere, pastPlaces}
-use Rattle.search.specs.Table.{meets}
-use Rattle.search.specs.Closing.{acceptedAt, closes}
+use Rattle.search.specs.Inner.Places.{inPlaces, nowhere, pastPlaces}
+use Rattle.search.specs.Inner.Table.{meets}
+use Rattle.search.specs.Inner.Closing.{acceptedAt, closes, Within, Grown}
 use Rattle.search.specs.declared.sifting.Remaining.{Remaining}
 use Rattle.search.specs.declared.searching.Sought.{Sought}
 use Rattle.search.specs.declared.searching.Sought.the-variants.{Found, Nothing}
@@ -76,14 +76,19 @@ pub record Solved (test : ℕ → ℕ → ℕ → Bool) (a y x : ℕ) : Type 0 w
 
 -- a set of rules, marked before or among the ones given, that no three places pass
 pub record Unsolved (test : (ℕ → Bool) → ℕ → ℕ → ℕ → Bool) (rules before marked : ℕ → Bool) : Type 0 where
-  pub more : (q : ℕ) → before q ≡ true → marked q ≡ true
-  pub only : (q : ℕ) → marked q ≡ true → before q ≡ false → rules q ≡ true
+  pub more : Within before marked
+  pub only : Grown rules before marked
   pub none : (a y x : ℕ) → test marked a y x ≡ false
 
 -- what a search answers that began with some rules marked
 unfoldable pub Searched : ((ℕ → Bool) → ℕ → ℕ → ℕ → Bool) → ℕ → ℕ → Sought → Type 0
 Searched test rules before (Found a y x) = Solved (test (has rules)) a y x
 Searched test rules before (Nothing marked last) = Unsolved test (has rules) (has before) (has marked)
+
+-- what it answers that is given the third places and the marked rules, these being among the rules
+abbrev pub SearchedFrom : (List ℕ → (ℕ → Bool) → ℕ → ℕ → ℕ → Bool) → ℕ → Remaining → Sought → Type 0
+SearchedFrom test rules before sought =
+    Within (has (before .rules)) (has rules) → Searched (test (before .places)) rules (before .rules) sought
 
 -- the last reference's places beside the two before
 pub record Thirds (t : List ℕ) (r n rules a y : ℕ) (before after : Remaining) : Type 0 where
@@ -103,8 +108,8 @@ pub record Thirds (t : List ℕ) (r n rules a y : ℕ) (before after : Remaining
       → refuses t r n a y x ≡ true
       → inPlaces (after .places) x ≡ false
       → any (λ q. has (after .rules) q && closes t q a y x) (upTo 32) ≡ true
-  pub more : (j : ℕ) → has (before .rules) j ≡ true → has (after .rules) j ≡ true
-  pub only : (j : ℕ) → has (after .rules) j ≡ true → has (before .rules) j ≡ false → has rules j ≡ true
+  pub more : Within (has (before .rules)) (has (after .rules))
+  pub only : Grown (has rules) (has (before .rules)) (has (after .rules))
 
 -- the places that can be chosen for the i-th reference, less what breaks a rule by itself
 pub record Possible (t : List ℕ) (r n : ℕ) (had : List ℕ) (rules i seen : ℕ) (after : Remaining) : Type 0 where
@@ -122,8 +127,8 @@ pub record Possible (t : List ℕ) (r n : ℕ) (had : List ℕ) (rules i seen : 
       → candidate t r n had i p ≡ true
       → inPlaces (after .places) p ≡ false
       → any (λ q. has (after .rules) q && closes t q nowhere nowhere p) (upTo 32) ≡ true
-  pub more : (j : ℕ) → has seen j ≡ true → has (after .rules) j ≡ true
-  pub only : (j : ℕ) → has (after .rules) j ≡ true → has seen j ≡ false → has rules j ≡ true
+  pub more : Within (has seen) (has (after .rules))
+  pub only : Grown (has rules) (has seen) (has (after .rules))
 
 -- Users
 
@@ -142,6 +147,9 @@ solvesFor t r n had covered u a y x = coversIn covered r u && solves t r n had (
 -- a mask with bit 63 says nothing; any other is a set of rules that leaves no three places
 abbrev pub Settles : List ℕ → ℕ → ℕ → List ℕ → ℕ → Type 0
 Settles t r n had mask = has mask 63 ≡ false → (a y x : ℕ) → solves t r n had (has mask) a y x ≡ false
+
+abbrev pub AllSettle : List ℕ → ℕ → ℕ → List ℕ → List ℕ → Type 0
+AllSettle t r n had masks = (i : ℕ) → i < 32 → Settles t r n had (getD masks i 0)
 
 -- what the search for one user answers
 unfoldable pub SearchedFor : List ℕ → ℕ → ℕ → List ℕ → List ℕ → ℕ → Sought → Type 0

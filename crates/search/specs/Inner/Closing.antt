@@ -1,12 +1,13 @@
--- Which places break a rule beside two others, in the tables' terms. Assumes nothing.
-use Prim.Native.Nat.{ℕ, _≤_, _<_}
+-- Which places break a rule beside two others, in the tables' terms. No call's promise leans on this file. Assumes
+-- nothing.
+use Prim.Native.Nat.{ℕ, _%_, _≤_, _<_}
 use mathlib.Core.Path.{_≡_}
 use mathlib.Core.Bool.{Bool, true, false, _&&_, _||_, not}
 use mathlib.Core.List.{List}
 use Rattle.book.specs.Lists.{any, upTo}
 use Rattle.book.specs.Sets.{has}
-use Rattle.search.specs.Places.{inPlaces, pastPlaces}
-use Rattle.search.specs.Table.{meets, takesAt}
+use Rattle.search.specs.Inner.Places.{inPlaces, pastPlaces, PlacesOf}
+use Rattle.search.specs.Inner.Table.{meets, takesAt}
 use Rattle.search.specs.declared.sifting.Remaining.{Remaining}
 
 -- some restriction takes p at reference i, b at k and c at l
@@ -28,11 +29,27 @@ closes t q b c p =
     (meets t q 0 p && closesBy t q 0 1 2 b c p)
     || ((meets t q 1 p && closesBy t q 1 0 2 b c p) || (meets t q 2 p && closesBy t q 2 0 1 b c p))
 
+-- place p meets a reference of rule q with one of the operations given for it
+abbrev pub meetsWith : List ℕ → ℕ → ℕ → ℕ → ℕ → ℕ → Bool
+meetsWith t q first second third p =
+    (meets t q 0 p && has first (p % 64))
+    || ((meets t q 1 p && has second (p % 64)) || (meets t q 2 p && has third (p % 64)))
+
+-- Sets of rules
+
+abbrev pub Within : (ℕ → Bool) → (ℕ → Bool) → Type 0
+Within some rules = (q : ℕ) → some q ≡ true → rules q ≡ true
+
+-- what a set has more than before is among the rules
+abbrev pub Grown : (ℕ → Bool) → (ℕ → Bool) → (ℕ → Bool) → Type 0
+Grown rules before after = (q : ℕ) → after q ≡ true → before q ≡ false → rules q ≡ true
+
+-- Sieves
+
 -- rule q took from a set the places that break it beside b and c, and is marked where it took any
 pub record Turned (t : List ℕ) (q b c : ℕ) (before after : Remaining) : Type 0 where
-  pub kept :
-      (p : ℕ) → p < pastPlaces → inPlaces (after .places) p ≡ (inPlaces (before .places) p && not (closes t q b c p))
-  pub more : (j : ℕ) → has (before .rules) j ≡ true → has (after .rules) j ≡ true
+  pub kept : PlacesOf (λ p. inPlaces (before .places) p && not (closes t q b c p)) (after .places)
+  pub more : Within (has (before .rules)) (has (after .rules))
   pub only : (j : ℕ) → has (after .rules) j ≡ true → has (before .rules) j ≡ false → j ≡ q
   pub marked :
       (p : ℕ)
@@ -58,11 +75,11 @@ pub record Sifted (t : List ℕ) (rules : ℕ) (done : ℕ → Bool) (b c : ℕ)
       → inPlaces (before .places) p ≡ true
       → inPlaces (after .places) p ≡ false
       → any (λ q. has (after .rules) q && closes t q b c p) (upTo 32) ≡ true
-  pub more : (j : ℕ) → has (before .rules) j ≡ true → has (after .rules) j ≡ true
-  pub only : (j : ℕ) → has (after .rules) j ≡ true → has (before .rules) j ≡ false → has rules j ≡ true
+  pub more : Within (has (before .rules)) (has (after .rules))
+  pub only : Grown (has rules) (has (before .rules)) (has (after .rules))
 
 -- of a set of rules those that are left when some that break at no place are dropped
 pub record Skipping (t : List ℕ) (rules b c left : ℕ) : Type 0 where
   pub fewer : left ≤ rules
-  pub members : (q : ℕ) → has left q ≡ true → has rules q ≡ true
+  pub members : Within (has left) (has rules)
   pub idle : (q p : ℕ) → has rules q ≡ true → has left q ≡ false → closes t q b c p ≡ false
