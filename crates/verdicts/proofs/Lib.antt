@@ -10,6 +10,7 @@ pub mod Monotone
 pub mod Semantic
 pub mod Closing
 pub mod Verdict
+pub mod DemandLaws
 pub mod Held
 pub mod Sound
 pub mod JudgeLaws
