@@ -20,7 +20,7 @@ use Rattle.book.specs.declared.Checked.the-variants.{Accepted}
 use Rattle.book.proofs.Accepted.{RuleHolds, accepted-head, accepted-rule, accepted-rules}
 use Rattle.book.proofs.Lists.{all-same, and-assoc, and-both, and-left, any-from-same, not-any, or-either}
 use Rattle.verdicts.specs.Accesses.{Access}
-use Rattle.verdicts.specs.Words.{RuleSound}
+use Rattle.verdicts.specs.Inner.Words.{RuleSound}
 use Rattle.verdicts.specs.Breaking.{breaks, someChoiceRefused}
 use Rattle.verdicts.proofs.Accesses.{leaf-set-below}
 use Rattle.verdicts.proofs.Closing.{Apart}

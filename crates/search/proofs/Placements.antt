@@ -13,7 +13,7 @@ use Rattle.book.specs.Rule.{inLeafSet, action, referenceCount, restrictionCount
 use Rattle.book.proofs.Lists.{and-true, and-right, and-both, and-or, or-left, or-right, same-test}
 use Rattle.book.proofs.Lists.{any-same, any-append, any-from-same, any-one}
 use Rattle.verdicts.specs.Accesses.{Access, Accesses, actionFits, fits, same}
-use Rattle.verdicts.specs.Words.{RuleSound, maskTakes, offersOrNone}
+use Rattle.verdicts.specs.Inner.Words.{RuleSound, maskTakes, offersOrNone}
 use Rattle.verdicts.specs.Breaking.{someChoiceRefused}
 use Rattle.verdicts.proofs.Quantifiers.{any-at, at-any, any-below}
 use Rattle.verdicts.proofs.Masks.{beside}

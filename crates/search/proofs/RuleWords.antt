@@ -13,7 +13,7 @@ use Rattle.book.specs.Rule.{action, referenceCount, restrictionCount, restricti
 use Rattle.book.proofs.Lists.{and-end}
 use Rattle.book.proofs.Members.{has-cond, has-below, has-zero}
 use Rattle.verdicts.specs.Accesses.{actionFits, fits}
-use Rattle.verdicts.specs.Words.{maskTakes}
+use Rattle.verdicts.specs.Inner.Words.{maskTakes}
 use Rattle.search.specs.Places.{accessAt, nowhere}
 use Rattle.search.specs.Table.{meets, takesAt, meetsReference, takesOperation, RuleWord, TableHolds}
 use Rattle.search.proofs.Building.{Built}

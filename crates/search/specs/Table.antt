@@ -9,7 +9,7 @@ use Rattle.book.specs.Sets.{has}
 use Rattle.book.specs.Blocks.{headOf, ruleAt}
 use Rattle.book.specs.Rule.{action, referenceCount, restrictionCount, restrictionMask, coversUser}
 use Rattle.verdicts.specs.Accesses.{actionFits, fits}
-use Rattle.verdicts.specs.Words.{maskTakes}
+use Rattle.verdicts.specs.Inner.Words.{maskTakes}
 use Rattle.search.specs.Obtainable.{canBeHad}
 use Rattle.search.specs.Places.{accessAt, nowhere}
 

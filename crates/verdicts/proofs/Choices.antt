@@ -11,7 +11,7 @@ use Rattle.book.specs.Lists.{any, upTo}
 use Rattle.book.specs.Rule.{referenceCount, restrictionCount, restrictionMask}
 use Rattle.book.proofs.Lists.{any-map, any-same, any-one, any-from-same, eqb-sym}
 use Rattle.verdicts.specs.Accesses.{Access, Accesses, fitting}
-use Rattle.verdicts.specs.Words.{RuleSound, maskTakes, offers, offersOrNone}
+use Rattle.verdicts.specs.Inner.Words.{RuleSound, maskTakes, offers, offersOrNone}
 use Rattle.verdicts.specs.Breaking.{choicesFrom, operations, accepts, refusesAll, someChoiceRefused}
 use Rattle.verdicts.proofs.Quantifiers.{any-flat, any-equal, all-padded}
 use Rattle.verdicts.proofs.Masks.{beside}

@@ -13,7 +13,7 @@ use Rattle.book.specs.Rule.{action, inLeafSet, referenceCount}
 use Rattle.book.proofs.Lists.{and-true, and-left, and-right, and-both, and-or, and-over, or-end, eqb-sym, same-test}
 use Rattle.book.proofs.Lists.{any-same, any-both, any-found, any-from-same, none-at, at-none}
 use Rattle.verdicts.specs.Accesses.{Access, Accesses, same, everyAccess, actionFits, fits}
-use Rattle.verdicts.specs.Words.{RuleSound, offers, offersOrNone}
+use Rattle.verdicts.specs.Inner.Words.{RuleSound, offers, offersOrNone}
 use Rattle.verdicts.specs.Breaking.{someChoiceRefused}
 use Rattle.verdicts.proofs.Quantifiers.{any-at, any-equal}
 use Rattle.verdicts.proofs.Accesses.{access, known, every-known, in-every, fits-known, any-fitting}

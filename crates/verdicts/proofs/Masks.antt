@@ -12,7 +12,7 @@ use Rattle.book.specs.Sets.{has}
 use Rattle.book.specs.Rule.{restrictionMask}
 use Rattle.book.proofs.Lists.{and-end, and-false, any-none, any-more}
 use Rattle.book.proofs.Members.{has-zero, has-or, has-above, has-below}
-use Rattle.verdicts.specs.Words.{maskTakes}
+use Rattle.verdicts.specs.Inner.Words.{maskTakes}
 use Rattle.verdicts.proofs.Marks.{has-if}
 
 -- One mask

@@ -17,8 +17,8 @@ use Rattle.book.specs.Rule.{action, inLeafSet, referenceCount}
 use Rattle.book.proofs.Lists.{and-true, and-left, and-right, and-both, and-second, and-false, and-over, same-test}
 use Rattle.book.proofs.Lists.{any-both}
 use Rattle.book.proofs.Members.{has-or, has-and, single-in}
-use Rattle.verdicts.specs.Accesses.{Access, Accesses, actionFits, fits, fitting}
-use Rattle.verdicts.specs.Words.{heldBy, offers, offersOrNone}
+use Rattle.verdicts.specs.Accesses.{Access, Accesses, actionFits, fits, fitting, heldBy}
+use Rattle.verdicts.specs.Inner.Words.{offers, offersOrNone}
 use Rattle.verdicts.proofs.Quantifiers.{at-any, any-at, any-witness, any-two}
 use Rattle.verdicts.proofs.Marks.{has-if, Marks, not-empty}
 use Rattle.verdicts.proofs.Accesses.{access, leaf-set-below, fits-bounds, in-fitting, found-fitting}

@@ -15,7 +15,7 @@ use Rattle.book.specs.Rule.{restrictionCount}
 use Rattle.book.proofs.Lists.{and-assoc, and-false, any-none, any-more, any-same, any-where}
 use Rattle.book.proofs.Members.{has-minus}
 use Rattle.verdicts.specs.Accesses.{Accesses}
-use Rattle.verdicts.specs.Words.{RuleSound, offersOrNone}
+use Rattle.verdicts.specs.Inner.Words.{RuleSound, offersOrNone}
 use Rattle.verdicts.specs.Breaking.{someChoiceRefused}
 use Rattle.verdicts.proofs.Quantifiers.{any-below, any-pairs}
 use Rattle.verdicts.proofs.Marks.{not-empty}

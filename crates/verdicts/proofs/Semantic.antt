@@ -15,7 +15,7 @@ use Rattle.book.specs.Sets.{has}
 use Rattle.book.specs.Rule.{coversUser, referenceCount, restrictionCount, restrictionMask}
 use Rattle.book.proofs.Lists.{and-true, and-both, or-either, or-true, all-at, at-all, any-none}
 use Rattle.verdicts.specs.Accesses.{Access, Accesses}
-use Rattle.verdicts.specs.Words.{offers}
+use Rattle.verdicts.specs.Inner.Words.{offers}
 use Rattle.verdicts.specs.Breaking.{accepts, refusesAll, someChoiceRefused, breaks}
 use Rattle.verdicts.specs.Semantics.{Met, Applicable, SatisfiesRestriction, SatisfiesRule}
 use Rattle.verdicts.proofs.Quantifiers.{at-any, any-at}

@@ -23,8 +23,8 @@ use Rattle.book.proofs.Lists.{and-false}
 use Rattle.book.proofs.Members.{has-zero, same-members}
 use Rattle.lineage.specs.Accesses.{accessWords, wordOf}
 use Rattle.lineage.proofs.Words.{word-of}
-use Rattle.verdicts.specs.Accesses.{accessesOf}
-use Rattle.verdicts.specs.Words.{RuleSound, heldBy}
+use Rattle.verdicts.specs.Accesses.{accessesOf, heldBy}
+use Rattle.verdicts.specs.Inner.Words.{RuleSound}
 use Rattle.verdicts.specs.Breaking.{breaks, brokenMask, someChoiceRefused}
 use Rattle.verdicts.proofs.Monotone.{refused-same}
 use Rattle.verdicts.proofs.Held.{held-plan}

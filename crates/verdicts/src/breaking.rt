@@ -15,8 +15,8 @@ ghost use lib.ListN.{getD};
 ghost use Rattle.book.specs.Lists.{any, upTo};
 ghost use Rattle.book.specs.Sets.{has};
 ghost use Rattle.book.specs.Rule.{restrictionCount, restrictionMask};
-ghost use Rattle.verdicts.specs.Accesses.{actionFits};
-ghost use Rattle.verdicts.specs.Words.{heldBy, maskTakes, offersOrNone, RuleSound};
+ghost use Rattle.verdicts.specs.Accesses.{actionFits, heldBy};
+ghost use Rattle.verdicts.specs.Inner.Words.{maskTakes, offersOrNone, RuleSound};
 ghost use Rattle.verdicts.specs.Breaking.{someChoiceRefused};
 
 // A word, or the empty one.

@@ -29,10 +29,10 @@ ghost use Rattle.book.specs.Rule.{coversUser};
 ghost use Rattle.book.specs.Sets.{has, WordOf};
 ghost use Rattle.lineage.specs.Answers.{planAnswer};
 ghost use Rattle.book.specs.declared.Checked.the-variants.{Accepted};
-ghost use Rattle.verdicts.specs.Accesses.{accessesOf};
+ghost use Rattle.verdicts.specs.Accesses.{accessesOf, heldBy};
 ghost use Rattle.verdicts.specs.Answers.{judgeAnswer, judgeCheck, userAnswer};
 ghost use Rattle.verdicts.specs.Breaking.{brokenMask, someChoiceRefused};
-ghost use Rattle.verdicts.specs.Words.{heldBy, RuleSound};
+ghost use Rattle.verdicts.specs.Inner.Words.{RuleSound};
 
 // The number of rules of an accepted book.
 pub fn rule_total(book: &[u8]) -> u8

@@ -5,7 +5,8 @@ use mathlib.Core.List.{List}
 use borrow.Author.Needs.{needs}
 use Rattle.book.specs.Sets.{has}
 use Rattle.book.specs.Blocks.{headOf, ruleAt}
-use Rattle.verdicts.specs.Words.{RuleSound, heldBy}
+use Rattle.verdicts.specs.Accesses.{heldBy}
+use Rattle.verdicts.specs.Inner.Words.{RuleSound}
 use Rattle.verdicts.specs.Breaking.{someChoiceRefused}
 use Rattle.verdicts.proofs.Marks.{Marks, marks-none, marks-more, marks-end}
 use Rattle.verdicts.proofs.judging.broken.Statement.{statement}

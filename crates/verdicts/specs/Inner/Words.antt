@@ -1,22 +1,15 @@
--- Sets of accesses as 32 words, and what the functions on them promise to each other. The calls' promises do not lean on
--- this file. Assumes nothing.
-use Prim.Native.Nat.{ℕ, _+_, _*_, _≤_, _<_}
+-- What the functions on 32 words of accesses promise to each other. The calls' promises do not lean on this file.
+-- Assumes nothing.
+use Prim.Native.Nat.{ℕ, _≤_, _<_}
 use mathlib.Core.Path.{_≡_}
-use mathlib.Core.Bool.{Bool, _&&_, _||_, cond}
+use mathlib.Core.Bool.{Bool, _||_, cond}
 use mathlib.Core.List.{List}
-use lib.ListN.{getD}
 use lib.Dec.{eqb, ltb}
 use Rattle.book.specs.Lists.{any}
 use Rattle.book.specs.Sets.{has}
 use Rattle.book.specs.Head.{dataCount}
 use Rattle.book.specs.Rule.{referenceCount, restrictionCount, restrictionMask}
 use Rattle.verdicts.specs.Accesses.{Accesses, fitting}
-
--- the set that 32 words hold: bit d of word 16 × s + k for access (s, d, k)
-unfoldable pub heldBy : List ℕ → Accesses
-heldBy words x =
-    ltb (x .channel) 2
-    && (ltb (x .operation) 16 && has (getD words (16 * x .channel + x .operation) 0) (x .leaf))
 
 -- some access of the set fits reference i with operation k
 unfoldable pub offers : List ℕ → List ℕ → Accesses → ℕ → ℕ → Bool
