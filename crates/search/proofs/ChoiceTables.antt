@@ -18,7 +18,7 @@ use Rattle.verdicts.specs.Accesses.{Access, fits, same}
 use Rattle.verdicts.specs.Inner.Words.{RuleSound, maskTakes}
 use Rattle.verdicts.specs.Breaking.{operations, refusesAll, someChoiceRefused}
 use Rattle.verdicts.proofs.Choices.{onThree, refuses-padded, refusesThree}
-use Rattle.verdicts.proofs.Closing.{Apart, fits-one, same-equal, same-self}
+use Rattle.verdicts.proofs.Accesses.{Apart, fits-one, same-equal, same-self}
 use Rattle.verdicts.proofs.Quantifiers.{any-below}
 use Rattle.search.specs.Obtainable.{canBeHad}
 use Rattle.search.specs.Choices.{isChoice, isChoiceFrom}

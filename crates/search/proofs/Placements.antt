@@ -19,7 +19,7 @@ use Rattle.verdicts.proofs.Quantifiers.{any-at, at-any, any-below}
 use Rattle.verdicts.proofs.Masks.{beside}
 use Rattle.verdicts.proofs.Offers.{in-offers, found-offers, offers-present, offers-absent}
 use Rattle.verdicts.proofs.Choices.{refusesThree, refused-by-operations}
-use Rattle.verdicts.proofs.Closing.{Apart, same-equal, same-self}
+use Rattle.verdicts.proofs.Accesses.{Apart, same-equal, same-self}
 use Rattle.search.specs.Places.{accessAt, chosenAt, choiceAt, nowhere}
 use Rattle.search.specs.Table.{meets, takesAt, takesOperation, TableHolds}
 use Rattle.search.specs.Closing.{acceptedAt, closesAt, closesBy, closes}

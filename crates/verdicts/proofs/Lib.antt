@@ -8,7 +8,6 @@ pub mod Choices
 pub mod Pairs
 pub mod Monotone
 pub mod Semantic
-pub mod Closing
 pub mod Verdict
 pub mod DemandLaws
 pub mod Held
