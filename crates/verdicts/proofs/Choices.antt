@@ -11,10 +11,9 @@ use Rattle.book.specs.Lists.{any, upTo}
 use Rattle.book.specs.Rule.{referenceCount, restrictionCount, restrictionMask}
 use Rattle.book.proofs.Lists.{any-map, any-same, any-one, any-from-same, eqb-sym}
 use Rattle.verdicts.specs.Accesses.{Access, Accesses, fitting}
-use Rattle.verdicts.specs.Inner.Words.{RuleSound, maskTakes, offers, offersOrNone}
+use Rattle.verdicts.specs.Inner.Words.{RuleSound, maskTakes, beside, offers, offersOrNone}
 use Rattle.verdicts.specs.Breaking.{choicesFrom, operations, accepts, refusesAll, someChoiceRefused}
 use Rattle.verdicts.proofs.Quantifiers.{any-flat, any-equal, all-padded}
-use Rattle.verdicts.proofs.Masks.{beside}
 use Rattle.verdicts.proofs.Offers.{any-operation, offers-present, offers-absent}
 
 -- Choices of operations

@@ -63,7 +63,9 @@ module _
 
     pub rule-sound : RuleSound head rule
     rule-sound =
+        let few : userCount head ≤ 64 = omega (arith, h .users-most) in
         record {
+          users = few;
           leaves = h .data-most;
           some = r .references-some;
           few = r .references-most;
