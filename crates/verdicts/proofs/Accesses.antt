@@ -1,4 +1,4 @@
--- Laws of accesses: when two are the same, those that a book has categories for, and those of them that fit a reference.
+-- Laws of accesses: when two are the same, which a book has categories for, and which of these fit a reference.
 -- Assumes nothing.
 use Prim.Native.Nat.{ℕ, zero, suc, _≤_, _<_}
 use native.Mathlib.Omega.{arith}

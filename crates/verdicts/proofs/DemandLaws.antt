@@ -1,5 +1,5 @@
--- Demand 2: the mask of the broken rules tells, rule by rule, which rules of source document 000's policy a query does not
--- satisfy. Assumes nothing.
+-- Demand 2: the mask of the broken rules tells, rule by rule, what a query does not satisfy in the sense of source
+-- document 000. Assumes nothing.
 use Prim.Native.Nat.{ℕ, _≤_, _<_}
 use native.Mathlib.Omega.{arith}
 use mathlib.Core.Path.{_≡_, sym, _∙_}

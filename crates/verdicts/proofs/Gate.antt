@@ -30,8 +30,8 @@ module _ (book : List ℕ) (user : ℕ) (plan : List ℕ) (mask : ℕ)
           → judgeCheck book user plan ≡ a
           → mask ≡ brokenMask book (ruleCount book) user (accessesOf (headOf book) plan)
       go (Accepted n) e =
-          let b : judged.Broken (brokenMask book (ruleCount book) user (accessesOf (headOf book) plan)) ≡ judged.Broken mask =
-          rw e at answer in
+          let broken = brokenMask book (ruleCount book) user (accessesOf (headOf book) plan) in
+          let b : judged.Broken broken ≡ judged.Broken mask = rw e at answer in
           cc
       go (Refused r) e =
           let b : judged.Refused r ≡ judged.Broken mask = rw e at answer in

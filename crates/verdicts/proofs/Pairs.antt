@@ -76,7 +76,8 @@ module _ (head rule : List ℕ) (accesses : Accesses) where
       both true o t = refl
       both false o t = refl
 
-  module _ (p first second : ℕ) (x y : Bool) (small : p < 256) (one : Offered head rule accesses 0 first) (two : Offered head rule accesses 1 second)
+  module _ (p first second : ℕ) (x y : Bool) (small : p < 256)
+      (one : Offered head rule accesses 0 first) (two : Offered head rule accesses 1 second)
       (ex : x ≡ has first (p / 16)) (ey : y ≡ has second (p % 16)) where
     pair-test : pairRefused p ≡ (x && y && thirdRefused (p / 16) (p % 16))
     unfolding pairRefused
@@ -96,7 +97,8 @@ module _ (head rule : List ℕ) (accesses : Accesses) where
     pub pair-apart : (x && y) ≡ false → pairRefused p ≡ false
     pair-apart h = pair-test ∙ rw h
 
-    module _ (third taken : ℕ) (lt : third < 2 ^ 64) (lu : taken < 2 ^ 64) (offered : Offered head rule accesses 2 third)
+    module _ (third taken : ℕ) (lt : third < 2 ^ 64) (lu : taken < 2 ^ 64)
+        (offered : Offered head rule accesses 2 third)
         (took : Beside rule (p / 16) (p % 16) (restrictionCount rule) taken) where
       pub pair-taken : bitAnd third ((2 ^ 64 - 1) - taken) ≡ 0 → pairRefused p ≡ false
       pair-taken h =
