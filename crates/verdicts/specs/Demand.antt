@@ -13,8 +13,11 @@ use Rattle.verdicts.specs.Semantics.{SatisfiesRule, SatisfiesPolicy}
 pub record Demand2 (book : List ℕ) (user : ℕ) (query : Accesses) (mask : ℕ) : Type 0 where
   -- "bit r for rule r": a set bit is a rule that the query does not satisfy
   pub set-violates :
-      (r : ℕ) → r < ruleCount book → has mask r ≡ true → SatisfiesRule (headOf book) (ruleAt book r) user query → ⊥
-  -- a clear bit is a rule that it satisfies; with the field above, both are 'exactly when'
+      (r : ℕ)
+      → r < ruleCount book
+      → has mask r ≡ true
+      → (SatisfiesRule (headOf book) (ruleAt book r) user query → ⊥)
+  -- a clear bit is a rule that it satisfies; as a bit is set or clear, both are 'exactly when'
   pub clear-satisfies :
       (r : ℕ) → r < ruleCount book → has mask r ≡ false → SatisfiesRule (headOf book) (ruleAt book r) user query
   -- no other bit is set
