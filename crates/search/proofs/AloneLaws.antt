@@ -20,7 +20,7 @@ use Rattle.lineage.specs.Accesses.{gives, isAccess, reaches}
 use Rattle.lineage.proofs.Accepted.{Had, PlanHolds, Taken, accepted-plan, reaches-had}
 use Rattle.verdicts.specs.Accesses.{Access, Accesses, accessesOf, fitting, same}
 use Rattle.verdicts.specs.Breaking.{breaks, choicesFrom, operations, refusesAll, someChoiceRefused}
-use Rattle.verdicts.proofs.Closing.{same-equal, same-self}
+use Rattle.verdicts.proofs.Accesses.{same-equal, same-self}
 use Rattle.verdicts.proofs.Monotone.{breaks-monotone, refused-same}
 use Rattle.verdicts.proofs.Quantifiers.{any-at, at-any}
 use Rattle.search.specs.Obtainable.{canBeHad, labelled, operated}

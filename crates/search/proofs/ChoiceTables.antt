@@ -15,10 +15,10 @@ use Rattle.book.specs.Rule.{referenceCount, restrictionCount, restrictionMask}
 use Rattle.book.proofs.Accepted.{HeadHolds}
 use Rattle.book.proofs.Lists.{and-both, and-end, and-false, any-from-same, any-same, or-rest, same-test}
 use Rattle.verdicts.specs.Accesses.{Access, fits, same}
-use Rattle.verdicts.specs.Words.{RuleSound, maskTakes}
+use Rattle.verdicts.specs.Inner.Words.{RuleSound, maskTakes}
 use Rattle.verdicts.specs.Breaking.{operations, refusesAll, someChoiceRefused}
 use Rattle.verdicts.proofs.Choices.{onThree, refuses-padded, refusesThree}
-use Rattle.verdicts.proofs.Closing.{Apart, fits-one, same-equal, same-self}
+use Rattle.verdicts.proofs.Accesses.{Apart, fits-one, same-equal, same-self}
 use Rattle.verdicts.proofs.Quantifiers.{any-below}
 use Rattle.search.specs.Obtainable.{canBeHad}
 use Rattle.search.specs.Choices.{isChoice, isChoiceFrom}

@@ -19,10 +19,9 @@ use Rattle.book.specs.Refusals.{BookAccepted}
 use Rattle.book.proofs.Accepted.{RuleHolds, accepted-head, accepted-rule}
 use Rattle.book.proofs.Lists.{all-same, and-assoc, and-both, and-left, any-from-same, not-any, or-either}
 use Rattle.verdicts.specs.Accesses.{Access}
-use Rattle.verdicts.specs.Words.{RuleSound}
+use Rattle.verdicts.specs.Inner.Words.{RuleSound}
 use Rattle.verdicts.specs.Breaking.{breaks, someChoiceRefused}
-use Rattle.verdicts.proofs.Accesses.{leaf-set-below}
-use Rattle.verdicts.proofs.Closing.{Apart}
+use Rattle.verdicts.proofs.Accesses.{leaf-set-below, Apart}
 use Rattle.verdicts.proofs.Quantifiers.{any-below}
 use Rattle.verdicts.proofs.Sound.{few-rules, rules-sound}
 use Rattle.search.specs.Choices.{Candidate, candidateBefore, choiceBefore, isChoice}

@@ -18,8 +18,7 @@ use Rattle.book.proofs.Accepted.{HeadHolds, accepted-head}
 use Rattle.book.proofs.Lists.{and-true, and-left, and-right, and-both, or-true, map-all}
 use Rattle.verdicts.specs.Accesses.{Access, Accesses, everyAccess, fits, fitting, flat, keep, same}
 use Rattle.verdicts.specs.Breaking.{choicesFrom}
-use Rattle.verdicts.proofs.Accesses.{access, in-fitting}
-use Rattle.verdicts.proofs.Closing.{same-equal, same-self}
+use Rattle.verdicts.proofs.Accesses.{access, in-fitting, same-equal, same-self}
 use Rattle.verdicts.proofs.Quantifiers.{any-at, any-keep, at-any, flat-all}
 use Rattle.search.specs.Obtainable.{canBeHad, labelled, operated}
 use Rattle.search.specs.Choices.{Candidate, accessBefore, candidateBefore, candidates, choiceBefore, choicesOf}

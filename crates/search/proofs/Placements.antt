@@ -13,13 +13,12 @@ use Rattle.book.specs.Rule.{inLeafSet, action, referenceCount, restrictionCount
 use Rattle.book.proofs.Lists.{and-true, and-right, and-both, and-or, or-left, or-right, same-test}
 use Rattle.book.proofs.Lists.{any-same, any-append, any-from-same, any-one}
 use Rattle.verdicts.specs.Accesses.{Access, Accesses, actionFits, fits, same}
-use Rattle.verdicts.specs.Words.{RuleSound, maskTakes, offersOrNone}
+use Rattle.verdicts.specs.Inner.Words.{RuleSound, beside, maskTakes, offersOrNone}
 use Rattle.verdicts.specs.Breaking.{someChoiceRefused}
 use Rattle.verdicts.proofs.Quantifiers.{any-at, at-any, any-below}
-use Rattle.verdicts.proofs.Masks.{beside}
 use Rattle.verdicts.proofs.Offers.{in-offers, found-offers, offers-present, offers-absent}
 use Rattle.verdicts.proofs.Choices.{refusesThree, refused-by-operations}
-use Rattle.verdicts.proofs.Closing.{Apart, same-equal, same-self}
+use Rattle.verdicts.proofs.Accesses.{Apart, same-equal, same-self}
 use Rattle.search.specs.Inner.Places.{accessAt, chosenAt, choiceAt, nowhere}
 use Rattle.search.specs.Inner.Table.{meets, takesAt, takesOperation, TableHolds}
 use Rattle.search.specs.Inner.Closing.{acceptedAt, closesAt, closesBy, closes}

@@ -14,7 +14,7 @@ use Rattle.book.proofs.Lists.{and-end}
 use Rattle.book.proofs.Members.{has-cond, has-below, has-zero}
 use Rattle.lineage.proofs.Tables.{Filled}
 use Rattle.verdicts.specs.Accesses.{actionFits, fits}
-use Rattle.verdicts.specs.Words.{maskTakes}
+use Rattle.verdicts.specs.Inner.Words.{maskTakes}
 use Rattle.search.specs.Inner.Places.{accessAt, nowhere}
 use Rattle.search.specs.Inner.Table.{meets, takesAt, meetsReference, takesOperation, RuleWord, LeafSets, TableHolds}
 

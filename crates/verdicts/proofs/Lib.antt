@@ -8,8 +8,8 @@ pub mod Choices
 pub mod Pairs
 pub mod Monotone
 pub mod Semantic
-pub mod Closing
 pub mod Verdict
+pub mod DemandLaws
 pub mod Held
 pub mod Sound
 pub mod JudgeLaws

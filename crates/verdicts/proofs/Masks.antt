@@ -12,7 +12,7 @@ use Rattle.book.specs.Sets.{has}
 use Rattle.book.specs.Rule.{restrictionMask}
 use Rattle.book.proofs.Lists.{and-end, and-false, any-none, any-more}
 use Rattle.book.proofs.Members.{has-zero, has-or, has-above, has-below}
-use Rattle.verdicts.specs.Words.{maskTakes}
+use Rattle.verdicts.specs.Inner.Words.{maskTakes, beside, Beside}
 use Rattle.verdicts.proofs.Marks.{has-if}
 
 -- One mask
@@ -30,16 +30,6 @@ mask-other mask k n small = rw (ne-eqb mask 0 n) (go (ltb k 16) refl)
     go false e = has-above 16 mask k small (ltb-false k 16 e)
 
 -- The restrictions
-
--- restriction j takes operations a, b and k
-abbrev pub beside : List ℕ → ℕ → ℕ → ℕ → ℕ → Bool
-beside rule a b k j =
-    maskTakes (restrictionMask rule j 0) a
-    && (maskTakes (restrictionMask rule j 1) b && maskTakes (restrictionMask rule j 2) k)
-
--- the operations that one of the first n restrictions takes beside a and b
-abbrev pub Beside : List ℕ → ℕ → ℕ → ℕ → ℕ → Type 0
-Beside rule a b n word = (k : ℕ) → has word k ≡ (ltb k 16 && any (beside rule a b k) (upTo n))
 
 pub beside-none : (rule : List ℕ) (a b : ℕ) → Beside rule a b 0 0
 beside-none rule a b k = rw (has-zero, any-none (beside rule a b k), and-false)

@@ -17,8 +17,8 @@ use Rattle.book.specs.Rule.{action, inLeafSet, referenceCount}
 use Rattle.book.proofs.Lists.{and-true, and-left, and-right, and-both, and-second, and-false, and-over, same-test}
 use Rattle.book.proofs.Lists.{any-both}
 use Rattle.book.proofs.Members.{has-or, has-and, single-in}
-use Rattle.verdicts.specs.Accesses.{Access, Accesses, actionFits, fits, fitting}
-use Rattle.verdicts.specs.Words.{heldBy, offers, offersOrNone}
+use Rattle.verdicts.specs.Accesses.{Access, Accesses, actionFits, fits, fitting, heldBy}
+use Rattle.verdicts.specs.Inner.Words.{heldWith, offers, offersOrNone, Offered}
 use Rattle.verdicts.proofs.Quantifiers.{at-any, any-at, any-witness, any-two}
 use Rattle.verdicts.proofs.Marks.{has-if, Marks, not-empty}
 use Rattle.verdicts.proofs.Accesses.{access, leaf-set-below, fits-bounds, in-fitting, found-fitting}
@@ -117,11 +117,6 @@ module _ (head rule : List ℕ) (accesses : Accesses) (i k : ℕ) where
 
 -- Offers by words
 
--- the leaves that the words hold with operation k, in the channels that fit an action
-abbrev pub heldWith : List ℕ → ℕ → ℕ → ℕ → Bool
-heldWith words a k d =
-    (actionFits a 0 && has (getD words k 0) d) || (actionFits a 1 && has (getD words (16 + k) 0) d)
-
 pub held-joined :
     (words : List ℕ) (a k x y d : ℕ) (p q : Bool)
     → p ≡ actionFits a 0
@@ -186,7 +181,7 @@ module _ (head rule : List ℕ) (accesses : Accesses) (i : ℕ) where
       (word : ℕ)
       → i < referenceCount rule
       → Marks (offers head rule accesses i) 16 word
-      → (k : ℕ) → has word k ≡ (ltb k 16 && offersOrNone head rule accesses i k)
+      → Offered head rule accesses i word
   unfolding offersOrNone
   offered-present word l marked k =
       rw (
@@ -200,7 +195,6 @@ module _ (head rule : List ℕ) (accesses : Accesses) (i : ℕ) where
           let l = ltb-true k 16 (and-left (ltb k 16) (offers head rule accesses i k) h) in
           omega arith
 
-  pub offered-absent :
-      referenceCount rule ≤ i → (k : ℕ) → has 1 k ≡ (ltb k 16 && offersOrNone head rule accesses i k)
+  pub offered-absent : referenceCount rule ≤ i → Offered head rule accesses i 1
   unfolding offersOrNone
   offered-absent l k = rw (le-ltb i (referenceCount rule) l) (single-in 16 0 k (omega arith))

@@ -15,11 +15,10 @@ use Rattle.book.specs.Rule.{restrictionCount}
 use Rattle.book.proofs.Lists.{and-assoc, and-false, any-none, any-more, any-same, any-where}
 use Rattle.book.proofs.Members.{has-minus}
 use Rattle.verdicts.specs.Accesses.{Accesses}
-use Rattle.verdicts.specs.Words.{RuleSound, offersOrNone}
+use Rattle.verdicts.specs.Inner.Words.{RuleSound, offersOrNone, Offered, beside, Beside}
 use Rattle.verdicts.specs.Breaking.{someChoiceRefused}
 use Rattle.verdicts.proofs.Quantifiers.{any-below, any-pairs}
 use Rattle.verdicts.proofs.Marks.{not-empty}
-use Rattle.verdicts.proofs.Masks.{Beside, beside}
 use Rattle.verdicts.proofs.Choices.{refusesThree, refused-by-operations}
 
 -- Pairs
@@ -53,15 +52,11 @@ module _ (head rule : List ℕ) (accesses : Accesses) where
 
   -- The words of a step
 
-  -- the operations that reference i is offered
-  abbrev pub Offered : ℕ → ℕ → Type 0
-  Offered i word = (k : ℕ) → has word k ≡ (ltb k 16 && offersOrNone head rule accesses i k)
-
   pub third-test :
       (a b third taken : ℕ)
       → third < 2 ^ 64
       → taken < 2 ^ 64
-      → Offered 2 third
+      → Offered head rule accesses 2 third
       → Beside rule a b (restrictionCount rule) taken
       → not (eqb (bitAnd third ((2 ^ 64 - 1) - taken)) 0) ≡ thirdRefused a b
   unfolding thirdRefused refusesThree
@@ -81,7 +76,8 @@ module _ (head rule : List ℕ) (accesses : Accesses) where
       both true o t = refl
       both false o t = refl
 
-  module _ (p first second : ℕ) (x y : Bool) (small : p < 256) (one : Offered 0 first) (two : Offered 1 second)
+  module _ (p first second : ℕ) (x y : Bool) (small : p < 256)
+      (one : Offered head rule accesses 0 first) (two : Offered head rule accesses 1 second)
       (ex : x ≡ has first (p / 16)) (ey : y ≡ has second (p % 16)) where
     pair-test : pairRefused p ≡ (x && y && thirdRefused (p / 16) (p % 16))
     unfolding pairRefused
@@ -101,7 +97,8 @@ module _ (head rule : List ℕ) (accesses : Accesses) where
     pub pair-apart : (x && y) ≡ false → pairRefused p ≡ false
     pair-apart h = pair-test ∙ rw h
 
-    module _ (third taken : ℕ) (lt : third < 2 ^ 64) (lu : taken < 2 ^ 64) (offered : Offered 2 third)
+    module _ (third taken : ℕ) (lt : third < 2 ^ 64) (lu : taken < 2 ^ 64)
+        (offered : Offered head rule accesses 2 third)
         (took : Beside rule (p / 16) (p % 16) (restrictionCount rule) taken) where
       pub pair-taken : bitAnd third ((2 ^ 64 - 1) - taken) ≡ 0 → pairRefused p ≡ false
       pair-taken h =

@@ -1,9 +1,11 @@
 -- Accesses, and which of them fit a reference of a rule. Document 01, "Breaking a rule". Assumes nothing.
-use Prim.Native.Nat.{ℕ, zero, suc}
+use Prim.Native.Nat.{ℕ, zero, suc, _+_, _*_}
 use mathlib.Core.Bool.{Bool, true, false, _&&_}
 use mathlib.Core.List.{List, [], _∷_, _++_, map}
+use lib.ListN.{getD}
 use lib.Dec.{eqb, ltb}
 use Rattle.book.specs.Lists.{upTo}
+use Rattle.book.specs.Sets.{has}
 use Rattle.book.specs.Head.{dataCount}
 use Rattle.book.specs.Rule.{action, inLeafSet}
 use Rattle.lineage.specs.Accesses.{isAccess}
@@ -24,6 +26,12 @@ Accesses = Access → Bool
 -- the accesses of a plan
 unfoldable pub accessesOf : List ℕ → List ℕ → Accesses
 accessesOf head plan x = isAccess head plan (x .channel) (x .leaf) (x .operation)
+
+-- the set that 32 words hold: "bit d of word 16 × s + k is set exactly when (s, d, k) is an access"
+unfoldable pub heldBy : List ℕ → Accesses
+heldBy words x =
+    ltb (x .channel) 2
+    && (ltb (x .operation) 16 && has (getD words (16 * x .channel + x .operation) 0) (x .leaf))
 
 -- the lists that f gives, one after the other
 unfoldable pub flat : {A B : Type 0} → (A → List B) → List A → List B

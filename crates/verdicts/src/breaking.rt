@@ -8,16 +8,13 @@ use book::rules::leaf_set;
 use book::sets::contains;
 use book::sets::single;
 ghost use mathlib.Core.Path.{_≡_};
-ghost use mathlib.Core.Bool.{_&&_, _||_, cond};
-ghost use Prim.Native.Nat.{ℕ, _+_, _<_};
+ghost use mathlib.Core.Bool.{_&&_, cond};
+ghost use Prim.Native.Nat.{ℕ, _<_};
 ghost use lib.Dec.{ltb};
-ghost use lib.ListN.{getD};
-ghost use Rattle.book.specs.Lists.{any, upTo};
 ghost use Rattle.book.specs.Sets.{has};
-ghost use Rattle.book.specs.Rule.{restrictionCount, restrictionMask};
-ghost use Rattle.verdicts.specs.Accesses.{actionFits};
-ghost use Rattle.verdicts.specs.Words.{heldBy, maskTakes, offersOrNone, RuleSound};
-ghost use Rattle.verdicts.specs.Breaking.{someChoiceRefused};
+ghost use Rattle.book.specs.Rule.{restrictionCount};
+ghost use Rattle.verdicts.specs.Accesses.{actionFits, heldBy};
+ghost use Rattle.verdicts.specs.Inner.Words.{Beside, HeldWord, maskTakes, OfferedIfSound, RefusedIfSound};
 
 // A word, or the empty one.
 pub fn word_if(wanted: bool, word: u64) -> u64
@@ -42,7 +39,7 @@ pub fn action_fits(action: usize, channel: usize) -> bool
 
 // The leaves that the words hold with operation k, in the channels that fit an action.
 fn held(words: [u64; 32], action: usize, k: usize) -> u64
-    ensures { λ r. ⌜ (k < 16 → (d : ℕ) → has r d ≡ ((actionFits action 0 && has (getD words k 0) d) || (actionFits action 1 && has (getD words (16 + k) 0) d))) ⌝ }
+    ensures { λ r. ⌜ HeldWord words action k r ⌝ }
 {
     if 16 <= k {
         return 0;
@@ -55,7 +52,7 @@ fn held(words: [u64; 32], action: usize, k: usize) -> u64
 // The operations with which some access of the words fits reference i; of an absent reference,
 // operation 0 alone.
 fn offered(head: &[u8], rule: &[u8], words: [u64; 32], i: u8) -> u64
-    ensures { λ r. ⌜ (RuleSound (now (head .entry)) (now (rule .entry)) → (k : ℕ) → has r k ≡ (ltb k 16 && offersOrNone (now (head .entry)) (now (rule .entry)) (heldBy words) i k)) ⌝ }
+    ensures { λ r. ⌜ OfferedIfSound (now (head .entry)) (now (rule .entry)) (heldBy words) i r ⌝ }
 {
     if reference_count(rule) <= i as usize {
         return 1;
@@ -77,7 +74,7 @@ fn mask_takes(mask: u64, k: usize) -> bool
 
 // The operations of the third reference that some restriction takes beside a and b.
 fn taken_beside(rule: &[u8], a: usize, b: usize) -> u64
-    ensures { λ r. ⌜ ((k : ℕ) → has r k ≡ (ltb k 16 && any (λ j. maskTakes (restrictionMask (now (rule .entry)) j 0) a && (maskTakes (restrictionMask (now (rule .entry)) j 1) b && maskTakes (restrictionMask (now (rule .entry)) j 2) k)) (upTo (restrictionCount (now (rule .entry)))))) ⌝ }
+    ensures { λ r. ⌜ Beside (now (rule .entry)) a b (restrictionCount (now (rule .entry))) r ⌝ }
 {
     let n = restriction_count(rule);
     let mut found = 0u64;
@@ -104,7 +101,7 @@ pub fn all_if_zero(mask: u64) -> u64
 
 // Whether some choice from the words is accepted by no restriction.
 pub fn breaks(head: &[u8], rule: &[u8], words: [u64; 32]) -> bool
-    ensures { λ r. ⌜ (RuleSound (now (head .entry)) (now (rule .entry)) → r ≡ someChoiceRefused (now (head .entry)) (now (rule .entry)) (heldBy words)) ⌝ }
+    ensures { λ r. ⌜ RefusedIfSound (now (head .entry)) (now (rule .entry)) (heldBy words) r ⌝ }
 {
     let first = offered(head, rule, words, 0);
     let second = offered(head, rule, words, 1);

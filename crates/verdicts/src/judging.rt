@@ -1,5 +1,5 @@
-// Judge, and what the search asks: the rules that cover a user, and those that a set of accesses
-// breaks.
+// Judge: the refusals in their order, then the mask of the rules that a user and a plan break. For
+// the crates above, the same mask for a set of accesses, and the number of rules.
 use crate::Judged;
 use crate::NO_USER;
 use crate::breaking::breaks;
@@ -19,20 +19,12 @@ use book::sets::single;
 use lineage::accesses::accesses;
 use lineage::rows::plan_check;
 ghost use mathlib.Core.Path.{_≡_};
-ghost use mathlib.Core.Bool.{_&&_};
-ghost use Prim.Native.Nat.{ℕ, _≤_, _<_};
-ghost use lib.Dec.{ltb};
-ghost use Rattle.book.specs.Answers.{checkAnswer, ruleCount};
-ghost use Rattle.book.specs.Blocks.{headOf, ruleAt};
+ghost use Prim.Native.Nat.{_≤_};
+ghost use Rattle.book.specs.Answers.{ruleCount};
 ghost use Rattle.book.specs.Head.{userCount};
-ghost use Rattle.book.specs.Rule.{coversUser};
-ghost use Rattle.book.specs.Sets.{has, WordOf};
-ghost use Rattle.lineage.specs.Answers.{planAnswer};
-ghost use Rattle.book.specs.declared.Checked.the-variants.{Accepted};
-ghost use Rattle.verdicts.specs.Accesses.{accessesOf};
+ghost use Rattle.verdicts.specs.Accesses.{heldBy};
 ghost use Rattle.verdicts.specs.Answers.{judgeAnswer, judgeCheck, userAnswer};
-ghost use Rattle.verdicts.specs.Breaking.{brokenMask, someChoiceRefused};
-ghost use Rattle.verdicts.specs.Words.{heldBy, RuleSound};
+ghost use Rattle.verdicts.specs.Inner.Masks.{BrokenIfAccepted, BrokenIfSound, JudgedIfAccepted};
 
 // The number of rules of an accepted book.
 pub fn rule_total(book: &[u8]) -> u8
@@ -45,41 +37,28 @@ pub fn rule_total(book: &[u8]) -> u8
     n as u8
 }
 
-// The first n rules of a book that cover a user, bit r for rule r.
-pub fn covering(book: &[u8], n: u8, user: usize) -> u64
-    ensures { λ r. ⌜ (userCount (headOf (now (book .entry))) ≤ 64 → WordOf (λ i. ltb i n && coversUser (headOf (now (book .entry))) (ruleAt (now (book .entry)) i) user) r) ⌝ }
+// Whether a user and the words break a rule.
+fn user_breaks(head: &[u8], rule: &[u8], user: u32, words: [u64; 32]) -> bool
+    ensures { λ r. ⌜ BrokenIfSound (now (head .entry)) (now (rule .entry)) user (heldBy words) r ⌝ }
 {
-    let head = head_of(book);
-    let mut found = 0u64;
-    for r in 0..n {
-        let covered = contains(covered_users(head, rule_at(book, r)), user);
-        found = found | word_if(covered, single(r as usize));
-    }
-    found
-}
-
-// Whether a rule is wanted and broken.
-fn wanted_breaks(head: &[u8], rule: &[u8], words: [u64; 32], wanted: bool) -> bool
-    ensures { λ r. ⌜ (RuleSound (now (head .entry)) (now (rule .entry)) → r ≡ (wanted && someChoiceRefused (now (head .entry)) (now (rule .entry)) (heldBy words))) ⌝ }
-{
-    if wanted {
+    if contains(covered_users(head, rule), user as usize) {
         return breaks(head, rule, words);
     }
     false
 }
 
-// Of the first n rules those of a set that the words break.
-pub fn broken(book: &[u8], n: u8, rules: u64, words: [u64; 32]) -> u64
-    ensures { λ r. ⌜ (((i : ℕ) → i < n → RuleSound (headOf (now (book .entry))) (ruleAt (now (book .entry)) i)) → WordOf (λ i. ltb i n && (has rules i && someChoiceRefused (headOf (now (book .entry))) (ruleAt (now (book .entry)) i) (heldBy words))) r) ⌝ }
+// The mask of the rules of an accepted book that a user and the words break.
+pub fn broken_by(book: &[u8], user: u32, words: [u64; 32]) -> u32
+    ensures { λ r. ⌜ BrokenIfAccepted (now (book .entry)) user (heldBy words) r ⌝ }
 {
     let head = head_of(book);
+    let n = rule_total(book);
     let mut found = 0u64;
     for r in 0..n {
-        let at = r as usize;
-        let hit = wanted_breaks(head, rule_at(book, r), words, contains(rules, at));
-        found = found | word_if(hit, single(at));
+        let hit = user_breaks(head, rule_at(book, r), user, words);
+        found = found | word_if(hit, single(r as usize));
     }
-    found
+    (found % 4294967296) as u32
 }
 
 fn test_user(head: &[u8], user: u32) -> Tested
@@ -100,11 +79,9 @@ fn test_judge(book: &[u8], user: u32, plan: &[u8]) -> Tested
 
 // The mask of the rules that a user and an accepted plan break.
 fn mask_of(book: &[u8], user: u32, plan: &[u8]) -> u32
-    ensures { λ r. ⌜ ((n m : ℕ) → checkAnswer (now (book .entry)) ≡ Accepted n → planAnswer (headOf (now (book .entry))) (now (plan .entry)) ≡ Accepted m → r ≡ brokenMask (now (book .entry)) (ruleCount (now (book .entry))) user (accessesOf (headOf (now (book .entry))) (now (plan .entry)))) ⌝ }
+    ensures { λ r. ⌜ JudgedIfAccepted (now (book .entry)) user (now (plan .entry)) r ⌝ }
 {
-    let n = rule_total(book);
-    let rules = covering(book, n, user as usize);
-    (broken(book, n, rules, accesses(book, plan)) % 4294967296) as u32
+    broken_by(book, user, accesses(book, plan))
 }
 
 // Judge: which rules the user and the plan break.

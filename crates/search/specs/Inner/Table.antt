@@ -12,7 +12,7 @@ use Rattle.book.specs.Blocks.{headOf, ruleAt}
 use Rattle.book.specs.Head.{functionCount, operation}
 use Rattle.book.specs.Rule.{action, referenceCount, restrictionCount, restrictionMask, coversUser, inLeafSet}
 use Rattle.verdicts.specs.Accesses.{actionFits, fits}
-use Rattle.verdicts.specs.Words.{maskTakes}
+use Rattle.verdicts.specs.Inner.Words.{maskTakes}
 use Rattle.search.specs.Obtainable.{labelled, operated, canBeHad}
 use Rattle.search.specs.Inner.Places.{accessAt, nowhere}
 

@@ -4,7 +4,7 @@ use native.Mathlib.Omega.{arith}
 use mathlib.Core.Path.{_≡_, sym, _∙_}
 use mathlib.Core.Logic.{⊎-elim}
 use borrow.Author.Needs.{needs}
-use Rattle.verdicts.specs.Words.{heldBy}
+use Rattle.verdicts.specs.Accesses.{heldBy}
 use Rattle.verdicts.proofs.Pairs.{pairRefused, refused-by-pairs, pair-apart, pair-taken, pair-refused}
 use Rattle.verdicts.proofs.Pairs.{NoneRefused, none-refused, more-refused}
 use Rattle.verdicts.proofs.Quantifiers.{at-any}

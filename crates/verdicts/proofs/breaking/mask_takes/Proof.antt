@@ -1,6 +1,6 @@
 -- The definition, word for word. Assumes nothing.
 use borrow.Author.Needs.{needs}
-use Rattle.verdicts.specs.Words.{maskTakes}
+use Rattle.verdicts.specs.Inner.Words.{maskTakes}
 use Rattle.verdicts.proofs.breaking.mask_takes.Statement.{statement}
 use Rattle.verdicts.proofs.breaking.mask_takes.Tie as tie
 

@@ -4,7 +4,8 @@ use mathlib.Core.Bool.{not}
 use lib.Dec.{eqb}
 use lib.Bits.{bitAnd}
 use borrow.Author.Needs.{needs}
-use Rattle.verdicts.specs.Words.{RuleSound, heldBy, offers}
+use Rattle.verdicts.specs.Accesses.{heldBy}
+use Rattle.verdicts.specs.Inner.Words.{RuleSound, offers}
 use Rattle.verdicts.proofs.Marks.{Marks, marks-none, marks-more, marks-end}
 use Rattle.verdicts.proofs.Offers.{offers-held, offered-present, offered-absent}
 use Rattle.verdicts.proofs.breaking.offered.Statement.{statement}

@@ -3,7 +3,8 @@ use Prim.Native.Nat.{_-_, _≤_}
 use native.Mathlib.Omega.{arith}
 use mathlib.Core.Path.{_≡_}
 use borrow.Author.Needs.{needs}
-use Rattle.verdicts.proofs.Masks.{Beside, beside-none, beside-more}
+use Rattle.verdicts.specs.Inner.Words.{Beside}
+use Rattle.verdicts.proofs.Masks.{beside-none, beside-more}
 use Rattle.verdicts.proofs.breaking.taken_beside.Statement.{statement}
 use Rattle.verdicts.proofs.breaking.taken_beside.Tie as tie
 
