@@ -39,23 +39,26 @@ module _ (book plan words : List ℕ) where
   pub flows-accepted : Passes (flowsTests book plan words) → BothAccepted book plan × (length words ≡ 32)
   unfolding flowsTests wordsTests
   flows-accepted h =
-      let last = append-passed (bookTests book ++ planTests (headOf book) plan) (wordsTests words) h in
-      ( append-passed (bookTests book) (planTests (headOf book) plan) (last .0),
-        eqb-true (length words) 32 (last-passed 23 0 (eqb (length words) 32) (last .1)) )
+      let last = append-passed (bookTests book ++ planTests (headOf book) plan) (wordsTests words) h in (
+        append-passed (bookTests book) (planTests (headOf book) plan) (last .0),
+        eqb-true (length words) 32 (last-passed 23 0 (eqb (length words) 32) (last .1)),
+      )
 
   pub flows-done :
       Passes (flowsTests book plan words)
       → (flowed.Done ≡ flowsAnswer book plan words) × (accessWords (headOf book) plan ≡ flowsWords book plan words)
   unfolding flowsAnswer flowsWords
-  flows-done h =
-      ( sym (answered-passed (flowsTests book plan words) flowed.Refused flowed.Done h),
-        sym (answered-passed (flowsTests book plan words) (λ refusal. words) (accessWords (headOf book) plan) h) )
+  flows-done h = (
+    sym (answered-passed (flowsTests book plan words) flowed.Refused flowed.Done h),
+    sym (answered-passed (flowsTests book plan words) (λ refusal. words) (accessWords (headOf book) plan) h),
+  )
 
   pub flows-refused :
       (r : Refusal)
       → firstFailing (flowsTests book plan words) ≡ tested.Refused r
       → (flowed.Refused r ≡ flowsAnswer book plan words) × (words ≡ flowsWords book plan words)
   unfolding flowsAnswer flowsWords
-  flows-refused r h =
-      ( sym (answered-refused (flowsTests book plan words) flowed.Refused flowed.Done r h),
-        sym (answered-refused (flowsTests book plan words) (λ refusal. words) (accessWords (headOf book) plan) r h) )
+  flows-refused r h = (
+    sym (answered-refused (flowsTests book plan words) flowed.Refused flowed.Done r h),
+    sym (answered-refused (flowsTests book plan words) (λ refusal. words) (accessWords (headOf book) plan) r h),
+  )

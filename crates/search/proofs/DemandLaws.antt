@@ -77,9 +77,13 @@ module _ (book : List ℕ) (r : ℕ) (buffer : List ℕ) (accepted : IdleAccepte
   pub idle-passes : Passes (idleTests book r buffer)
   unfolding idleTests ruleTests bufferTests firstFailing orElse
   idle-passes =
-      rw (first-append (bookTests book ++ ruleTests book r) (bufferTests buffer),
-        first-append (bookTests book) (ruleTests book r), accepted .book-accepted,
-        lt-ltb r (ruleCount book) (accepted .rule-there), le-leb 36 (length buffer) (accepted .long))
+      rw (
+        first-append (bookTests book ++ ruleTests book r) (bufferTests buffer),
+        first-append (bookTests book) (ruleTests book r),
+        accepted .book-accepted,
+        lt-ltb r (ruleCount book) (accepted .rule-there),
+        le-leb 36 (length buffer) (accepted .long),
+      )
 
   pub idle-answer : idleAnswer book r buffer ≡ idlenessOf (headOf book) (firstAlone book r)
   unfolding idleAnswer

@@ -98,9 +98,10 @@ module _ (book : List ℕ) (r : ℕ) (buffer : List ℕ) where
       → (idleness.Refused x ≡ idleAnswer book r buffer) × (buffer ≡ idleBuffer book r buffer)
   unfolding idleAnswer idleBuffer
   idle-refused x h =
-      let found = firstAlone book r in
-      ( sym (answered-refused (idleTests book r buffer) idleness.Refused (idlenessOf (headOf book) found) x h),
-        sym (answered-refused (idleTests book r buffer) (λ refusal. buffer) (written (headOf book) found buffer) x h) )
+      let found = firstAlone book r in (
+        sym (answered-refused (idleTests book r buffer) idleness.Refused (idlenessOf (headOf book) found) x h),
+        sym (answered-refused (idleTests book r buffer) (λ refusal. buffer) (written (headOf book) found buffer) x h),
+      )
 
   -- what was found, shown
   pub idle-shown :

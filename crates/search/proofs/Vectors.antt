@@ -65,8 +65,12 @@ after-check :
     → _≡_ {A = Idleness × List ℕ} (idleAnswer book r buffer, idleBuffer book r buffer) (outcome book r buffer)
 unfolding idleAnswer idleBuffer idleTests answered orElse outcome
 after-check book r buffer accepted =
-    rw (first-append (bookTests book ++ ruleTests book r) (bufferTests buffer), first-append (bookTests book) (ruleTests book r),
-      first-append (ruleTests book r) (bufferTests buffer), accepted)
+    rw (
+      first-append (bookTests book ++ ruleTests book r) (bufferTests buffer),
+      first-append (bookTests book) (ruleTests book r),
+      first-append (ruleTests book r) (bufferTests buffer),
+      accepted,
+    )
 
 map-same : {A B : Type 0} (f g : A → B) (l : List A) → ((x : A) → f x ≡ g x) → map f l ≡ map g l
 map-same f g [] h = refl

@@ -90,7 +90,7 @@ pub fn idle(book: &[u8], rule: u32, buffer: &mut [u8]) -> Idleness
     ensures { λ r. ⌜ (r ≡ idleAnswer (now (book .entry)) rule (now (buffer .entry)))
         × (now (buffer .exit) ≡ idleBuffer (now (book .entry)) rule (now (buffer .entry)))
         × (IdleAccepted (now (book .entry)) rule (now (buffer .entry))
-          → Demand3 (now (book .entry)) rule (now (buffer .entry)) (now (buffer .exit)) r) ⌝ }
+        → Demand3 (now (book .entry)) rule (now (buffer .entry)) (now (buffer .exit)) r) ⌝ }
 {
     let outcome = test_idle(book, rule, buffer);
     match outcome {

@@ -8,12 +8,12 @@ use mathlib.Core.Bool.{Bool, true, false, _&&_, _||_, not, false≢true}
 use mathlib.Core.List.{List, map}
 use lib.Dec.{eqb, ltb}
 use borrow.Author.Tests.{eqb-true, eqb-false, eq-eqb, lt-ltb, ltb-true, ltb-false}
-use Rattle.book.specs.Lists.{any, all, upTo}
+use Rattle.book.specs.Lists.{flat, any, all, upTo}
 use Rattle.book.specs.Hierarchies.{leaf, covers}
 use Rattle.book.specs.Head.{dataCount, dataParent, isDataLeaf}
 use Rattle.book.specs.Rule.{action, dataCategory, exclusions, inLeafSet, referenceCount}
 use Rattle.book.proofs.Lists.{and-left, and-right, and-both, any-map, map-all, any-found, same-test}
-use Rattle.verdicts.specs.Accesses.{Access, Accesses, same, everyAccess, actionFits, fits, fitting, flat}
+use Rattle.verdicts.specs.Accesses.{Access, Accesses, same, everyAccess, actionFits, fits, fitting}
 use Rattle.verdicts.proofs.Quantifiers.{any-flat, flat-all, any-keep, all-below, at-any}
 
 -- Accesses by their parts

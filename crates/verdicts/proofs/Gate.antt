@@ -1,45 +1,34 @@
--- What Judge's answer says of a plan: bit r of the mask is set exactly when r is a rule of the book and broken.
--- Assumes nothing.
+-- What a mask that Judge answers says: book, user and plan are accepted, and demand 2 holds of it. Assumes nothing.
 use Prim.Native.Nat.{ℕ}
 use native.Mathlib.Omega.{arith}
-use mathlib.Core.Path.{_≡_, refl}
-use mathlib.Core.Bool.{_&&_}
+use mathlib.Core.Path.{_≡_, refl, sym, subst, _∙_}
 use mathlib.Core.List.{List}
-use lib.Dec.{ltb}
-use Rattle.book.specs.Sets.{has}
-use Rattle.book.specs.Blocks.{headOf, ruleAt}
-use Rattle.book.specs.Answers.{ruleCount}
-use Rattle.book.specs.declared.Checked.{Checked}
-use Rattle.book.specs.declared.Checked.the-variants.{Accepted, Refused}
+use Rattle.book.specs.Blocks.{headOf}
+use Rattle.book.specs.Tests.{firstFailing}
+use Rattle.book.specs.declared.Tested.{Tested}
+use Rattle.book.specs.declared.Tested.the-variants as tested
 use Rattle.verdicts.specs.Accesses.{accessesOf}
-use Rattle.verdicts.specs.Breaking.{breaks, brokenMask}
-use Rattle.verdicts.specs.Answers.{judgeAnswer, judgeCheck, judgedOf}
+use Rattle.verdicts.specs.Answers.{judgeTests, judgeAnswer}
+use Rattle.verdicts.specs.Demand.{JudgeAccepted, Demand2, Judges}
 use Rattle.verdicts.specs.declared.Judged.the-variants as judged
-use Rattle.verdicts.proofs.Verdict.{mask-bit}
+use Rattle.verdicts.proofs.JudgeLaws.{judge-accepted, judge-refused}
+use Rattle.verdicts.proofs.DemandLaws.{judge-promises}
 
 module _ (book : List ℕ) (user : ℕ) (plan : List ℕ) (mask : ℕ)
     (answer : judgeAnswer book user plan ≡ judged.Broken mask) where
-  -- the answer's mask
-  judged-mask :
-      mask ≡ brokenMask book (ruleCount book) user (accessesOf (headOf book) plan)
-  unfolding judgeAnswer judgedOf
-  judged-mask = go (judgeCheck book user plan) refl
+  pub judged-accepted : JudgeAccepted book user plan
+  judged-accepted = go (firstFailing (judgeTests book user plan)) refl
     where
-      go :
-          (a : Checked)
-          → judgeCheck book user plan ≡ a
-          → mask ≡ brokenMask book (ruleCount book) user (accessesOf (headOf book) plan)
-      go (Accepted n) e =
-          let broken = brokenMask book (ruleCount book) user (accessesOf (headOf book) plan) in
-          let b : judged.Broken broken ≡ judged.Broken mask = rw e at answer in
-          cc
-      go (Refused r) e =
-          let b : judged.Refused r ≡ judged.Broken mask = rw e at answer in
+      go : (f : Tested) → firstFailing (judgeTests book user plan) ≡ f → JudgeAccepted book user plan
+      go tested.Passed e = judge-accepted book user plan e
+      go (tested.Refused r) e =
+          let b : judged.Refused r ≡ judged.Broken mask = judge-refused book user plan r e ∙ answer in
           let z : _≡_ {A = ℕ} 0 1 = cc in
           absurd (omega arith)
 
-  pub judged-bit :
-      (r : ℕ)
-      → has mask r
-      ≡ (ltb r (ruleCount book) && breaks (headOf book) (ruleAt book r) user (accessesOf (headOf book) plan))
-  judged-bit r = rw judged-mask (mask-bit book (ruleCount book) user (accessesOf (headOf book) plan) r)
+  pub judged-demand : Demand2 book user (accessesOf (headOf book) plan) mask
+  judged-demand =
+      let told = judge-promises book user plan (judgeAnswer book user plan) refl .1 judged-accepted in
+      let b : judged.Broken (told .mask) ≡ judged.Broken mask = sym (told .answers) ∙ answer in
+      let same : told .mask ≡ mask = cc in
+      subst (Demand2 book user (accessesOf (headOf book) plan)) same (told .demand)

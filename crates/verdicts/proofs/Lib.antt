@@ -9,9 +9,9 @@ pub mod Pairs
 pub mod Monotone
 pub mod Semantic
 pub mod Verdict
+pub mod JudgeLaws
 pub mod DemandLaws
 pub mod Held
 pub mod Sound
-pub mod JudgeLaws
-pub mod Vectors
 pub mod Gate
+pub mod Vectors

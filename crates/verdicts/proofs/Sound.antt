@@ -12,13 +12,11 @@ use lib.Bits.{and-mask}
 use lib.Pow.{pow-mono, pow-pos}
 use borrow.Author.Tests.{ltb-true, ltb-false, lt-ltb, le-ltb}
 use Rattle.book.specs.Sets.{has}
-use Rattle.book.specs.Blocks.{headOf, ruleAt}
+use Rattle.book.specs.Blocks.{headOf, ruleAt, ruleCount}
 use Rattle.book.specs.Head.{userCount}
 use Rattle.book.specs.Rule.{referenceCount, restrictionCount, restrictionMask}
-use Rattle.book.specs.Refusals.{maskAllows}
-use Rattle.book.specs.Answers.{checkAnswer, ruleCount}
-use Rattle.book.specs.declared.Checked.the-variants.{Accepted}
-use Rattle.book.proofs.Accepted.{HeadHolds, RuleHolds, accepted-head, accepted-length, accepted-rule, accepted-rules}
+use Rattle.book.specs.Refusals.{BookAccepted, maskAllows}
+use Rattle.book.proofs.Accepted.{HeadHolds, RuleHolds, accepted-head, accepted-length, accepted-rule}
 use Rattle.book.proofs.Lists.{and-end, and-false}
 use Rattle.book.proofs.Members.{has-zero, has-and, has-below, same-members}
 use Rattle.lineage.specs.Accesses.{accessWords}
@@ -89,19 +87,16 @@ rule-bytes book bytes r j = go (ltb j 512) refl
 
 -- A book
 
-module _ (book : List ℕ) (n : ℕ) (accepted : checkAnswer book ≡ Accepted n) where
+module _ (book : List ℕ) (accepted : BookAccepted book) where
   pub few-rules : ruleCount book ≤ 32
   few-rules =
-      let e = accepted-rules book n accepted in
-      let l = accepted-length book n accepted in
-      omega arith
+      accepted-length book accepted .1
 
   pub rules-sound :
       ((i : ℕ) → getD book i 0 < 256) → (r : ℕ) → r < ruleCount book → RuleSound (headOf book) (ruleAt book r)
   rules-sound bytes r l =
-      let e = accepted-rules book n accepted in
-      rule-sound (headOf book) (ruleAt book r) (accepted-head book n accepted)
-      (accepted-rule book n accepted r (omega arith)) (rule-bytes book bytes r)
+      rule-sound (headOf book) (ruleAt book r) (accepted-head book accepted)
+      (accepted-rule book accepted r l) (rule-bytes book bytes r)
 
 -- The mask
 
@@ -112,18 +107,18 @@ cut-bit word r =
     ∙ has-and word (2 ^ 32 - 1) r
     ∙ ap (λ (b : Bool). has word r && b) (has-below 32 r)
 
-module _ (book : List ℕ) (n : ℕ) (accepted : checkAnswer book ≡ Accepted n) (user : ℕ) where
+module _ (book : List ℕ) (accepted : BookAccepted book) (user : ℕ) where
   -- the code's word of the broken rules
   pub mask-whole :
       (accesses : Accesses) (total word : ℕ)
       → total ≡ ruleCount book
       → Marks (λ r. breaks (headOf book) (ruleAt book r) user accesses) total word
-      → word % 4294967296 ≡ brokenMask book (ruleCount book) user accesses
+      → word % 4294967296 ≡ brokenMask book user accesses
   unfolding brokenMask
   mask-whole accesses total word t marked =
       let whole = word-of (λ r. breaks (headOf book) (ruleAt book r) user accesses) (ruleCount book) in
-      same-members 32 (word % 4294967296) (brokenMask book (ruleCount book) user accesses) (omega arith)
-      (lt-of-lt-of-le (whole .0) (pow-mono (few-rules book n accepted)))
+      same-members 32 (word % 4294967296) (brokenMask book user accesses) (omega arith)
+      (lt-of-lt-of-le (whole .0) (pow-mono (few-rules book accepted)))
       (λ r l.
       cut-bit word r
       ∙ rw (marked r, lt-ltb r 64 (omega arith), lt-ltb r 32 l, t, and-end)
@@ -132,19 +127,19 @@ module _ (book : List ℕ) (n : ℕ) (accepted : checkAnswer book ≡ Accepted n
   -- the words of a plan break what its accesses break
   pub mask-held :
       (plan : List ℕ)
-      → brokenMask book (ruleCount book) user (heldBy (accessWords (headOf book) plan))
-      ≡ brokenMask book (ruleCount book) user (accessesOf (headOf book) plan)
+      → brokenMask book user (heldBy (accessWords (headOf book) plan))
+      ≡ brokenMask book user (accessesOf (headOf book) plan)
   unfolding brokenMask breaks
   mask-held plan =
       let words = heldBy (accessWords (headOf book) plan) in
       let flows = accessesOf (headOf book) plan in
       let held = word-of (λ r. breaks (headOf book) (ruleAt book r) user words) (ruleCount book) in
       let had = word-of (λ r. breaks (headOf book) (ruleAt book r) user flows) (ruleCount book) in
-      same-members (ruleCount book) (brokenMask book (ruleCount book) user words)
-      (brokenMask book (ruleCount book) user flows) (held .0) (had .0)
+      same-members (ruleCount book) (brokenMask book user words)
+      (brokenMask book user flows) (held .0) (had .0)
       (λ r l.
       held .1 r
       ∙ rw
       (refused-same (headOf book) (ruleAt book r) words flows
-      (held-plan (headOf book) plan (accepted-head book n accepted .data-most)))
+      (held-plan (headOf book) plan (accepted-head book accepted .data-most)))
       (sym (had .1 r)))

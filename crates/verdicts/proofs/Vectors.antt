@@ -3,7 +3,7 @@
 use Prim.Native.Nat.{ℕ}
 use mathlib.Core.Path.{_≡_, refl}
 use mathlib.Core.List.{List, [], _∷_, map}
-use Rattle.book.specs.Lists.{all, any, upTo, from}
+use Rattle.book.specs.Lists.{flat, all, any, upTo, from}
 use Rattle.book.specs.Sets.{has}
 use Rattle.book.specs.Hierarchies.{upwardIn, upward, under, leaf, covers, properDescendant, ownedBy, support}
 use Rattle.book.specs.Hierarchies.{parentHolds}
@@ -14,20 +14,22 @@ use Rattle.book.specs.Refusals.{between, zeros, lengthHolds, kindHolds, usersCo
 use Rattle.book.specs.Refusals.{functionsCounted, ruleCounts, referenceEnd, ruleZeros, ruleCounted, usersOrdered}
 use Rattle.book.specs.Refusals.{dataOrdered, labelHolds, labelsHold, functionsHold, userNumbersHold}
 use Rattle.book.specs.Refusals.{referenceHolds, numbersHold, leafSetsApart, referencesApart, maskAllows}
-use Rattle.book.specs.Refusals.{maskHolds, masksHold, ruleTests, contentTests, passTests, lengthTests}
-use Rattle.book.specs.Refusals.{firstFailing}
-use Rattle.book.specs.Answers.{refuse, orElse, atPlaces, checkAnswer, withCheck, sealBytes}
+use Rattle.book.specs.Refusals.{maskHolds, masksHold, lengthTests, checkTests, kindTests}
+use Rattle.book.specs.Refusals.{usersBlockTests, dataBlockTests, columnsBlockTests, functionsBlockTests}
+use Rattle.book.specs.Refusals.{ruleBlockTests, blockTests, contentTests, blockByBlock, bookTests, sealTests}
+use Rattle.book.specs.Tests.{firstFailing, refusedOr, answered}
+use Rattle.book.specs.Answers.{withCheck, sealBytes}
 use Rattle.book.specs.Shop.{padded, block, users, categories, columns, functions, rule, rule0, rule1, rule2, shop}
 use Rattle.book.proofs.Vectors.{checkCases}
 use Rattle.lineage.specs.Rows.{kindOf, kindAt, isValue, names, soundAs, rowHolds}
 use Rattle.lineage.specs.Paths.{through, pathsBy, pathsIn, paths, labels, takes, firstOperation, carries}
 use Rattle.lineage.specs.Accesses.{reaches, gives, isAccess, wordOf}
-use Rattle.lineage.specs.Answers.{planLengthHolds, rowTests, planAnswer}
+use Rattle.lineage.specs.Answers.{planLengthHolds, rowTests, planTests}
 use Rattle.lineage.proofs.Vectors.{applyBoth, choose, output, condition, plan, state, city, price, avg, sum}
-use Rattle.verdicts.specs.Accesses.{accessesOf, flat, keep, everyAccess, actionFits, fits, fitting}
+use Rattle.verdicts.specs.Accesses.{accessesOf, keep, everyAccess, actionFits, fits, fitting}
 use Rattle.verdicts.specs.Breaking.{choicesFrom, operations, accepts, refusesAll, someChoiceRefused, breaks}
 use Rattle.verdicts.specs.Breaking.{brokenMask}
-use Rattle.verdicts.specs.Answers.{userAnswer, judgeCheck, judgedOf, judgeAnswer}
+use Rattle.verdicts.specs.Answers.{userTests, judgeTests, judgeAnswer}
 use Rattle.verdicts.specs.declared.Judged.{Judged}
 use Rattle.verdicts.specs.declared.Judged.the-variants.{Broken}
 
@@ -65,10 +67,11 @@ unfolding cases checkCases plan all any upTo from has upwardIn upward under leaf
     parentHolds isUser isDataLeaf supportOf supports coversUser inLeafSet weighted checkSum checkHolds between zeros
     lengthHolds kindHolds usersCounted dataCounted columnsCounted functionsCounted ruleCounts referenceEnd ruleZeros
     ruleCounted usersOrdered dataOrdered labelHolds labelsHold functionsHold userNumbersHold referenceHolds
-    numbersHold leafSetsApart referencesApart maskAllows maskHolds masksHold ruleTests contentTests passTests
-    lengthTests firstFailing refuse orElse atPlaces checkAnswer withCheck sealBytes padded block users categories
+    numbersHold leafSetsApart referencesApart maskAllows maskHolds masksHold usersBlockTests dataBlockTests
+    columnsBlockTests functionsBlockTests ruleBlockTests blockTests checkTests kindTests contentTests lengthTests
+    blockByBlock bookTests sealTests firstFailing refusedOr answered withCheck sealBytes padded block users categories
     columns functions rule rule0 rule1 rule2 shop kindOf kindAt isValue names soundAs rowHolds planLengthHolds
-    rowTests planAnswer through pathsBy pathsIn paths labels takes firstOperation carries reaches gives isAccess
+    rowTests planTests through pathsBy pathsIn paths labels takes firstOperation carries reaches gives isAccess
     wordOf accessesOf flat keep everyAccess actionFits fits fitting choicesFrom operations accepts refusesAll
-    someChoiceRefused breaks brokenMask userAnswer judgeCheck judgedOf judgeAnswer
+    someChoiceRefused breaks brokenMask userTests judgeTests judgeAnswer
 starred = refl

@@ -1,7 +1,7 @@
 -- The tests of Judge in document 01's order, and what it answers, whole. Document 01, "The calls". Assumes nothing.
 use Prim.Native.Nat.{ℕ}
 use mathlib.Core.List.{List, [], _∷_, _++_}
-use Rattle.book.specs.Blocks.{Book, Head, headOf, ruleCount}
+use Rattle.book.specs.Blocks.{Book, Head, headOf}
 use Rattle.book.specs.Head.{isUser}
 use Rattle.book.specs.Tests.{Test, answered}
 use Rattle.book.specs.Refusals.{bookTests}
@@ -27,4 +27,4 @@ judgeTests book user plan = bookTests book ++ userTests (headOf book) user ++ pl
 unfoldable pub judgeAnswer : (book : Book) (user : ℕ) (plan : Plan) → Judged
 judgeAnswer book user plan =
     answered (judgeTests book user plan) judged.Refused
-    (judged.Broken (brokenMask book (ruleCount book) user (accessesOf (headOf book) plan)))
+    (judged.Broken (brokenMask book user (accessesOf (headOf book) plan)))

@@ -5,28 +5,26 @@ use Prim.Native.Nat.{ℕ, _<_}
 use mathlib.Core.Path.{_≡_}
 use mathlib.Core.Logic.{_⊎_}
 use mathlib.Core.Bool.{true}
-use mathlib.Core.List.{List}
 use Rattle.book.specs.Sets.{has}
-use Rattle.book.specs.Blocks.{headOf, ruleAt}
+use Rattle.book.specs.Blocks.{Book, Head, Rule, headOf, ruleAt, ruleCount}
 use Rattle.book.specs.Rule.{coversUser, referenceCount, restrictionCount, restrictionMask}
-use Rattle.book.specs.Answers.{ruleCount}
 use Rattle.verdicts.specs.Accesses.{Access, Accesses, fits}
 
 -- "v satisfies res iff for any i [..], either res[i] = ∅ or v[i] ∈ res[i]": res is restriction j of the rule
-abbrev pub SatisfiesRestriction : (rule : List ℕ) (vector : ℕ → ℕ) (j : ℕ) → Type 0
+abbrev pub SatisfiesRestriction : (rule : Rule) (vector : ℕ → ℕ) (j : ℕ) → Type 0
 SatisfiesRestriction rule vector j =
     (i : ℕ)
     → i < referenceCount rule
     → (restrictionMask rule j i ≡ 0) ⊎ (has (restrictionMask rule j i) (vector i) ≡ true)
 
 -- "∃ (a, d, op) ∈ (r.D[i], r.A[i]) ∩ D_q", of this operation
-pub record Met (head rule : List ℕ) (query : Accesses) (i operation : ℕ) : Type 0 where
+pub record Met (head : Head) (rule : Rule) (query : Accesses) (i operation : ℕ) : Type 0 where
   pub access : Access
   pub asked : query access ≡ true
   pub meant : fits head rule i access ≡ true
   pub operates : access .operation ≡ operation
 
-module _ (head rule : List ℕ) (user : ℕ) (query : Accesses) where
+module _ (head : Head) (rule : Rule) (user : ℕ) (query : Accesses) where
   -- "a rule r is applicable to q": the user is in r.U, and the query meets every reference
   pub record Applicable : Type 0 where
     pub covered : coversUser head rule user ≡ true
@@ -43,6 +41,6 @@ module _ (head rule : List ℕ) (user : ℕ) (query : Accesses) where
       → (j : ℕ) × (j < restrictionCount rule) × SatisfiesRestriction rule vector j))
 
 -- "q satisfies all rules in p"
-abbrev pub SatisfiesPolicy : (book : List ℕ) (user : ℕ) (query : Accesses) → Type 0
+abbrev pub SatisfiesPolicy : (book : Book) (user : ℕ) (query : Accesses) → Type 0
 SatisfiesPolicy book user query =
     (r : ℕ) → r < ruleCount book → SatisfiesRule (headOf book) (ruleAt book r) user query

@@ -7,6 +7,7 @@ use book::fields::restriction_mask;
 use book::rules::leaf_set;
 use book::sets::contains;
 use book::sets::single;
+use book::sets::word_if;
 ghost use mathlib.Core.Path.{_≡_};
 ghost use mathlib.Core.Bool.{_&&_, cond};
 ghost use Prim.Native.Nat.{ℕ, _<_};
@@ -15,16 +16,6 @@ ghost use Rattle.book.specs.Sets.{has};
 ghost use Rattle.book.specs.Rule.{restrictionCount};
 ghost use Rattle.verdicts.specs.Accesses.{actionFits, heldBy};
 ghost use Rattle.verdicts.specs.Inner.Words.{Beside, HeldWord, maskTakes, OfferedIfSound, RefusedIfSound};
-
-// A word, or the empty one.
-pub fn word_if(wanted: bool, word: u64) -> u64
-    ensures { λ r. ⌜ r ≡ cond wanted word 0 ⌝ }
-{
-    if wanted {
-        return word;
-    }
-    0
-}
 
 pub fn action_fits(action: usize, channel: usize) -> bool
     ensures { λ r. ⌜ r ≡ actionFits action channel ⌝ }

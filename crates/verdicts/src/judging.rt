@@ -1,41 +1,31 @@
 // Judge: the refusals in their order, then the mask of the rules that a user and a plan break. For
-// the crates above, the same mask for a set of accesses, and the number of rules.
+// the crates above, the same mask for a set of accesses.
 use crate::Judged;
 use crate::NO_USER;
 use crate::breaking::breaks;
-use crate::breaking::word_if;
-use book::Checked;
 use book::Hierarchy;
-use book::bytes::less;
+use book::Tested;
 use book::categories::leaves;
-use book::check;
-use book::checking::or_else;
-use book::checking::refused;
+use book::checking::test_book;
 use book::fields::head_of;
 use book::fields::rule_at;
+use book::fields::rule_count;
 use book::rules::covered_users;
 use book::sets::contains;
 use book::sets::single;
+use book::sets::word_if;
+use book::testing::or_else;
+use book::testing::test;
 use lineage::accesses::accesses;
-use lineage::rows::plan_check;
+use lineage::rows::test_plan;
 ghost use mathlib.Core.Path.{_≡_};
 ghost use Prim.Native.Nat.{_≤_};
-ghost use Rattle.book.specs.Answers.{ruleCount};
 ghost use Rattle.book.specs.Head.{userCount};
+ghost use Rattle.book.specs.Tests.{firstFailing};
 ghost use Rattle.verdicts.specs.Accesses.{heldBy};
-ghost use Rattle.verdicts.specs.Answers.{judgeAnswer, judgeCheck, userAnswer};
+ghost use Rattle.verdicts.specs.Answers.{judgeAnswer, judgeTests, userTests};
+ghost use Rattle.verdicts.specs.Demand.{JudgeAccepted, Judges};
 ghost use Rattle.verdicts.specs.Inner.Masks.{BrokenIfAccepted, BrokenIfSound, JudgedIfAccepted};
-
-// The number of rules of an accepted book.
-pub fn rule_total(book: &[u8]) -> u8
-    ensures { λ r. ⌜ (ruleCount (now (book .entry)) ≤ 32 → r ≡ ruleCount (now (book .entry))) × (r ≤ 32) ⌝ }
-{
-    let n = less(book.len() / 512, 4);
-    if 32 < n {
-        return 0;
-    }
-    n as u8
-}
 
 // Whether a user and the words break a rule.
 fn user_breaks(head: &[u8], rule: &[u8], user: u32, words: [u64; 32]) -> bool
@@ -52,7 +42,7 @@ pub fn broken_by(book: &[u8], user: u32, words: [u64; 32]) -> u32
     ensures { λ r. ⌜ BrokenIfAccepted (now (book .entry)) user (heldBy words) r ⌝ }
 {
     let head = head_of(book);
-    let n = rule_total(book);
+    let n = rule_count(book);
     let mut found = 0u64;
     for r in 0..n {
         let hit = user_breaks(head, rule_at(book, r), user, words);
@@ -65,7 +55,11 @@ fn test_user(head: &[u8], user: u32) -> Tested
     ensures { λ r. ⌜ (userCount (now (head .entry)) ≤ 64
         → r ≡ firstFailing (userTests (now (head .entry)) user)) ⌝ }
 {
-    test(NO_USER, 0, contains(leaves(head, Hierarchy::Users), user as usize))
+    test(
+        NO_USER,
+        0,
+        contains(leaves(head, Hierarchy::Users), user as usize),
+    )
 }
 
 // The tests of the book, of the user, of the plan.
@@ -86,7 +80,9 @@ fn mask_of(book: &[u8], user: u32, plan: &[u8]) -> u32
 
 // Judge: which rules the user and the plan break.
 pub fn judge(book: &[u8], user: u32, plan: &[u8]) -> Judged
-    ensures { λ r. ⌜ r ≡ judgeAnswer (now (book .entry)) user (now (plan .entry)) ⌝ }
+    ensures { λ r. ⌜ (r ≡ judgeAnswer (now (book .entry)) user (now (plan .entry)))
+        × (JudgeAccepted (now (book .entry)) user (now (plan .entry))
+        → Judges (now (book .entry)) user (now (plan .entry)) r) ⌝ }
 {
     let outcome = test_judge(book, user, plan);
     match outcome {

@@ -47,16 +47,16 @@ loop-again c =
     )
 
 returns : tie.Need-returns Inv-loop μ-loop
-returns c n accepted =
+returns c accepted =
     let l = c .before .loop in
-    let total = c .before .before .rule-total in
+    let total = c .before .before .rule-count in
     let a = c .before .before .before .before .before .args in
-    let e = total .ensures .0 (few-rules (a .book .now) n accepted) in
+    let e = total .ensures .0 (few-rules (a .book .now) accepted) in
     let sound : (i : ℕ) → i < total .result → RuleSound (headOf (a .book .now)) (ruleAt (a .book .now) i) =
     λ i small.
-    rules-sound (a .book .now) n accepted
+    rules-sound (a .book .now) accepted
     (λ j. omega (arith, c .before .before .before .before .shared-slice-known .given j)) i (rw e at small) in
-    mask-whole (a .book .now) n accepted (a .user) (heldBy (a .words)) (total .result) (l .found) e
+    mask-whole (a .book .now) accepted (a .user) (heldBy (a .words)) (total .result) (l .found) e
     (marks-end (hit (a .book .now) (a .user) (a .words)) (l .r) (total .result) (l .found) (l .inv .1 sound) (l .inv .0)
     (c .loop-test .left))
 

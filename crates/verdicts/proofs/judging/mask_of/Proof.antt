@@ -6,11 +6,11 @@ use Rattle.verdicts.proofs.judging.mask_of.Statement.{statement}
 use Rattle.verdicts.proofs.judging.mask_of.Tie as tie
 
 returns : tie.Need-returns
-returns c n m accepted plan =
+returns c both =
     let a = c .before .before .before .before .args in
     let words = c .before .accesses in
-    (rw (words .ensures n m accepted plan) at (c .broken-by .ensures n accepted))
-    ∙ mask-held (a .book .now) n accepted (a .user) (a .plan .now)
+    (rw (words .ensures both) at (c .broken-by .ensures (both .0)))
+    ∙ mask-held (a .book .now) (both .0) (a .user) (a .plan .now)
 
 pub mask-of-spec : {M : Type 1} → statement M
 mask-of-spec = tie.close (tie.spec (λ c κs. search needs) (λ c κs. search needs) returns)
