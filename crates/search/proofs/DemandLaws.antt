@@ -25,7 +25,7 @@ use Rattle.verdicts.specs.Accesses.{Accesses, accessesOf}
 use Rattle.verdicts.specs.Breaking.{breaks, brokenMask}
 use Rattle.verdicts.specs.Answers.{judgeAnswer}
 use Rattle.verdicts.specs.declared.Judged.the-variants.{Broken}
-use Rattle.verdicts.proofs.JudgeLaws.{judge-broken, judge-passes}
+use Rattle.verdicts.proofs.JudgeLaws.{judge-answer, judge-passes}
 use Rattle.verdicts.proofs.Verdict.{mask-bit}
 use Rattle.search.specs.Choices.{Candidate, candidateBefore}
 use Rattle.search.specs.Shown.{shownPlan}
@@ -44,13 +44,13 @@ pub alone-mask :
     (book : List ℕ) (r user : ℕ) (D : Accesses)
     → r < ruleCount book
     → breaksAlone book r user D ≡ true
-    → brokenMask book (ruleCount book) user D ≡ 2 ^ r
+    → brokenMask book user D ≡ 2 ^ r
 unfolding brokenMask
 alone-mask book r user D l h =
     let n = ruleCount book in
     let broken : ℕ → Bool = λ q. breaks (headOf book) (ruleAt book q) user D in
-    same-members n (brokenMask book n user D) (2 ^ r) (word-of broken n .0) (pow-lt l)
-    (λ q k. mask-bit book n user D q ∙ rw (lt-ltb q n k, has-single q r) (bit q k (eqb q r) refl))
+    same-members n (brokenMask book user D) (2 ^ r) (word-of broken n .0) (pow-lt l)
+    (λ q k. mask-bit book user D q ∙ rw (lt-ltb q n k, has-single q r) (bit q k (eqb q r) refl))
   where
     bit : (q : ℕ) → q < ruleCount book → (b : Bool) → eqb q r ≡ b → breaks (headOf book) (ruleAt book q) user D ≡ b
     bit q k true e = rw (eqb-true q r e) (alone-breaks book r user D h)
@@ -67,9 +67,9 @@ pub judged-alone :
     → judgeAnswer book user plan ≡ Broken (2 ^ r)
 unfolding planBreaksAlone
 judged-alone book accepted r user plan l u plans h =
-    sym
-    (judge-broken book user plan (2 ^ r) (judge-passes book user plan accepted u plans)
-    (sym (alone-mask book r user (accessesOf (headOf book) plan) l h)))
+    judge-answer book user plan
+    (judge-passes book user plan (record { book-accepted = accepted; a-user = u; plan-accepted = plans }))
+    ∙ ap Broken (alone-mask book r user (accessesOf (headOf book) plan) l h)
 
 -- The answer and the buffer of an accepted call
 

@@ -3,7 +3,7 @@ use Prim.Native.Nat.{ℕ, _-_}
 use mathlib.Core.Path.{_≡_, refl, _∙_}
 use mathlib.Core.List.{List, [], _∷_, _++_, map}
 use lib.ListN.{length, replicate}
-use Rattle.book.specs.Lists.{all, any, upTo, from}
+use Rattle.book.specs.Lists.{flat, all, any, upTo, from}
 use Rattle.book.specs.Sets.{has}
 use Rattle.book.specs.Hierarchies.{upwardIn, upward, under, leaf, covers, ownedBy, support}
 use Rattle.book.specs.Head.{isUser, isDataLeaf, supportOf, supports}
@@ -19,7 +19,7 @@ use Rattle.book.proofs.Vectors.{shop-passes}
 use Rattle.lineage.specs.Rows.{kindOf, kindAt}
 use Rattle.lineage.specs.Paths.{through, pathsBy, pathsIn, paths, labels, takes, firstOperation, carries}
 use Rattle.lineage.specs.Accesses.{reaches, gives, isAccess}
-use Rattle.verdicts.specs.Accesses.{accessesOf, flat, keep, everyAccess, actionFits, fits, fitting}
+use Rattle.verdicts.specs.Accesses.{accessesOf, keep, everyAccess, actionFits, fits, fitting}
 use Rattle.verdicts.specs.Breaking.{choicesFrom, operations, accepts, refusesAll, someChoiceRefused, breaks}
 use Rattle.search.specs.Obtainable.{labelled, operated, canBeHad}
 use Rattle.search.specs.Choices.{Candidate, choicesOf, candidates}

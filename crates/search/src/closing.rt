@@ -1,8 +1,8 @@
 // What breaks a rule beside two accesses, by the tables: a place stands for one reference, the two
 // given places for the others.
 use book::sets::contains;
-use lineage::reach::word_at;
-use verdicts::breaking::word_if;
+use book::sets::word_at;
+use book::sets::word_if;
 ghost use mathlib.Core.Path.{_≡_};
 ghost use mathlib.Core.Bool.{_&&_, not};
 ghost use Prim.Native.Nat.{ℕ, _+_, _*_, _%_};

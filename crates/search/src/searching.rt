@@ -8,7 +8,7 @@ use crate::places::first_from;
 use crate::places::is_empty;
 use crate::sifting::Remaining;
 use crate::sifting::sift;
-use lineage::reach::word_at;
+use book::sets::word_at;
 ghost use mathlib.Core.Path.{_≡_};
 ghost use mathlib.Core.Bool.{_&&_, not};
 ghost use Prim.Native.Nat.{_%_, _<_};

@@ -12,7 +12,7 @@ use book::rules::leaf_set;
 use book::sets::contains;
 use verdicts::breaking::action_fits;
 use verdicts::breaking::all_if_zero;
-use verdicts::breaking::word_if;
+use book::sets::word_if;
 ghost use mathlib.Core.Path.{_≡_};
 ghost use mathlib.Core.Bool.{cond};
 ghost use Prim.Native.Nat.{_+_, _*_, _/_, _≤_, _<_};

@@ -4,7 +4,7 @@ use crate::searching::Sought;
 use crate::searching::search;
 use book::sets::contains;
 use book::sets::single;
-use verdicts::breaking::word_if;
+use book::sets::word_if;
 ghost use mathlib.Core.Path.{_≡_};
 ghost use mathlib.Core.Bool.{true, _&&_};
 ghost use Prim.Native.Nat.{ℕ, _<_};

@@ -10,8 +10,8 @@ returns c =
     let checked = c .before .before .before in
     let a = checked .before .before .before .before .args in
     let refused =
-    idle-refused (a .book .now) (a .rule) (a .buffer .now) (c .before .checked .given .0 .0)
-    (sym (checked .idle-check .ensures) ∙ c .before .checked .given .1) in
+    idle-refused (a .book .now) (a .rule) (a .buffer .now) (c .before .outcome .given .0 .0)
+    (sym (checked .test-idle .ensures) ∙ c .before .outcome .given .1) in
     idle-promises (a .book .now) (a .rule) (a .buffer .now) _ _ (refused .0) (refused .1)
 
 returns-2 : tie.Need-returns-2
@@ -22,8 +22,8 @@ returns-2 c =
     let a = checked .before .before .before .before .args in
     let found =
     idle-found (a .book .now) (a .rule) (a .buffer .now) _ (shown .before .before .head-of .result .now) _
-    (told .enum-told .given .0 .0) (shown .before .before .before .needs .result)
-    (sym (checked .idle-check .ensures) ∙ told .enum-told .given .1) (shown .before .before .head-of .ensures)
+    (shown .before .before .before .needs .result)
+    (sym (checked .test-idle .ensures) ∙ told .enum-told .given .1) (shown .before .before .head-of .ensures)
     (shown .before .before .before .needs .ensures) (shown .shown .ensures) in
     idle-promises (a .book .now) (a .rule) (a .buffer .now) _ _ (found .0) (found .1)
 
