@@ -1,7 +1,7 @@
 -- Laws of Idle: its answer and the buffer on leaving by what the tests and the search say. Assumes nothing.
 use Prim.Native.Nat.{ℕ, _+_, _*_, _%_, _≤_, _<_}
 use native.Mathlib.Omega.{arith}
-use mathlib.Core.Path.{_≡_, sym, ap, _∙_}
+use mathlib.Core.Path.{_≡_, refl, sym, ap, _∙_}
 use mathlib.Core.List.{List, [], _∷_, _++_}
 use lib.ListN.{length, getD, take, drop}
 use lib.Seq.{length-take-le}
@@ -102,6 +102,15 @@ module _ (book : List ℕ) (r : ℕ) (buffer : List ℕ) where
         sym (answered-refused (idleTests book r buffer) idleness.Refused (idlenessOf (headOf book) found) x h),
         sym (answered-refused (idleTests book r buffer) (λ refusal. buffer) (written (headOf book) found buffer) x h),
       )
+
+  -- an answer that is no refusal was given to an accepted call
+  pub idle-told :
+      ((x : Refusal) → idleAnswer book r buffer ≡ idleness.Refused x → ⊥) → IdleAccepted book r buffer
+  idle-told told = go (firstFailing (idleTests book r buffer)) refl
+    where
+      go : (f : Tested) → firstFailing (idleTests book r buffer) ≡ f → IdleAccepted book r buffer
+      go tested.Passed e = idle-accepted e
+      go (tested.Refused x) e = absurd (told x (sym (idle-refused x e .0)))
 
   -- what was found, shown
   pub idle-shown :
