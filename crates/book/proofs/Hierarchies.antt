@@ -92,10 +92,6 @@ module _ (parent : ℕ → ℕ) where
   unfolding support
   support-up own c = rw (upward-up c) (owned-step own c (ltb (parent c) c) (upward parent (parent c)))
 
-  pub under-up : (c i : ℕ) → under parent c i ≡ (eqb c i || (ltb (parent i) i && under parent c (parent i)))
-  unfolding under
-  under-up c i = any-up (eqb c) i
-
   any-in-none : (f : ℕ → Bool) (c : ℕ) → any f (upwardIn 0 parent c) ≡ f c
   unfolding upwardIn any
   any-in-none f c = or-end (f c)

@@ -53,9 +53,6 @@ module _ (block : List ℕ) (full : length block ≡ 512) where
   body-length : length (take 510 block) ≡ 510
   body-length = length-take-le 510 block (omega arith)
 
-  pub sealed-length : length (sealBytes block) ≡ 512
-  sealed-length = rw (sealed, length-append) (ap (λ (n : ℕ). n + 2) body-length)
-
   -- "other bytes unchanged"
   pub sealed-same : (i : ℕ) → i < 510 → getD (sealBytes block) i 0 ≡ getD block i 0
   sealed-same i h =
