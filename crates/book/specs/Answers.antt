@@ -1,4 +1,5 @@
--- What Book check and Seal answer, whole, and a lent block's bytes on leaving. Document 01, "The calls". Assumes nothing.
+-- What Book check and Seal answer, whole, and a lent block's bytes on leaving. Document 01, "The calls".
+-- Assumes nothing.
 use Prim.Native.Nat.{ℕ, _/_, _%_}
 use mathlib.Core.List.{List, [], _∷_, _++_}
 use lib.ListN.{take}

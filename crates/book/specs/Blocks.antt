@@ -6,8 +6,8 @@ use mathlib.Core.List.{List, [], _∷_}
 use lib.ListN.{length, getD, take, drop}
 use lib.Dec.{eqb}
 
--- the bytes of a book, of its four head blocks, of one block, of a rule block; any list of numbers is one, and the tests
--- say which are accepted
+-- the bytes of a book, of its four head blocks, of one block, of a rule block: any list of numbers, and the tests say
+-- which are accepted
 abbrev pub Book : Type 0
 Book = List ℕ
 

@@ -26,6 +26,6 @@ unfoldable pub refusedOr : {A : Type 0} → Tested → (Refusal → A) → A →
 refusedOr Passed refused value = value
 refusedOr (Refused refusal) refused value = refused refusal
 
--- what a call answers, or leaves in a buffer: what it has for the first refusal, or its value where every test is passed
+-- what a call answers, or leaves in a buffer: what it has for the first refusal, or its value where every test passes
 unfoldable pub answered : {A : Type 0} → List Test → (Refusal → A) → A → A
 answered tests refused value = refusedOr (firstFailing tests) refused value

@@ -1,4 +1,5 @@
--- Breaking a rule alone, and the first choice that does. Document 01, "Idle rules", its second paragraph. Assumes nothing.
+-- Breaking a rule alone, and the first choice that does. Document 01, "Idle rules", its second paragraph.
+-- Assumes nothing.
 use Prim.Native.Nat.{ℕ}
 use mathlib.Core.Bool.{Bool, true, false, _&&_, _||_, not}
 use mathlib.Core.List.{List, [], _∷_}

@@ -34,7 +34,8 @@ pub record Candidate : Type 0 where
 
 unfoldable pub candidates : Head → Rule → List Candidate
 candidates head rule =
-    flat (λ u. map (λ c. record { user = u; choice = c }) (choicesOf head rule)) (keep (isUser head) (upTo (userCount head)))
+    flat (λ u. map (λ c. record { user = u; choice = c }) (choicesOf head rule))
+    (keep (isUser head) (upTo (userCount head)))
 
 -- "by action (projection first), leaf, operation, lower numbers first"
 unfoldable pub accessBefore : Access → Access → Bool

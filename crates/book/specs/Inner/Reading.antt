@@ -1,5 +1,5 @@
--- Both hierarchies of a book under one name, for the functions that serve both, and the words that the crates above keep.
--- No call's promise leans on this file. Assumes nothing.
+-- Both hierarchies of a book under one name, for the functions that serve both, and the words that the crates above
+-- keep. No call's promise leans on this file. Assumes nothing.
 use Prim.Native.Nat.{ℕ, _<_}
 use mathlib.Core.Bool.{_&&_}
 use mathlib.Core.List.{List}
