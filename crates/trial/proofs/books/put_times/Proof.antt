@@ -1,16 +1,21 @@
--- The book keeps its length. Assumes nothing.
+-- The slice keeps its length. Assumes nothing.
 use borrow.Author.Needs.{needs}
 use Prim.Native.Nat.{_-_}
 use mathlib.Core.Path.{_≡_}
 use lib.ListN.{length}
 use Rattle.trial.proofs.books.put_times.Statement.{statement}
 use Rattle.trial.proofs.books.put_times.Tie as tie
+use Rattle.trial.proofs.books.put_times.Reads as reads
+use Rattle.trial.proofs.books.put_times.Lts as lts
+use Rattle.std.proofs.num.wrapping_add_u32.Reads as wrapping-add-u32-reads
+use Rattle.std.proofs.num.wrapping_add_usize.Reads as wrapping-add-usize-reads
+use Rattle.trial.proofs.books.put.Reads as put-reads
 
 abbrev Inv-loop : tie.InvT-loop
-Inv-loop book₀ block offset value times i₀ book i = length book ≡ length book₀
+Inv-loop s₀ start stride first step times at₀ value₀ counter₀ s at value counter = length s ≡ length s₀
 
 abbrev μ-loop : tie.MeasureT-loop
-μ-loop book₀ block offset value times i₀ book i = times - i
+μ-loop s₀ start stride first step times at₀ value₀ counter₀ s at value counter = times - counter
 
 pub put-times-spec : {M : Type 1} → statement M
 put-times-spec =
@@ -19,11 +24,8 @@ put-times-spec =
     Inv-loop
     μ-loop
     (λ c. search needs)
-    (λ c. search needs)
-    (λ c. search needs)
-    (λ c. search needs)
-    (λ c. search needs)
-    (λ c. search needs)
+    (λ c κs. search needs)
+    (λ c κs. search needs)
     (λ c κs. search needs)
     (λ c. search needs)
     (λ c. search needs)

@@ -5,6 +5,9 @@ use mathlib.Core.Path.{_≡_}
 use lib.ListN.{length}
 use Rattle.trial.proofs.books.seal.Statement.{statement}
 use Rattle.trial.proofs.books.seal.Tie as tie
+use Rattle.trial.proofs.books.seal.Reads as reads
+use Rattle.trial.proofs.books.seal.Lts as lts
+use Rattle.book.proofs.seal.Reads as seal-reads
 
 abbrev Inv-loop : tie.InvT-loop
 Inv-loop book₀ i₀ i-end book i = (length book ≡ length book₀) × (i-end ≤ length book / 512)

@@ -1,0 +1,89 @@
+// Flows. A case has the number of words and the plan's length in bytes, where they are not 32 and
+// four a row; the plan's rows; and edits. The words are all ones before the call.
+use crate::answers::Answer;
+use crate::answers::refused;
+use crate::answers::say;
+use crate::books::build;
+use crate::numbers::Numbers;
+use crate::plans::write_rows;
+use book::bytes::part;
+use lineage::Flowed;
+
+const ONES: u64 = 0xffff_ffff_ffff_ffff;
+
+fn word_at(words: &[u64], w: usize) -> u64 {
+    if w < words.len() {
+        return words[w];
+    }
+    0
+}
+
+fn all_ones(words: &[u64]) -> bool {
+    let mut ok = true;
+    for w in 0..words.len() {
+        ok = ok & (word_at(words, w) == ONES);
+    }
+    ok
+}
+
+// With access n, where it is among the words: p for projection or c for condition, the leaf and the
+// operation. Projections come first, then all goes by leaf, then by operation.
+fn with_access(answer: Answer, words: &[u64], n: usize) -> Answer {
+    let s = n / 1024;
+    let d = n / 16 % 64;
+    let k = n % 16;
+    if (word_at(words, 16 * s + k) >> d) % 2 == 0 {
+        return answer;
+    }
+    answer
+        .either(s == 0, b" p", b" c")
+        .number(d as u64)
+        .text(b".")
+        .number(k as u64)
+}
+
+// All accesses among the first 32 words.
+fn accesses(words: &[u64]) -> Answer {
+    let mut answer = say(b"");
+    for n in 0..2048usize {
+        let next = with_access(answer, words, n);
+        answer = next;
+    }
+    if answer.is(b"") {
+        return say(b" no accesses");
+    }
+    answer
+}
+
+fn answered(flowed: Flowed, words: &[u64]) -> Answer {
+    match flowed {
+        Flowed::Done => accesses(words),
+        Flowed::Refused(r) => {
+            refused(r).either(all_ones(words), b", words unchanged", b", words changed")
+        }
+    }
+}
+
+fn flow_part(book: &[u8], plan: &[u8], words: &mut [u64], count: usize) -> Flowed {
+    if count <= words.len() {
+        return lineage::flows(book, plan, &mut words[0..count]);
+    }
+    Flowed::Done
+}
+
+pub fn tried(asked: Numbers, rows: &[u8], edits: &[u8]) -> Answer {
+    let mut space = [0u8; 3584];
+    let book: &mut [u8] = &mut space;
+    let built = build(book, b"", edits, b"");
+    let mut plan = [0u8; 1028];
+    let length = write_rows(&mut plan, rows);
+    let mut words = [ONES; 40];
+    let flowed = flow_part(
+        book,
+        part(&plan, 0, asked.or(1, length) as usize),
+        &mut words,
+        asked.or(0, 32) as usize,
+    );
+    let sound = built & (length <= 1028) & asked.within(0, 2);
+    answered(flowed, &words).if_sound(sound)
+}

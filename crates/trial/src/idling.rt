@@ -1,0 +1,84 @@
+// Idle. A case has the rule, the book's length in bytes where that is not seven blocks, and the
+// buffer's length and the byte that fills it (0 or 255) where those are not 36 and 255; edits; and
+// edits after the sealing. An answer is a refusal, or idle, or the user and the plan with the mask
+// that Judge gives for both; then whether the buffer's other bytes, and 16 bytes or more after it,
+// are kept.
+use crate::answers::Answer;
+use crate::answers::refused;
+use crate::answers::say;
+use crate::books::build;
+use crate::numbers::Numbers;
+use crate::text::same;
+use book::bytes::part;
+use search::Idleness;
+use search::idle;
+use verdicts::Judged;
+use verdicts::judge;
+
+// With a plan as text: a space and eight hexadecimal digits a row.
+fn with_rows(shown: Answer, plan: &[u8]) -> Answer {
+    let mut answer = shown;
+    for i in 0..plan.len() {
+        let next = answer.either(i % 4 == 0, b" ", b"").hex(plan[i]);
+        answer = next;
+    }
+    answer
+}
+
+fn with_mask(shown: Answer, judged: Judged) -> Answer {
+    match judged {
+        Judged::Broken(mask) => shown.text(b" judged ").number(mask as u64),
+        Judged::Refused(_) => shown.text(b" judged refused"),
+    }
+}
+
+fn needed(book: &[u8], user: u32, plan: &[u8]) -> Answer {
+    let shown = say(b" user ").number(user as u64).text(b" plan");
+    with_mask(with_rows(shown, plan), judge(book, user, plan))
+}
+
+// Whether the bytes from start on are what they were.
+fn kept(answer: Answer, buffer: &[u8], first: &[u8], start: usize) -> Answer {
+    answer.either(
+        same(part(buffer, start, 80), part(first, start, 80)),
+        b" kept",
+        b" changed",
+    )
+}
+
+fn answered(book: &[u8], found: Idleness, buffer: &[u8], first: &[u8]) -> Answer {
+    match found {
+        Idleness::Idle => kept(say(b" idle"), buffer, first, 0),
+        Idleness::Needed { user, rows } => {
+            let length = 4 * (rows as usize);
+            let shown = needed(book, user, part(buffer, 0, length));
+            kept(shown, buffer, first, length)
+        }
+        Idleness::Refused(r) => kept(refused(r), buffer, first, 0),
+    }
+}
+
+fn idle_part(book: &[u8], rule: u32, buffer: &mut [u8], length: usize) -> Idleness {
+    if length <= buffer.len() {
+        return idle(book, rule, &mut buffer[0..length]);
+    }
+    Idleness::Idle
+}
+
+fn filled(value: u32) -> [u8; 80] {
+    if value == 0 {
+        return [0u8; 80];
+    }
+    [255u8; 80]
+}
+
+pub fn tried(asked: Numbers, common: &[u8], edits: &[u8], later: &[u8]) -> Answer {
+    let mut space = [0u8; 18432];
+    let blocks: &mut [u8] = &mut space;
+    let sound = build(blocks, common, edits, later) & asked.within(1, 4);
+    let book = part(blocks, 0, asked.or(1, 3584) as usize);
+    let first = filled(asked.or(3, 255));
+    let mut buffer = first;
+    let found = idle_part(book, asked.number(0), &mut buffer, asked.or(2, 36) as usize);
+    answered(book, found, &buffer, &first).if_sound(sound)
+}
