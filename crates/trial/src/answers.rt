@@ -17,16 +17,11 @@ pub fn say(text: &[u8]) -> Answer {
     none.text(text)
 }
 
-// The number, what the place is called, and the place: a block for the book, a row for 22.
 pub fn refused(r: Refusal) -> Answer {
-    let answer = say(b" refused ").number(r.number as u64);
-    if r.number < 10 {
-        return answer.text(b" block ").number(r.place as u64);
-    }
-    if r.number == 22 {
-        return answer.text(b" row ").number(r.place as u64);
-    }
-    answer.text(b" place ").number(r.place as u64)
+    say(b" refused ")
+        .number(r.number as u64)
+        .place(r.number)
+        .number(r.place as u64)
 }
 
 impl Answer {
@@ -59,6 +54,17 @@ impl Answer {
         let mut digits = [0u8; 16];
         let count = io::hex(byte as u64, 2, &mut digits);
         self.text(&digits[..count])
+    }
+
+    // What the place of a refusal is called: a block for the book, a row for 22.
+    fn place(self, number: u32) -> Answer {
+        if number < 10 {
+            return self.text(b" block ");
+        }
+        if number == 22 {
+            return self.text(b" row ");
+        }
+        self.text(b" place ")
     }
 
     pub fn either(self, holds: bool, yes: &[u8], no: &[u8]) -> Answer {

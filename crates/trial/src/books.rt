@@ -1,59 +1,42 @@
-// Books to try: the small shop of document 01, with bytes changed. Nothing here writes past the end
-// of what it is lent.
+// Books to try: the small shop of document 01, with bytes changed.
 //
 // Edits are text: a block, an offset in it, a byte, and how many times it stands there where that is
 // not once; commas between the edits.
 use crate::numbers;
 use crate::numbers::Numbers;
+use crate::spaces::Space;
+use crate::spaces::zeros;
+use crate::text::after;
+use crate::text::before;
 use crate::text::piece;
 use crate::text::starts;
-use std::num::wrapping_add_u32;
-use std::num::wrapping_add_usize;
 
-fn put(s: &mut [u8], i: usize, value: u32) {
-    if i < s.len() {
-        s[i] = (value % 256) as u8;
-    }
-}
-
-// Writes a value at start, and so many times in all, each a stride further and a step higher.
-pub fn put_times(s: &mut [u8], start: usize, stride: usize, first: u32, step: u32, times: u32) {
-    let mut at = start;
-    let mut value = first;
-    for _ in 0..times {
-        put(s, at, value);
-        at = wrapping_add_usize(at, stride);
-        value = wrapping_add_u32(value, step);
-    }
-}
-
-// Makes one edit, and says whether it is one; where nothing is written nothing is changed.
-fn change(book: &mut [u8], edit: Numbers) -> bool {
+// Makes one edit; where nothing is written nothing is changed.
+fn change(book: Space, edit: Numbers) -> Space {
     if edit.within(0, 0) {
-        return true;
+        return book;
     }
     if !edit.within(3, 4) {
-        return false;
+        return book.malformed();
     }
     let start = 512 * (edit.number(0) as usize) + edit.number(1) as usize;
-    put_times(book, start, 1, edit.number(2), 0, edit.or(3, 1));
-    true
+    book.put_times(start, 1, edit.number(2), 0, edit.or(3, 1))
 }
 
-fn change_at(book: &mut [u8], edits: &[u8], i: usize) -> bool {
+fn change_at(book: Space, edits: &[u8], i: usize) -> Space {
     if !starts(edits, i, b',') {
-        return true;
+        return book;
     }
     change(book, numbers::read(piece(edits, i, b',')))
 }
 
-// Makes the edits, and says whether all of them are edits.
-pub fn edit(book: &mut [u8], edits: &[u8]) -> bool {
-    let mut sound = true;
+pub fn edited(book: Space, edits: &[u8]) -> Space {
+    let mut space = book;
     for i in 0..edits.len() {
-        sound = sound & change_at(book, edits, i);
+        let next = change_at(space, edits, i);
+        space = next;
     }
-    sound
+    space
 }
 
 // Copies of block 6 into the blocks after it.
@@ -63,13 +46,17 @@ fn repeat_last_rule(book: &mut [u8]) {
     }
 }
 
-// Makes zeros the small shop, unsealed, with copies of its rule 2 up to the end of the book.
-fn shop(book: &mut [u8]) {
-    edit(
-        book,
-        b"0 0 1, 0 1 3, 1 0 2, 1 1 5, 1 8 1, 1 11 1, 1 16 6, 2 0 3, 2 1 4, 2 2 2, 2 3 3, 2 4 4, 2 5 255, 3 0 4, 3 1 3, 3 3 1, 3 4 2, 4 0 5, 4 1 2, 4 8 1, 4 16 1 2, 4 32 4, 4 33 1, 4 67 6, 5 0 5, 5 1 1, 5 8 1, 5 16 4, 5 17 3, 5 65 2, 6 0 5, 6 1 2, 6 2 1, 6 8 1, 6 16 1 2, 6 32 4, 6 33 1, 6 67 2",
-    );
-    repeat_last_rule(book);
+fn with_copies(mut book: Space) -> Space {
+    let mut bytes = book.bytes;
+    repeat_last_rule(&mut bytes);
+    book.bytes = bytes;
+    book
+}
+
+// The small shop, unsealed, with copies of its rule 2 up to the end of the space.
+fn shop() -> Space {
+    let blocks = b"0 0 1, 0 1 3, 1 0 2, 1 1 5, 1 8 1, 1 11 1, 1 16 6, 2 0 3, 2 1 4, 2 2 2, 2 3 3, 2 4 4, 2 5 255, 3 0 4, 3 1 3, 3 3 1, 3 4 2, 4 0 5, 4 1 2, 4 8 1, 4 16 1 2, 4 32 4, 4 33 1, 4 67 6, 5 0 5, 5 1 1, 5 8 1, 5 16 4, 5 17 3, 5 65 2, 6 0 5, 6 1 2, 6 2 1, 6 8 1, 6 16 1 2, 6 32 4, 6 33 1, 6 67 2";
+    with_copies(edited(zeros(), blocks))
 }
 
 // Seals every block of a book.
@@ -80,11 +67,16 @@ fn seal(book: &mut [u8]) {
     }
 }
 
-// Makes zeros the small shop with the edits of a table and those of a case, sealed, with some edits
-// more after that. Says whether all are edits.
-pub fn build(book: &mut [u8], common: &[u8], edits: &[u8], later: &[u8]) -> bool {
-    shop(book);
-    let sound = edit(book, common) & edit(book, edits);
-    seal(book);
-    edit(book, later) & sound
+fn sealed(mut book: Space) -> Space {
+    let mut bytes = book.bytes;
+    seal(&mut bytes);
+    book.bytes = bytes;
+    book
+}
+
+// The small shop with the edits of a table and those of a case, sealed, and with those that stand
+// after a bar, made after that.
+pub fn build(common: &[u8], edits: &[u8]) -> Space {
+    let book = sealed(edited(edited(shop(), common), before(edits, b'|')));
+    edited(book, after(edits, b'|'))
 }

@@ -2,11 +2,15 @@
 // has edits for every case below it, up to the next such line. What stands before = in a case is a
 // label and what is tried, with bars between the parts; what stands after it is the answer expected.
 use crate::answers::Answer;
+use crate::answers::say;
+use crate::books::build;
 use crate::checking;
 use crate::flowing;
 use crate::idling;
 use crate::judging;
 use crate::numbers;
+use crate::numbers::Numbers;
+use crate::plans::plan_of;
 use crate::reading;
 use crate::sealing;
 use crate::text::after;
@@ -14,6 +18,7 @@ use crate::text::before;
 use crate::text::piece;
 use crate::text::starts;
 use book::bytes::byte_at;
+use book::bytes::part;
 use libc::STDOUT_FILENO;
 use std::num::wrapping_add_u64;
 
@@ -41,18 +46,68 @@ fn print_number(n: u64) {
     io::print_decimal(STDOUT_FILENO, n);
 }
 
+// Whether a case of the call may have so many numbers.
+fn may_ask(call: Call, asked: Numbers) -> bool {
+    match call {
+        Call::Check => asked.within(0, 1),
+        Call::Seal => asked.within(1, 1),
+        Call::Flows => asked.within(0, 2),
+        Call::Judge => asked.within(1, 3),
+        Call::Idle => asked.within(1, 4),
+        Call::Readers => asked.within(1, 4),
+    }
+}
+
+fn takes_plan(call: Call) -> bool {
+    match call {
+        Call::Flows => true,
+        Call::Judge => true,
+        _ => false,
+    }
+}
+
+fn rows_of(call: Call, texts: &[u8]) -> &[u8] {
+    if takes_plan(call) {
+        return before(texts, b'|');
+    }
+    part(texts, 0, 0)
+}
+
+// The edits and, after a bar, those after the sealing.
+fn edits_of(call: Call, texts: &[u8]) -> &[u8] {
+    if takes_plan(call) {
+        return after(texts, b'|');
+    }
+    texts
+}
+
+fn answered(call: Call, asked: Numbers, book: &[u8], plan: &[u8]) -> Answer {
+    match call {
+        Call::Check => checking::answered(asked, book),
+        Call::Flows => flowing::answered(asked, book, plan),
+        Call::Judge => judging::answered(asked, book, plan),
+        Call::Idle => idling::answered(asked, book),
+        _ => reading::answered(asked, book),
+    }
+}
+
+fn built(call: Call, asked: Numbers, common: &[u8], texts: &[u8]) -> Answer {
+    let book = build(common, edits_of(call, texts));
+    let plan = plan_of(rows_of(call, texts));
+    let blocks = book.bytes;
+    let rows = plan.bytes;
+    answered(call, asked, &blocks, part(&rows, 0, plan.length)).if_sound(book.sound & plan.sound)
+}
+
 fn tried(call: Call, common: &[u8], parts: &[u8]) -> Answer {
     let asked = numbers::read(before(parts, b'|'));
     let texts = after(parts, b'|');
-    let first = before(texts, b'|');
-    let second = after(texts, b'|');
+    if !may_ask(call, asked) {
+        return say(b" malformed");
+    }
     match call {
-        Call::Check => checking::tried(asked, first, second),
-        Call::Seal => sealing::tried(asked, texts),
-        Call::Flows => flowing::tried(asked, first, second),
-        Call::Judge => judging::tried(asked, first, common, second),
-        Call::Idle => idling::tried(asked, common, first, second),
-        Call::Readers => reading::tried(asked, common, texts),
+        Call::Seal => sealing::answered(asked, texts),
+        _ => built(call, asked, common, texts),
     }
 }
 
@@ -105,7 +160,7 @@ fn line_at(tally: Tally, call: Call, file: &[u8], i: usize) -> Tally {
     counted(tally, holds(call, common, line))
 }
 
-fn try_cases(call: Call, file: &[u8]) {
+fn tally_of(call: Call, file: &[u8]) -> Tally {
     let mut tally = Tally {
         cases: 0,
         right: 0,
@@ -115,6 +170,10 @@ fn try_cases(call: Call, file: &[u8]) {
         let next = line_at(tally, call, file, i);
         tally = next;
     }
+    tally
+}
+
+fn print_tally(tally: Tally) {
     print_number(tally.cases);
     print(b" cases, ");
     print_number(tally.right);
@@ -130,7 +189,8 @@ pub fn try_file(call: Call, name: &[u8]) {
     print(name);
     if 65535 < n {
         print(b": too long\n");
+        return;
     }
     print(b": ");
-    try_cases(call, &room[..n]);
+    print_tally(tally_of(call, &room[..n]));
 }

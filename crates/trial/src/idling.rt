@@ -1,12 +1,10 @@
 // Idle. A case has the rule, the book's length in bytes where that is not seven blocks, and the
-// buffer's length and the byte that fills it (0 or 255) where those are not 36 and 255; edits; and
-// edits after the sealing. An answer is a refusal, or idle, or the user and the plan with the mask
-// that Judge gives for both; then whether the buffer's other bytes, and 16 bytes or more after it,
-// are kept.
+// buffer's length and the byte that fills it (0 or 255) where those are not 36 and 255. An answer is a
+// refusal, or idle, or the user and the plan with the mask that Judge gives for both; then whether
+// the buffer's other bytes, and 16 bytes or more after it, are kept.
 use crate::answers::Answer;
 use crate::answers::refused;
 use crate::answers::say;
-use crate::books::build;
 use crate::numbers::Numbers;
 use crate::text::same;
 use book::bytes::part;
@@ -46,7 +44,7 @@ fn kept(answer: Answer, buffer: &[u8], first: &[u8], start: usize) -> Answer {
     )
 }
 
-fn answered(book: &[u8], found: Idleness, buffer: &[u8], first: &[u8]) -> Answer {
+fn said(book: &[u8], found: Idleness, buffer: &[u8], first: &[u8]) -> Answer {
     match found {
         Idleness::Idle => kept(say(b" idle"), buffer, first, 0),
         Idleness::Needed { user, rows } => {
@@ -65,20 +63,22 @@ fn idle_part(book: &[u8], rule: u32, buffer: &mut [u8], length: usize) -> Idlene
     Idleness::Idle
 }
 
-fn filled(value: u32) -> [u8; 80] {
-    if value == 0 {
-        return [0u8; 80];
-    }
-    [255u8; 80]
+fn buffered(asked: Numbers, book: &[u8], first: [u8; 80]) -> Answer {
+    let mut buffer = first;
+    let found = idle_part(
+        book,
+        asked.number(0),
+        &mut buffer,
+        asked.or(2, 36) as usize,
+    );
+    said(book, found, &buffer, &first)
 }
 
-pub fn tried(asked: Numbers, common: &[u8], edits: &[u8], later: &[u8]) -> Answer {
-    let mut space = [0u8; 18432];
-    let blocks: &mut [u8] = &mut space;
-    let sound = build(blocks, common, edits, later) & asked.within(1, 4);
-    let book = part(blocks, 0, asked.or(1, 3584) as usize);
-    let first = filled(asked.or(3, 255));
-    let mut buffer = first;
-    let found = idle_part(book, asked.number(0), &mut buffer, asked.or(2, 36) as usize);
-    answered(book, found, &buffer, &first).if_sound(sound)
+pub fn answered(asked: Numbers, book: &[u8]) -> Answer {
+    let fill = (asked.or(3, 255) % 256) as u8;
+    buffered(
+        asked,
+        part(book, 0, asked.or(1, 3584) as usize),
+        [fill; 80],
+    )
 }

@@ -12,6 +12,7 @@ mod numbers; // reading numbers
 mod plans; // building plans to try
 mod reading; // what the crates above read in a book
 mod sealing; // Seal
+mod spaces; // bytes to build in
 mod text; // parts of a text
 
 use cases::Call;

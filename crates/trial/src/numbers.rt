@@ -1,11 +1,9 @@
 // Decimal numbers in a text: at most four, with spaces between them.
-use std::num::wrapping_sub_usize;
-
 pub struct Numbers {
     values: [u32; 4],
     // How many there are; 5 where something else stands there.
     count: usize,
-    // Whether the last byte read is a digit of the last number.
+    // Whether one more is being read.
     open: bool,
 }
 
@@ -17,42 +15,41 @@ fn malformed() -> Numbers {
     }
 }
 
-// A number with one digit more, and room for it.
+// A number with one digit more, which may be too large.
 fn longer(value: u32, digit: u8) -> u64 {
     10 * (value as u64) + digit as u64
 }
 
 impl Numbers {
-    // Where a digit starts a number, there is one more.
-    fn begun(mut self) -> Numbers {
-        if self.open {
-            return self;
+    fn with_digit(mut self, digit: u8) -> Numbers {
+        let at = self.count;
+        if 3 < at {
+            return malformed();
         }
+        let value = longer(self.values[at], digit);
+        if 4294967295 < value {
+            return malformed();
+        }
+        self.values[at] = value as u32;
         self.open = true;
-        if self.count < 5 {
-            self.count = self.count + 1;
+        self
+    }
+
+    // What is being read ends.
+    fn closed(mut self) -> Numbers {
+        let at = self.count;
+        if self.open {
+            if at < 4 {
+                self.count = at + 1;
+                self.open = false;
+            }
         }
         self
     }
 
-    fn with_digit(self, digit: u8) -> Numbers {
-        let mut next = self.begun();
-        let at = wrapping_sub_usize(next.count, 1);
-        if 3 < at {
-            return malformed();
-        }
-        let value = longer(next.values[at], digit);
-        if 4294967295 < value {
-            return malformed();
-        }
-        next.values[at] = value as u32;
-        next
-    }
-
-    fn with_byte(mut self, byte: u8) -> Numbers {
+    fn with_byte(self, byte: u8) -> Numbers {
         if byte == b' ' {
-            self.open = false;
-            return self;
+            return self.closed();
         }
         if byte < b'0' {
             return malformed();
@@ -85,15 +82,19 @@ impl Numbers {
     }
 }
 
-pub fn read(s: &[u8]) -> Numbers {
-    let mut found = Numbers {
+fn none() -> Numbers {
+    Numbers {
         values: [0u32; 4],
         count: 0,
         open: false,
-    };
+    }
+}
+
+pub fn read(s: &[u8]) -> Numbers {
+    let mut found = none();
     for i in 0..s.len() {
         let next = found.with_byte(s[i]);
         found = next;
     }
-    found
+    found.closed()
 }

@@ -1,62 +1,55 @@
-// Plans to try. Nothing here writes past the end of what it is lent.
+// Plans to try.
 //
 // Rows are text: the kind, a, b and c, and commas between the rows. Where a row stands more than
 // once, a star follows, then how many times, and what each row adds to a, b and c of the one before.
-use crate::books::put_times;
 use crate::numbers;
 use crate::numbers::Numbers;
+use crate::spaces::Space;
+use crate::spaces::zeros;
 use crate::text::after;
 use crate::text::before;
 use crate::text::piece;
 use crate::text::starts;
-use std::num::wrapping_add_u32;
+use std::num::wrapping_add_usize;
 
-// More bytes than any plan here has.
-const MALFORMED: u32 = 1000000;
-
-// Writes a row at the front of the plan, and those that repeat it after it.
-fn put_rows(plan: &mut [u8], row: Numbers, more: Numbers, times: u32) {
-    put_times(plan, 0, 4, row.number(0), 0, times);
-    put_times(plan, 1, 4, row.number(1), more.number(1), times);
-    put_times(plan, 2, 4, row.number(2), more.number(2), times);
-    put_times(plan, 3, 4, row.number(3), more.number(3), times);
+// Writes byte k of a row and of those that repeat it.
+fn with_bytes(plan: Space, k: usize, row: Numbers, step: u32, times: u32) -> Space {
+    let start = wrapping_add_usize(plan.length, k);
+    plan.put_times(start, 4, row.number(k), step, times)
 }
 
-// Writes what stands between two commas after the first at bytes. Returns how many bytes there are.
-fn rows_from(plan: &mut [u8], at: u32, rows: &[u8]) -> u32 {
+fn with_rows(plan: Space, row: Numbers, more: Numbers, times: u32) -> Space {
+    let kinds = with_bytes(plan, 0, row, 0, times);
+    let firsts = with_bytes(kinds, 1, row, more.number(1), times);
+    let seconds = with_bytes(firsts, 2, row, more.number(2), times);
+    with_bytes(seconds, 3, row, more.number(3), times).longer(4 * (times as usize))
+}
+
+// Writes what stands between two commas; where nothing is written there is no row.
+fn with_text(plan: Space, rows: &[u8]) -> Space {
     let row = numbers::read(before(rows, b'*'));
     let more = numbers::read(after(rows, b'*'));
     if row.within(0, 0) & more.within(0, 0) {
-        return at;
+        return plan;
     }
-    if !(row.within(4, 4) & more.within(0, 4)) {
-        return MALFORMED;
+    if row.within(4, 4) & more.within(0, 4) {
+        return with_rows(plan, row, more, more.or(0, 1));
     }
-    let start = at as usize;
-    let times = more.or(0, 1);
-    if plan.len() < start {
-        return MALFORMED;
-    }
-    if 1000 < times {
-        return MALFORMED;
-    }
-    put_rows(&mut plan[start..], row, more, times);
-    wrapping_add_u32(at, 4 * times)
+    plan.malformed()
 }
 
-fn rows_at(plan: &mut [u8], at: u32, text: &[u8], i: usize) -> u32 {
+fn with_text_at(plan: Space, text: &[u8], i: usize) -> Space {
     if !starts(text, i, b',') {
-        return at;
+        return plan;
     }
-    rows_from(plan, at, piece(text, i, b','))
+    with_text(plan, piece(text, i, b','))
 }
 
-// Writes the rows from the front of the plan. Returns how many bytes they are; more than the plan
-// has room for where they are no rows.
-pub fn write_rows(plan: &mut [u8], text: &[u8]) -> u32 {
-    let mut at = 0u32;
+pub fn plan_of(text: &[u8]) -> Space {
+    let mut plan = zeros();
     for i in 0..text.len() {
-        at = rows_at(plan, at, text, i);
+        let next = with_text_at(plan, text, i);
+        plan = next;
     }
-    at
+    plan
 }

@@ -4,13 +4,16 @@
 use crate::answers::Answer;
 use crate::answers::refused;
 use crate::answers::say;
-use crate::books::edit;
+use crate::books::edited;
 use crate::numbers::Numbers;
+use crate::spaces::zeros;
 use crate::text::same;
 use book::Checked;
 use book::Sealed;
 use book::bytes::byte_at;
 use book::bytes::part;
+use book::check;
+use book::seal;
 
 fn check_holds(checked: Checked) -> bool {
     match checked {
@@ -19,19 +22,28 @@ fn check_holds(checked: Checked) -> bool {
     }
 }
 
+// Whether all is as it was but for the bytes of the check.
+fn others_kept(space: &[u8], first: &[u8]) -> bool {
+    let low = same(part(space, 0, 510), part(first, 0, 510));
+    low & same(part(space, 512, 18944), part(first, 512, 18944))
+}
+
+fn done(space: &[u8], first: &[u8]) -> Answer {
+    let stored = 256 * byte_at(space, 510) + byte_at(space, 511);
+    say(b" done, check ")
+        .number(stored as u64)
+        .either(check_holds(check(part(space, 0, 2048))), b" holds", b" fails")
+        .either(
+            others_kept(space, first),
+            b", other bytes unchanged",
+            b", other bytes changed",
+        )
+}
+
 // What Seal answered, and what became of the space's other bytes.
-fn answered(sealed: Sealed, space: &[u8], first: &[u8]) -> Answer {
+fn said(sealed: Sealed, space: &[u8], first: &[u8]) -> Answer {
     match sealed {
-        Sealed::Done => say(b" done, check ").number(
-                (256 * byte_at(space, 510) + byte_at(space, 511)) as u64,
-            )
-            .either(check_holds(book::check(space)), b" holds", b" fails")
-            .either(
-                same(part(space, 0, 510), part(first, 0, 510))
-                    & same(part(space, 512, 2048), part(first, 512, 2048)),
-                b", other bytes unchanged",
-                b", other bytes changed",
-            ),
+        Sealed::Done => done(space, first),
         Sealed::Refused(r) => {
             refused(r).either(same(space, first), b", unchanged", b", changed")
         }
@@ -40,24 +52,31 @@ fn answered(sealed: Sealed, space: &[u8], first: &[u8]) -> Answer {
 
 fn seal_part(space: &mut [u8], length: usize) -> Sealed {
     if length <= space.len() {
-        return book::seal(&mut space[0..length]);
+        return seal(&mut space[0..length]);
     }
     Sealed::Done
 }
 
-pub fn tried(asked: Numbers, edits: &[u8]) -> Answer {
-    let mut space = [0u8; 2048];
-    let sound = edit(&mut space, edits) & asked.within(1, 1);
-    let first = space;
-    let length = asked.or(0, 0) as usize;
+// The space with its first bytes sealed.
+fn sealed_space(space: [u8; 18944], length: usize) -> [u8; 18944] {
+    let mut next = space;
+    seal_part(&mut next, length);
+    next
+}
+
+fn sealed_twice(first: [u8; 18944], length: usize) -> Answer {
+    let mut space = first;
     let sealed = seal_part(&mut space, length);
-    let once = space;
-    seal_part(&mut space, length);
-    answered(sealed, &once, &first)
-        .either(
-            same(&once, &space),
-            b", the same when sealed again",
-            b", not the same when sealed again",
-        )
-        .if_sound(sound)
+    let again = sealed_space(space, length);
+    said(sealed, &space, &first).either(
+        same(&again, &space),
+        b", the same when sealed again",
+        b", not the same when sealed again",
+    )
+}
+
+pub fn answered(asked: Numbers, edits: &[u8]) -> Answer {
+    let space = edited(zeros(), edits);
+    let bytes = space.bytes;
+    sealed_twice(bytes, asked.number(0) as usize).if_sound(space.sound)
 }

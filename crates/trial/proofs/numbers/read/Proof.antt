@@ -6,7 +6,9 @@ use Rattle.trial.proofs.numbers.read.Statement.{statement}
 use Rattle.trial.proofs.numbers.read.Tie as tie
 use Rattle.trial.proofs.numbers.read.Reads as reads
 use Rattle.trial.proofs.numbers.read.Lts as lts
+use Rattle.trial.proofs.numbers.Numbers.closed.Reads as closed-reads
 use Rattle.trial.proofs.numbers.Numbers.with_byte.Reads as with-byte-reads
+use Rattle.trial.proofs.numbers.none.Reads as none-reads
 
 abbrev Inv-loop : tie.InvT-loop
 Inv-loop s found₀ i₀ i-end found i = i-end ≤ length s
@@ -20,10 +22,12 @@ read-spec =
     (tie.spec
     Inv-loop
     μ-loop
+    (λ c κs. search needs)
     (λ c. search needs)
     (λ c. search needs)
     (λ c κs. search needs)
     (λ c. search needs)
     (λ c. search needs)
     (λ c. search needs)
+    (λ c κs. search needs)
     (λ c. search needs))
