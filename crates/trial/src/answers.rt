@@ -5,21 +5,20 @@ use book::bytes::part;
 use libc::STDOUT_FILENO;
 
 pub struct Answer {
-    bytes: [u8; 256],
+    bytes: [u8; 512],
     length: usize,
 }
 
 pub fn say(text: &[u8]) -> Answer {
     let none = Answer {
-        bytes: [0u8; 256],
+        bytes: [0u8; 512],
         length: 0,
     };
     none.text(text)
 }
 
 pub fn refused(r: Refusal) -> Answer {
-    say(b" refused ")
-        .number(r.number as u64)
+    say(b" refused ").number(r.number as u64)
         .place(r.number)
         .number(r.place as u64)
 }
@@ -27,7 +26,7 @@ pub fn refused(r: Refusal) -> Answer {
 impl Answer {
     fn byte(mut self, byte: u8) -> Answer {
         let at = self.length;
-        if at < 256 {
+        if at < 512 {
             self.bytes[at] = byte;
             self.length = at + 1;
         }
@@ -86,7 +85,7 @@ impl Answer {
     pub fn is(self, text: &[u8]) -> bool {
         let bytes = self.bytes;
         let length = self.length;
-        (length < 256) & same(part(&bytes, 0, length), text)
+        (length < 512) & same(part(&bytes, 0, length), text)
     }
 
     pub fn print(self) {

@@ -19,7 +19,6 @@ use crate::text::piece;
 use crate::text::starts;
 use book::bytes::byte_at;
 use book::bytes::part;
-use libc::STDOUT_FILENO;
 use std::num::wrapping_add_u64;
 
 pub enum Call {
@@ -38,14 +37,6 @@ struct Tally {
     common: usize,
 }
 
-fn print(bytes: &[u8]) {
-    io::write_all(STDOUT_FILENO, bytes);
-}
-
-fn print_number(n: u64) {
-    io::print_decimal(STDOUT_FILENO, n);
-}
-
 // Whether a case of the call may have so many numbers.
 fn may_ask(call: Call, asked: Numbers) -> bool {
     match call {
@@ -58,29 +49,6 @@ fn may_ask(call: Call, asked: Numbers) -> bool {
     }
 }
 
-fn takes_plan(call: Call) -> bool {
-    match call {
-        Call::Flows => true,
-        Call::Judge => true,
-        _ => false,
-    }
-}
-
-fn rows_of(call: Call, texts: &[u8]) -> &[u8] {
-    if takes_plan(call) {
-        return before(texts, b'|');
-    }
-    part(texts, 0, 0)
-}
-
-// The edits and, after a bar, those after the sealing.
-fn edits_of(call: Call, texts: &[u8]) -> &[u8] {
-    if takes_plan(call) {
-        return after(texts, b'|');
-    }
-    texts
-}
-
 fn answered(call: Call, asked: Numbers, book: &[u8], plan: &[u8]) -> Answer {
     match call {
         Call::Check => checking::answered(asked, book),
@@ -91,14 +59,15 @@ fn answered(call: Call, asked: Numbers, book: &[u8], plan: &[u8]) -> Answer {
     }
 }
 
-fn built(call: Call, asked: Numbers, common: &[u8], texts: &[u8]) -> Answer {
-    let book = build(common, edits_of(call, texts));
-    let plan = plan_of(rows_of(call, texts));
+fn built(call: Call, asked: Numbers, rows: &[u8], common: &[u8], edits: &[u8]) -> Answer {
+    let book = build(common, edits);
+    let plan = plan_of(rows);
     let blocks = book.bytes;
-    let rows = plan.bytes;
-    answered(call, asked, &blocks, part(&rows, 0, plan.length)).if_sound(book.sound & plan.sound)
+    let bytes = plan.bytes;
+    answered(call, asked, &blocks, part(&bytes, 0, plan.length)).if_sound(book.sound & plan.sound)
 }
 
+// The rows of a plan stand before the edits.
 fn tried(call: Call, common: &[u8], parts: &[u8]) -> Answer {
     let asked = numbers::read(before(parts, b'|'));
     let texts = after(parts, b'|');
@@ -107,17 +76,18 @@ fn tried(call: Call, common: &[u8], parts: &[u8]) -> Answer {
     }
     match call {
         Call::Seal => sealing::answered(asked, texts),
-        _ => built(call, asked, common, texts),
+        Call::Flows => built(call, asked, before(texts, b'|'), common, after(texts, b'|')),
+        Call::Judge => built(call, asked, before(texts, b'|'), common, after(texts, b'|')),
+        _ => built(call, asked, b"", common, texts),
     }
 }
 
 fn report(label: &[u8], expected: &[u8], answer: Answer) {
-    print(label);
-    print(b"- expected");
-    print(expected);
-    print(b", answered");
-    answer.print();
-    print(b"\n");
+    say(label).text(b"- expected")
+        .text(expected)
+        .text(b", answered")
+        .print();
+    answer.text(b"\n").print();
 }
 
 // Whether the case answers what it expects.
@@ -173,11 +143,13 @@ fn tally_of(call: Call, file: &[u8]) -> Tally {
     tally
 }
 
-fn print_tally(tally: Tally) {
-    print_number(tally.cases);
-    print(b" cases, ");
-    print_number(tally.right);
-    print(b" as expected\n");
+fn print_tally(name: &[u8], tally: Tally) {
+    say(name).text(b": ")
+        .number(tally.cases)
+        .text(b" cases, ")
+        .number(tally.right)
+        .text(b" as expected\n")
+        .print();
 }
 
 // A file that fills the room may go on.
@@ -186,11 +158,9 @@ pub fn try_file(call: Call, name: &[u8]) {
     let file = os::open_read(name);
     let n = io::read_full(file, &mut room);
     libc::close(file);
-    print(name);
     if 65535 < n {
-        print(b": too long\n");
+        say(name).text(b": too long\n").print();
         return;
     }
-    print(b": ");
-    print_tally(tally_of(call, &room[..n]));
+    print_tally(name, tally_of(call, &room[..n]));
 }

@@ -10,28 +10,21 @@ use lineage::flows;
 
 const ONES: u64 = 0xffff_ffff_ffff_ffff;
 
-fn word_at(words: &[u64], w: usize) -> u64 {
-    if w < words.len() {
-        return words[w];
-    }
-    0
-}
-
-fn all_ones(words: &[u64]) -> bool {
+fn all_ones(words: [u64; 40]) -> bool {
     let mut ok = true;
-    for w in 0..words.len() {
-        ok = ok & (word_at(words, w) == ONES);
+    for w in 0..40usize {
+        ok = ok & (words[w] == ONES);
     }
     ok
 }
 
 // With access n, where it is among the words: p for projection or c for condition, the leaf and the
 // operation. Projections come first, then all goes by leaf, then by operation.
-fn with_access(answer: Answer, words: &[u64], n: usize) -> Answer {
+fn with_access(answer: Answer, words: [u64; 40], n: usize) -> Answer {
     let s = n / 1024;
     let d = n / 16 % 64;
     let k = n % 16;
-    if (word_at(words, 16 * s + k) >> d) % 2 == 0 {
+    if (words[(16 * s + k) % 40] >> d) % 2 == 0 {
         return answer;
     }
     answer
@@ -42,7 +35,7 @@ fn with_access(answer: Answer, words: &[u64], n: usize) -> Answer {
 }
 
 // All accesses among the first 32 words.
-fn accesses(words: &[u64]) -> Answer {
+fn accesses(words: [u64; 40]) -> Answer {
     let mut answer = say(b"");
     for n in 0..2048usize {
         let next = with_access(answer, words, n);
@@ -58,7 +51,7 @@ fn or_none(accesses: Answer) -> Answer {
     accesses
 }
 
-fn said(flowed: Flowed, words: &[u64]) -> Answer {
+fn said(flowed: Flowed, words: [u64; 40]) -> Answer {
     match flowed {
         Flowed::Done => or_none(accesses(words)),
         Flowed::Refused(r) => {
@@ -67,20 +60,13 @@ fn said(flowed: Flowed, words: &[u64]) -> Answer {
     }
 }
 
-fn flow_part(book: &[u8], plan: &[u8], words: &mut [u64], count: usize) -> Flowed {
-    if count <= words.len() {
-        return flows(book, plan, &mut words[0..count]);
-    }
-    Flowed::Done
-}
-
 pub fn answered(asked: Numbers, book: &[u8], plan: &[u8]) -> Answer {
+    let count = asked.or(0, 32) as usize;
+    if 40 < count {
+        return say(b" malformed");
+    }
     let mut words = [ONES; 40];
-    let flowed = flow_part(
-        part(book, 0, 3584),
-        part(plan, 0, asked.or(1, 1028) as usize),
-        &mut words,
-        asked.or(0, 32) as usize,
-    );
-    said(flowed, &words)
+    let rows = part(plan, 0, asked.or(1, 1028) as usize);
+    let flowed = flows(part(book, 0, 3584), rows, &mut words[0..count]);
+    said(flowed, words)
 }

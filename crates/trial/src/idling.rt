@@ -36,49 +36,37 @@ fn needed(book: &[u8], user: u32, plan: &[u8]) -> Answer {
 }
 
 // Whether the bytes from start on are what they were.
-fn kept(answer: Answer, buffer: &[u8], first: &[u8], start: usize) -> Answer {
+fn kept(answer: Answer, buffer: [u8; 80], first: [u8; 80], start: usize) -> Answer {
     answer.either(
-        same(part(buffer, start, 80), part(first, start, 80)),
+        same(part(&buffer, start, 80), part(&first, start, 80)),
         b" kept",
         b" changed",
     )
 }
 
-fn said(book: &[u8], found: Idleness, buffer: &[u8], first: &[u8]) -> Answer {
+fn said(book: &[u8], found: Idleness, buffer: [u8; 80], first: [u8; 80]) -> Answer {
     match found {
         Idleness::Idle => kept(say(b" idle"), buffer, first, 0),
         Idleness::Needed { user, rows } => {
             let length = 4 * (rows as usize);
-            let shown = needed(book, user, part(buffer, 0, length));
+            let shown = needed(book, user, part(&buffer, 0, length));
             kept(shown, buffer, first, length)
         }
         Idleness::Refused(r) => kept(refused(r), buffer, first, 0),
     }
 }
 
-fn idle_part(book: &[u8], rule: u32, buffer: &mut [u8], length: usize) -> Idleness {
-    if length <= buffer.len() {
-        return idle(book, rule, &mut buffer[0..length]);
+fn buffered(book: &[u8], rule: u32, length: usize, first: [u8; 80]) -> Answer {
+    if 80 < length {
+        return say(b" malformed");
     }
-    Idleness::Idle
-}
-
-fn buffered(asked: Numbers, book: &[u8], first: [u8; 80]) -> Answer {
     let mut buffer = first;
-    let found = idle_part(
-        book,
-        asked.number(0),
-        &mut buffer,
-        asked.or(2, 36) as usize,
-    );
-    said(book, found, &buffer, &first)
+    let found = idle(book, rule, &mut buffer[0..length]);
+    said(book, found, buffer, first)
 }
 
-pub fn answered(asked: Numbers, book: &[u8]) -> Answer {
+pub fn answered(asked: Numbers, blocks: &[u8]) -> Answer {
+    let book = part(blocks, 0, asked.or(1, 3584) as usize);
     let fill = (asked.or(3, 255) % 256) as u8;
-    buffered(
-        asked,
-        part(book, 0, asked.or(1, 3584) as usize),
-        [fill; 80],
-    )
+    buffered(book, asked.number(0), asked.or(2, 36) as usize, [fill; 80])
 }

@@ -7,10 +7,10 @@ pub struct Numbers {
     open: bool,
 }
 
-fn malformed() -> Numbers {
+fn zeros(count: usize) -> Numbers {
     Numbers {
         values: [0u32; 4],
-        count: 5,
+        count: count,
         open: false,
     }
 }
@@ -24,11 +24,11 @@ impl Numbers {
     fn with_digit(mut self, digit: u8) -> Numbers {
         let at = self.count;
         if 3 < at {
-            return malformed();
+            return zeros(5);
         }
         let value = longer(self.values[at], digit);
         if 4294967295 < value {
-            return malformed();
+            return zeros(5);
         }
         self.values[at] = value as u32;
         self.open = true;
@@ -52,10 +52,10 @@ impl Numbers {
             return self.closed();
         }
         if byte < b'0' {
-            return malformed();
+            return zeros(5);
         }
         if b'9' < byte {
-            return malformed();
+            return zeros(5);
         }
         self.with_digit(byte - b'0')
     }
@@ -82,16 +82,8 @@ impl Numbers {
     }
 }
 
-fn none() -> Numbers {
-    Numbers {
-        values: [0u32; 4],
-        count: 0,
-        open: false,
-    }
-}
-
 pub fn read(s: &[u8]) -> Numbers {
-    let mut found = none();
+    let mut found = zeros(0);
     for i in 0..s.len() {
         let next = found.with_byte(s[i]);
         found = next;

@@ -15,6 +15,11 @@ use book::bytes::part;
 use book::check;
 use book::seal;
 
+struct Outcome {
+    sealed: Sealed,
+    bytes: [u8; 18944],
+}
+
 fn check_holds(checked: Checked) -> bool {
     match checked {
         Checked::Accepted(_) => true,
@@ -30,9 +35,12 @@ fn others_kept(space: &[u8], first: &[u8]) -> bool {
 
 fn done(space: &[u8], first: &[u8]) -> Answer {
     let stored = 256 * byte_at(space, 510) + byte_at(space, 511);
-    say(b" done, check ")
-        .number(stored as u64)
-        .either(check_holds(check(part(space, 0, 2048))), b" holds", b" fails")
+    say(b" done, check ").number(stored as u64)
+        .either(
+            check_holds(check(part(space, 0, 2048))),
+            b" holds",
+            b" fails",
+        )
         .either(
             others_kept(space, first),
             b", other bytes unchanged",
@@ -50,26 +58,30 @@ fn said(sealed: Sealed, space: &[u8], first: &[u8]) -> Answer {
     }
 }
 
-fn seal_part(space: &mut [u8], length: usize) -> Sealed {
-    if length <= space.len() {
-        return seal(&mut space[0..length]);
+// The space with its first bytes sealed, and what Seal answered.
+fn sealed(space: [u8; 18944], length: usize) -> Outcome {
+    let mut bytes = space;
+    if 18944 < length {
+        return Outcome {
+            sealed: Sealed::Done,
+            bytes: bytes,
+        };
     }
-    Sealed::Done
-}
-
-// The space with its first bytes sealed.
-fn sealed_space(space: [u8; 18944], length: usize) -> [u8; 18944] {
-    let mut next = space;
-    seal_part(&mut next, length);
-    next
+    let sealed = seal(&mut bytes[0..length]);
+    Outcome {
+        sealed: sealed,
+        bytes: bytes,
+    }
 }
 
 fn sealed_twice(first: [u8; 18944], length: usize) -> Answer {
-    let mut space = first;
-    let sealed = seal_part(&mut space, length);
-    let again = sealed_space(space, length);
-    said(sealed, &space, &first).either(
-        same(&again, &space),
+    let once = sealed(first, length);
+    let space = once.bytes;
+    let again = sealed(space, length);
+    let twice = again.bytes;
+    let answer = once.sealed;
+    said(answer, &space, &first).either(
+        same(&twice, &space),
         b", the same when sealed again",
         b", not the same when sealed again",
     )
