@@ -4,9 +4,10 @@
 //! line repeats the checks of the book's first four blocks, so that names of another book are
 //! noticed and not shown.
 
-use crate::book::{Book, BLOCK};
+use crate::contents::Contents;
 use crate::rule::OPERATIONS;
 use crate::text::{self, mistake, Cursor, Line, Mistake, Section};
+use pspec::{Book, BLOCK};
 
 /// The names of a book's numbers.
 #[derive(Clone, Debug, Default, PartialEq, Eq)]
@@ -27,16 +28,16 @@ const HEADERS: [&str; 5] = ["users", "data", "operations", "columns", "functions
 
 impl Names {
     /// Names made of a word and the number, for a book without any.
-    pub fn numbered(book: &Book) -> Names {
+    pub fn numbered(contents: &Contents) -> Names {
         let names = |word: &str, numbers: std::ops::Range<usize>| {
             numbers.map(|i| format!("{word}{i}")).collect()
         };
         Names {
-            users: names("user", 0..book.users.len()),
-            data: names("data", 0..book.data.len()),
-            operations: names("op", 1..highest(book) + 1),
-            columns: names("column", 0..book.columns.len()),
-            functions: names("function", 0..book.functions.len()),
+            users: names("user", 0..contents.users.len()),
+            data: names("data", 0..contents.data.len()),
+            operations: names("op", 1..highest(contents) + 1),
+            columns: names("column", 0..contents.columns.len()),
+            functions: names("function", 0..contents.functions.len()),
         }
     }
 
@@ -45,9 +46,9 @@ impl Names {
         &self.operations[usize::from(k) - 1]
     }
 
-    /// The file's text, for the book with these bytes.
-    pub fn text(&self, bytes: &[u8]) -> String {
-        let mut text = format!("{}\n", checks(bytes));
+    /// The file's text, for a book.
+    pub fn text(&self, book: &Book) -> String {
+        let mut text = format!("{}\n", checks(book.bytes()));
         for (header, list) in HEADERS.iter().zip(self.lists()) {
             text += &format!("{header}\n");
             for name in list {
@@ -58,13 +59,13 @@ impl Names {
     }
 
     /// Reads the file's text, which must fit the book.
-    pub fn read(text: &str, bytes: &[u8], book: &Book) -> Result<Names, Mistake> {
+    pub fn read(text: &str, book: &Book) -> Result<Names, Mistake> {
         let lines = text::lines(text)?;
         let sections = text::sections(&lines)?;
         let end = text.lines().count().max(1);
         let mut sections = sections.into_iter();
-        fitting(sections.next(), bytes, end)?;
-        let needed = Names::numbered(book);
+        fitting(sections.next(), book.bytes(), end)?;
+        let needed = Names::numbered(&Contents::of(book));
         let mut names = Names::default();
         let kinds = HEADERS.iter().zip(needed.lists());
         for ((header, needed), list) in kinds.zip(names.lists_mut()) {
@@ -99,8 +100,12 @@ impl Names {
 }
 
 /// The highest operation of a book.
-fn highest(book: &Book) -> usize {
-    book.operations().into_iter().max().map_or(0, usize::from)
+fn highest(contents: &Contents) -> usize {
+    contents
+        .operations()
+        .into_iter()
+        .max()
+        .map_or(0, usize::from)
 }
 
 fn checks(bytes: &[u8]) -> String {
