@@ -3,6 +3,7 @@
 use crate::common::{built, numbered};
 use books::valid::{self, Size};
 use books::{plans, Draft, Random};
+use pspec::{seal, Book, BLOCK};
 use pspec_book::named::NamedBook;
 use pspec_book::names::Names;
 use pspec_book::{plan, show};
@@ -112,4 +113,35 @@ rules
     let plan = plan::read("column column\noutput\nchoose(0)\noutput 2", &named);
     let bytes = [1, 0, 0, 0, 1, 1, 0, 0, 2, 0, 0, 255, 4, 2, 0, 0];
     assert_eq!(plan.expect("it is a plan").plan.bytes(), bytes);
+}
+
+/// Names are refused for every book that differs from theirs in one byte, and for one block less.
+#[test]
+fn names_are_bound_to_every_byte() {
+    let mut refused = 0;
+    for (seed, draft) in drafts().enumerate() {
+        let named = numbered(draft.bytes());
+        let text = named.names.text(&named.book);
+        let mut random = Random::new(seed as u64);
+        for _ in 0..50 {
+            let mut bytes = named.book.bytes().to_vec();
+            let place = random.below(bytes.len());
+            bytes[place] ^= 1 << random.below(8);
+            let block = place / BLOCK * BLOCK;
+            seal(&mut bytes[block..block + BLOCK]).expect("it is a block");
+            match Book::new(bytes) {
+                Ok(other) if other != named.book => {
+                    assert!(Names::read(&text, &other).is_err());
+                    refused += 1;
+                }
+                _ => (),
+            }
+        }
+        if named.book.rule_count() > 0 {
+            let bytes = named.book.bytes();
+            let shorter = Book::new(&bytes[..bytes.len() - BLOCK]).expect("it is sound");
+            assert!(Names::read(&text, &shorter).is_err());
+        }
+    }
+    assert!(refused > 100, "{refused} changes leave a book");
 }
