@@ -1,5 +1,7 @@
 //! The engines that can be tried.
 
+#[cfg(feature = "engine")]
+use pspec::raw;
 use second::{idle, reading, Refusal};
 
 /// What Idle answers: nothing where the engine gave up, else idle (`None`) or a user and rows.
@@ -84,30 +86,28 @@ impl Engine for Proved {
         "engine"
     }
     fn check(&self, book: &[u8]) -> Result<u32, Refusal> {
-        pspec::check(book).map_err(refusal)
+        value(raw::check(book))
     }
     fn seal(&self, block: &mut [u8]) -> Result<(), Refusal> {
-        pspec::seal(block).map_err(refusal)
+        value(raw::seal(block)).map(|_| ())
     }
     fn flows(&self, book: &[u8], plan: &[u8], words: &mut [u64]) -> Result<(), Refusal> {
-        pspec::flows(book, plan, words).map_err(refusal)
+        value(raw::flows(book, plan, words)).map(|_| ())
     }
     fn judge(&self, book: &[u8], user: u32, plan: &[u8]) -> Result<u32, Refusal> {
-        pspec::judge(book, user, plan).map_err(refusal)
+        value(raw::judge(book, user, plan))
     }
     fn idle(&self, book: &[u8], rule: u32, buffer: &mut [u8]) -> Idleness {
-        let answer = pspec::idle(book, rule, buffer).map_err(refusal);
-        Some(answer.map(|idleness| match idleness {
-            pspec::Idleness::Idle => None,
-            pspec::Idleness::Needed { user, rows } => Some((user, rows)),
-        }))
+        Some(value(raw::idle(book, rule, buffer)).map(raw::shown))
     }
 }
 
 #[cfg(feature = "engine")]
-fn refusal(refusal: pspec::Refusal) -> Refusal {
-    let pspec::Refusal { number, place } = refusal;
-    Refusal { number, place }
+fn value(answer: u64) -> Result<u32, Refusal> {
+    raw::value(answer).map_err(|refusal| Refusal {
+        number: refusal.number(),
+        place: refusal.place(),
+    })
 }
 
 /// Steps after which the second implementation gives up on a search.

@@ -84,7 +84,7 @@ pub fn hex(bytes: &[u8]) -> String {
 
 fn unhex(text: &str) -> Option<Vec<u8>> {
     let digits: Option<Vec<u8>> = text.chars().map(digit).collect();
-    let digits = digits.filter(|digits| digits.len().is_multiple_of(2))?;
+    let digits = digits.filter(|digits| digits.len() % 2 == 0)?;
     Some(
         digits
             .chunks(2)

@@ -12,39 +12,37 @@ pub use without::*;
 mod with_engine {
     use super::{Duration, Range};
     use crate::clock::best;
-    use pspec::Idleness;
+    use pspec::raw;
     use std::hint::black_box;
 
     pub fn check(book: &[u8]) -> Option<Duration> {
-        Some(best(|| pspec::check(black_box(book))))
+        Some(best(|| raw::check(black_box(book))))
     }
 
     pub fn seal(block: &mut [u8]) -> Option<Duration> {
-        Some(best(|| pspec::seal(black_box(block))))
+        Some(best(|| raw::seal(black_box(block))))
     }
 
     pub fn flows(book: &[u8], plan: &[u8]) -> Option<Duration> {
-        let mut words = [0; 32];
-        Some(best(|| pspec::flows(book, black_box(plan), &mut words)))
+        let mut words = [0; raw::WORDS];
+        Some(best(|| raw::flows(book, black_box(plan), &mut words)))
     }
 
     pub fn judge(book: &[u8], user: u32, plan: &[u8]) -> Option<Duration> {
-        Some(best(|| pspec::judge(book, user, black_box(plan))))
+        Some(best(|| raw::judge(book, user, black_box(plan))))
     }
 
     pub fn idle(book: &[u8], rules: Range<u32>) -> Option<Duration> {
-        let search = |rule: u32| pspec::idle(black_box(book), rule, &mut [0; 36]);
-        Some(best(|| rules.clone().all(|rule| search(rule).is_ok())))
+        let search = |rule: u32| raw::idle(black_box(book), rule, &mut [0; raw::BUFFER]);
+        let answered = |rule: u32| raw::value(search(rule)).is_ok();
+        Some(best(|| rules.clone().all(answered)))
     }
 
     /// Does the engine say that this user is the first to need the rule, or that none does?
     pub fn agrees(book: &[u8], rule: u32, needed: Option<u32>) -> bool {
-        let user = match pspec::idle(book, rule, &mut [0; 36]) {
-            Ok(Idleness::Idle) => None,
-            Ok(Idleness::Needed { user, .. }) => Some(user),
-            Err(_) => return false,
-        };
-        user == needed
+        let answer = raw::idle(book, rule, &mut [0; raw::BUFFER]);
+        let user = raw::value(answer).map(|value| raw::shown(value).map(|(user, _)| user));
+        user == Ok(needed)
     }
 }
 

@@ -1,10 +1,12 @@
 //! The command line.
 
-use crate::book::Book;
+use crate::contents::Contents;
 use crate::hierarchy::leaves;
 use crate::judge::{self, NotJudged};
+use crate::named::NamedBook;
 use crate::names::Names;
 use crate::{policy, report, show};
+use pspec::Book;
 use std::ffi::OsString;
 use std::fs;
 use std::io::{self, ErrorKind, Write};
@@ -82,31 +84,16 @@ pub enum Fault {
     Refused(String),
 }
 
-/// A book with its names.
-struct Opened {
-    bytes: Vec<u8>,
-    book: Book,
-    names: Names,
-}
-
 /// Carries out a command, and writes its answer.
 pub fn run(arguments: &[String], out: &mut dyn Write) -> Result<Outcome, Fault> {
     let words: Vec<&str> = arguments.iter().map(String::as_str).collect();
     match words.as_slice() {
         ["build", policy, "-o", book] | ["build", "-o", book, policy] => build(policy, book, out),
         ["show", book] => {
-            let opened = open(book)?;
-            said(write!(out, "{}", show::text(&opened.book, &opened.names)))
+            let named = open(book)?;
+            said(write!(out, "{}", show::text(&named.contents, &named.names)))
         }
-        ["report", book] => {
-            let opened = open(book)?;
-            said(report::write(
-                &opened.bytes,
-                &opened.book,
-                &opened.names,
-                out,
-            ))
-        }
+        ["report", book] => said(report::write(&open(book)?, out)),
         ["judge", book, user, plan] => judge(book, user, plan, out),
         ["help" | "--help" | "-h"] => said(writeln!(out, "{USAGE}\n\n{HELP}")),
         [] => Err(Fault::Usage("found no command".to_string())),
@@ -129,13 +116,13 @@ fn build(policy: &str, book: &str, out: &mut dyn Write) -> Result<Outcome, Fault
     let text = read_text(policy)?;
     let refused = |mistake| Fault::Refused(format!("{policy}:{mistake}"));
     let made = policy::read(&text).map_err(refused)?;
-    let bytes = made.build().map_err(refused)?;
+    let built = made.build().map_err(refused)?;
     let names = names_file(book);
     kept(policy, Path::new(book))?;
     kept(policy, &names)?;
-    write_file(Path::new(book), &bytes)?;
-    write_file(&names, made.names.text(&bytes).as_bytes())?;
-    let (blocks, rules) = (bytes.len() / 512, made.book.rules.len());
+    write_file(Path::new(book), built.bytes())?;
+    write_file(&names, made.names.text(&built).as_bytes())?;
+    let (blocks, rules) = (4 + built.rule_count(), built.rule_count());
     let names = names.display();
     said(writeln!(
         out,
@@ -144,15 +131,15 @@ fn build(policy: &str, book: &str, out: &mut dyn Write) -> Result<Outcome, Fault
 }
 
 fn judge(book: &str, user: &str, plan: &str, out: &mut dyn Write) -> Result<Outcome, Fault> {
-    let Opened { bytes, book, names } = open(book)?;
+    let named = open(book)?;
     let text = read_text(plan)?;
-    let broken = judge::broken(&bytes, &book, &names, user, &text);
+    let broken = judge::broken(&named, user, &text);
     let broken = broken.map_err(|why| match why {
         NotJudged::Unknown => {
-            let leaves = leaves(&book.users, 0, &[]);
+            let leaves = leaves(&named.contents.users, 0, &[]);
             let users: Vec<&str> = leaves
                 .iter()
-                .map(|&i| &*names.users[usize::from(i)])
+                .map(|&i| &*named.names.users[usize::from(i)])
                 .collect();
             let users = users.join(", ");
             Fault::File(format!("found the user '{user}'; expected one of {users}"))
@@ -169,23 +156,23 @@ fn judge(book: &str, user: &str, plan: &str, out: &mut dyn Write) -> Result<Outc
     Ok(Outcome::Broken)
 }
 
-fn open(path: &str) -> Result<Opened, Fault> {
+fn open(path: &str) -> Result<NamedBook, Fault> {
     let bytes = fs::read(path).map_err(|why| unreadable(path, &why))?;
-    let book = Book::read(&bytes).map_err(|refusal| {
-        let rule = match refusal.place {
-            4.. => format!(" (block {} is rule {})", refusal.place, refusal.place - 4),
+    let book = Book::new(bytes).map_err(|refusal| {
+        let rule = match refusal.place() {
+            block @ 4.. => format!(" (block {block} is rule {})", block - 4),
             _ => String::new(),
         };
         Fault::Refused(format!("{path}: {refusal}{rule}"))
     })?;
     let file = names_file(path);
     let names = match fs::read_to_string(&file) {
-        Ok(text) => Names::read(&text, &bytes, &book)
+        Ok(text) => Names::read(&text, &book)
             .map_err(|mistake| Fault::File(format!("{}:{mistake}", file.display())))?,
-        Err(why) if why.kind() == ErrorKind::NotFound => Names::numbered(&book),
+        Err(why) if why.kind() == ErrorKind::NotFound => Names::numbered(&Contents::of(&book)),
         Err(why) => return Err(unreadable(&file.display().to_string(), &why)),
     };
-    Ok(Opened { bytes, book, names })
+    Ok(NamedBook::new(book, names))
 }
 
 /// The book's path with `.names` after it.

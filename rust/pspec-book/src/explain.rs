@@ -5,10 +5,10 @@
 //! stands. Refusals 1 to 5 come from no policy file, as `policy` keeps its counts and parents in
 //! bounds.
 
-use crate::book::{bits, Reference, Rule};
+use crate::contents::{bits, Reference, Rule};
 use crate::hierarchy::{children, leaves, under};
 use crate::names::Names;
-use crate::plan::Plan;
+use crate::plan::PlanText;
 use crate::policy::Policy;
 use crate::rule::operations;
 use crate::text::{mistake, Mistake};
@@ -16,22 +16,22 @@ use pspec::Refusal;
 
 /// Why the engine refuses the book of a policy, with the line at fault.
 pub fn book(refusal: Refusal, policy: &Policy) -> Mistake {
-    let block = refusal.place as usize;
+    let block = refusal.place() as usize;
     let (line, found) = match block {
         2 => column(policy),
         0..=3 => (policy.lines.sections[block + 1], None),
-        _ => rule(refusal.number, block - 4, policy),
+        _ => rule(refusal, block - 4, policy),
     };
-    let sentence = refusal.reason().sentence().to_string();
+    let sentence = refusal.sentence().to_string();
     let what = found.unwrap_or(sentence);
-    let what = format!("refused {}: {what}", refusal.number);
+    let what = format!("refused {}: {what}", refusal.number());
     mistake(line, what)
 }
 
 /// The first column whose label is no leaf.
 fn column(policy: &Policy) -> (usize, Option<String>) {
-    let (parents, names) = (policy.book.parents(), &policy.names);
-    for (i, &label) in policy.book.columns.iter().enumerate() {
+    let (parents, names) = (policy.contents.parents(), &policy.names);
+    for (i, &label) in policy.contents.columns.iter().enumerate() {
         let below = children(&parents, label);
         if !below.is_empty() {
             let (column, label) = (&names.columns[i], &names.data[usize::from(label)]);
@@ -46,25 +46,30 @@ fn column(policy: &Policy) -> (usize, Option<String>) {
     (policy.lines.sections[3], None)
 }
 
-fn rule(number: u32, r: usize, policy: &Policy) -> (usize, Option<String>) {
-    let Some(rule) = policy.book.rules.get(r) else {
+fn rule(refusal: Refusal, r: usize, policy: &Policy) -> (usize, Option<String>) {
+    let Some(rule) = policy.contents.rules.get(r) else {
         return (policy.lines.sections[5], None);
     };
-    let found = match number {
-        7 => exclusion(rule, policy),
-        8 => shared_leaf(rule, policy),
-        9 => unsupported(rule, policy),
+    let found = match refusal {
+        Refusal::RuleNumber { .. } => exclusion(rule, policy),
+        Refusal::SharedLeaf { .. } => shared_leaf(rule, policy),
+        Refusal::MaskOperation { .. } => unsupported(rule, policy),
         _ => None,
     };
     (policy.lines.rules[r], found)
 }
 
 fn exclusion(rule: &Rule, policy: &Policy) -> Option<String> {
-    let (book, names) = (&policy.book, &policy.names);
-    let user = not_below(&book.users, rule.user, &rule.excluded, &names.users);
+    let (contents, names) = (&policy.contents, &policy.names);
+    let user = not_below(&contents.users, rule.user, &rule.excluded, &names.users);
     let data = |reference: &Reference| {
         let excluded = &reference.excluded;
-        not_below(&book.parents(), reference.category, excluded, &names.data)
+        not_below(
+            &contents.parents(),
+            reference.category,
+            excluded,
+            &names.data,
+        )
     };
     user.or_else(|| rule.references.iter().find_map(data))
 }
@@ -81,7 +86,7 @@ fn not_below(parents: &[u8], of: u8, excluded: &[u8], names: &[String]) -> Optio
 
 /// The first two references with a leaf in common.
 fn shared_leaf(rule: &Rule, policy: &Policy) -> Option<String> {
-    let (parents, names) = (policy.book.parents(), &policy.names.data);
+    let (parents, names) = (policy.contents.parents(), &policy.names.data);
     let sets = rule.references.iter();
     let sets: Vec<Vec<u8>> = sets
         .map(|reference| leaves(&parents, reference.category, &reference.excluded))
@@ -105,10 +110,10 @@ fn shared_leaf(rule: &Rule, policy: &Policy) -> Option<String> {
 
 /// The first operation that the category of its reference does not support.
 fn unsupported(rule: &Rule, policy: &Policy) -> Option<String> {
-    let (book, names) = (&policy.book, &policy.names);
+    let (contents, names) = (&policy.contents, &policy.names);
     for masks in &rule.restrictions {
         for (mask, reference) in masks.iter().zip(&rule.references) {
-            let supported = book.supported(reference.category);
+            let supported = contents.supported(reference.category);
             if let Some(k) = bits(mask & !supported).next() {
                 let category = &names.data[usize::from(reference.category)];
                 let expected = match supported {
@@ -129,31 +134,35 @@ fn unsupported(rule: &Rule, policy: &Policy) -> Option<String> {
 }
 
 /// Why the engine refuses a plan, with the line at fault.
-pub fn plan(refusal: Refusal, plan: &Plan) -> Mistake {
+pub fn plan(refusal: Refusal, plan: &PlanText) -> Mistake {
     let count = plan.lines.len();
-    let (row, found) = match refusal.number {
-        21 => (64, Some(format!("found {count} rows; expected at most 64"))),
-        22 => (
-            refusal.place as usize,
-            wrong_row(plan, refusal.place as usize),
-        ),
-        _ => (0, None),
+    let row = match refusal {
+        Refusal::PlanLength => 64,
+        _ => refusal.place() as usize,
     };
-    let sentence = refusal.reason().sentence().to_string();
-    let what = format!("refused {}: {}", refusal.number, found.unwrap_or(sentence));
+    let found = match refusal {
+        Refusal::PlanLength => Some(format!("found {count} rows; expected at most 64")),
+        Refusal::FaultyRow { .. } => wrong_row(plan, row),
+        _ => None,
+    };
+    let sentence = refusal.sentence().to_string();
+    let what = format!(
+        "refused {}: {}",
+        refusal.number(),
+        found.unwrap_or(sentence)
+    );
     let line = plan.lines.get(row).or(plan.lines.last());
     mistake(line.copied().unwrap_or(1), what)
 }
 
 /// The first row named by this one that may not be.
-fn wrong_row(plan: &Plan, row: usize) -> Option<String> {
-    let rows: Vec<&[u8]> = plan.bytes.chunks_exact(4).collect();
+fn wrong_row(plan: &PlanText, row: usize) -> Option<String> {
+    let rows: Vec<[u8; 4]> = plan.plan.rows().collect();
     let named: &[u8] = match rows.get(row)? {
         [2, _, b, 255] => &[*b],
         [2, _, b, c] => &[*b, *c],
         [3, a, b, c] => &[*a, *b, *c],
         [_, a, ..] => &[*a],
-        _ => return None,
     };
     for &other in named {
         let other = usize::from(other);

@@ -1,11 +1,11 @@
 //! Which rules a user and a plan break, in the policy's names.
 
-use crate::book::Book;
 use crate::explain;
-use crate::names::Names;
+use crate::named::NamedBook;
 use crate::plan;
 use crate::rule;
 use crate::text::{place, Mistake};
+use pspec::Refusal;
 
 /// Why no judgement is given.
 pub enum NotJudged {
@@ -18,24 +18,22 @@ pub enum NotJudged {
 }
 
 /// The broken rules, one text each.
-pub fn broken(
-    bytes: &[u8],
-    book: &Book,
-    names: &Names,
-    user: &str,
-    text: &str,
-) -> Result<Vec<String>, NotJudged> {
+pub fn broken(named: &NamedBook, user: &str, text: &str) -> Result<Vec<String>, NotJudged> {
+    let NamedBook {
+        book,
+        contents,
+        names,
+    } = named;
     let number = place(&names.users, user).ok_or(NotJudged::Unknown)?;
-    let plan = plan::read(text, book, names).map_err(NotJudged::Plan)?;
-    let mask = pspec::judge(bytes, number.into(), &plan.bytes).map_err(|refusal| match refusal
-        .number
-    {
-        20 => NotJudged::NoUser(explain::no_user(number, &book.users, names)),
+    let plan = plan::read(text, named).map_err(NotJudged::Plan)?;
+    let broken = book.judge(number.into(), &plan.plan).broken();
+    let broken = broken.map_err(|refusal| match refusal {
+        Refusal::NoUser => NotJudged::NoUser(explain::no_user(number, &contents.users, names)),
         _ => NotJudged::Plan(explain::plan(refusal, &plan)),
     })?;
-    let rules = book.rules.iter().enumerate();
-    let broken = rules.filter(|(r, _)| mask >> r & 1 == 1);
+    let rule = |r: u32| rule::text(&contents.rules[r as usize], names);
     Ok(broken
-        .map(|(r, rule)| format!("rule {r} ({})", rule::text(rule, names)))
+        .rules()
+        .map(|r| format!("rule {r} ({})", rule(r)))
         .collect())
 }

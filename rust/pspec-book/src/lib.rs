@@ -22,18 +22,19 @@
 //!   Analyst, [projection Price] => [{avg}]
 //! ";
 //! let policy = pspec_book::policy::read(text)?;
-//! let bytes = policy.build()?;
-//! assert_eq!(pspec::check(&bytes), Ok(1));
+//! let book = policy.build()?;
+//! assert_eq!(book.rule_count(), 1);
 //! # Ok::<(), pspec_book::text::Mistake>(())
 //! ```
 #![forbid(unsafe_code)]
 #![warn(missing_docs)]
 
-pub mod book;
 pub mod command;
+pub mod contents;
 pub mod explain;
 pub mod hierarchy;
 pub mod judge;
+pub mod named;
 pub mod names;
 pub mod plan;
 pub mod policy;

@@ -1,12 +1,13 @@
 //! The names of a book's numbers, and the file that keeps them beside the book.
 //!
-//! The file lists the names lowest number first, one a line, in a section for each kind. Its first
-//! line repeats the checks of the book's first four blocks, so that names of another book are
-//! noticed and not shown.
+//! The file lists the names lowest number first, one a line, in a section for each kind. Before them
+//! it repeats the book, one line a block, so that names are taken for the book they were made for and
+//! for no other. A digest would be shorter, but then two books could share one.
 
-use crate::book::{Book, BLOCK};
+use crate::contents::Contents;
 use crate::rule::OPERATIONS;
 use crate::text::{self, mistake, Cursor, Line, Mistake, Section};
+use pspec::{Book, BLOCK};
 
 /// The names of a book's numbers.
 #[derive(Clone, Debug, Default, PartialEq, Eq)]
@@ -27,16 +28,16 @@ const HEADERS: [&str; 5] = ["users", "data", "operations", "columns", "functions
 
 impl Names {
     /// Names made of a word and the number, for a book without any.
-    pub fn numbered(book: &Book) -> Names {
+    pub fn numbered(contents: &Contents) -> Names {
         let names = |word: &str, numbers: std::ops::Range<usize>| {
             numbers.map(|i| format!("{word}{i}")).collect()
         };
         Names {
-            users: names("user", 0..book.users.len()),
-            data: names("data", 0..book.data.len()),
-            operations: names("op", 1..highest(book) + 1),
-            columns: names("column", 0..book.columns.len()),
-            functions: names("function", 0..book.functions.len()),
+            users: names("user", 0..contents.users.len()),
+            data: names("data", 0..contents.data.len()),
+            operations: names("op", 1..highest(contents) + 1),
+            columns: names("column", 0..contents.columns.len()),
+            functions: names("function", 0..contents.functions.len()),
         }
     }
 
@@ -45,26 +46,29 @@ impl Names {
         &self.operations[usize::from(k) - 1]
     }
 
-    /// The file's text, for the book with these bytes.
-    pub fn text(&self, bytes: &[u8]) -> String {
-        let mut text = format!("{}\n", checks(bytes));
-        for (header, list) in HEADERS.iter().zip(self.lists()) {
+    /// The file's text, for a book.
+    pub fn text(&self, book: &Book) -> String {
+        let blocks = blocks(book);
+        let sections = [("book", &blocks)].into_iter();
+        let sections = sections.chain(HEADERS.into_iter().zip(self.lists()));
+        let mut text = String::new();
+        for (header, list) in sections {
             text += &format!("{header}\n");
-            for name in list {
-                text += &format!("  {name}\n");
+            for line in list {
+                text += &format!("  {line}\n");
             }
         }
         text
     }
 
     /// Reads the file's text, which must fit the book.
-    pub fn read(text: &str, bytes: &[u8], book: &Book) -> Result<Names, Mistake> {
+    pub fn read(text: &str, book: &Book) -> Result<Names, Mistake> {
         let lines = text::lines(text)?;
         let sections = text::sections(&lines)?;
         let end = text.lines().count().max(1);
         let mut sections = sections.into_iter();
-        fitting(sections.next(), bytes, end)?;
-        let needed = Names::numbered(book);
+        fitting(sections.next(), book, end)?;
+        let needed = Names::numbered(&Contents::of(book));
         let mut names = Names::default();
         let kinds = HEADERS.iter().zip(needed.lists());
         for ((header, needed), list) in kinds.zip(names.lists_mut()) {
@@ -99,28 +103,54 @@ impl Names {
 }
 
 /// The highest operation of a book.
-fn highest(book: &Book) -> usize {
-    book.operations().into_iter().max().map_or(0, usize::from)
+fn highest(contents: &Contents) -> usize {
+    contents
+        .operations()
+        .into_iter()
+        .max()
+        .map_or(0, usize::from)
 }
 
-fn checks(bytes: &[u8]) -> String {
-    let check = |block: &[u8]| format!(" {:02x}{:02x}", block[BLOCK - 2], block[BLOCK - 1]);
-    let checks: String = bytes.chunks_exact(BLOCK).take(4).map(check).collect();
-    format!("checks{checks}")
-}
-
-fn fitting(first: Option<Section>, bytes: &[u8], end: usize) -> Result<(), Mistake> {
-    let wanted = checks(bytes);
-    let (line, found) = match &first {
-        Some(section) if section.header.text == wanted => return Ok(()),
-        Some(section) => (section.header.number, section.header.text),
-        None => (end, "nothing"),
+/// Each block in hexadecimal digits, without the check and without the zeros before it. The engine
+/// accepts only one check for the other bytes, so equal lines are equal books.
+fn blocks(book: &Book) -> Vec<String> {
+    let digits = |block: &[u8]| {
+        let fields = &block[..BLOCK - 2];
+        let used = fields.iter().rposition(|&byte| byte != 0);
+        let used = &fields[..used.map_or(0, |last| last + 1)];
+        used.iter().map(|byte| format!("{byte:02x}")).collect()
     };
-    let what = format!(
-        "found '{found}'; expected '{wanted}': the names belong to another book. \
-         Build it again, or delete this file to see numbers"
-    );
-    Err(mistake(line, what))
+    book.bytes().chunks_exact(BLOCK).map(digits).collect()
+}
+
+/// The file's first section must repeat the book.
+fn fitting(first: Option<Section>, book: &Book, end: usize) -> Result<(), Mistake> {
+    let (line, found, lines) = match &first {
+        Some(section) => (section.header.number, section.header.text, &*section.lines),
+        None => (end, "nothing", &[][..]),
+    };
+    let another = |line: usize, what: String| {
+        let advice = "Build the book again, or delete this file to see numbers";
+        mistake(line, format!("{what}: these are not its names. {advice}"))
+    };
+    if found != "book" {
+        let what = format!("found '{found}'; expected 'book' and the bytes of the book");
+        return Err(another(line, what));
+    }
+    let wanted = blocks(book);
+    for (i, (line, wanted)) in lines.iter().zip(&wanted).enumerate() {
+        if line.text != wanted {
+            let what = format!("found other bytes than the book has in block {i}");
+            return Err(another(line.number, what));
+        }
+    }
+    match (lines.len(), wanted.len()) {
+        (found, wanted) if found == wanted => Ok(()),
+        (found, wanted) => {
+            let what = format!("found {found} blocks; expected {wanted}, as in the book");
+            Err(another(line, what))
+        }
+    }
 }
 
 /// The names of one kind, as many as the book needs.

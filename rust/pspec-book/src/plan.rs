@@ -11,15 +11,17 @@
 //! The number before `=` may be left out. Where it stands, it is checked: rows count from 0, and
 //! `output` and `where` are rows too.
 
-use crate::book::Book;
+use crate::contents::Contents;
+use crate::named::NamedBook;
 use crate::names::Names;
 use crate::text::{self, mistake, place, Cursor, Line, Mistake};
+use pspec::Plan;
 
-/// A plan's rows and the lines that they come from.
+/// A plan and the lines that its rows come from.
 #[derive(Clone, Debug, Default, PartialEq, Eq)]
-pub struct Plan {
-    /// Four bytes a row.
-    pub bytes: Vec<u8>,
+pub struct PlanText {
+    /// The plan.
+    pub plan: Plan,
     /// Each row's line.
     pub lines: Vec<usize>,
 }
@@ -29,18 +31,19 @@ const NONE: u8 = 255;
 
 const ROW: &str = "'column', a function, 'choose', 'output' or 'where'";
 
-/// Reads a plan for a book with these names.
-pub fn read(text: &str, book: &Book, names: &Names) -> Result<Plan, Mistake> {
-    let mut plan = Plan::default();
+/// Reads a plan for a book.
+pub fn read(text: &str, named: &NamedBook) -> Result<PlanText, Mistake> {
+    let (mut bytes, mut lines) = (Vec::new(), Vec::new());
     for line in text::lines(text)? {
-        let row = row(line, plan.lines.len(), book, names)?;
-        plan.bytes.extend(row);
-        plan.lines.push(line.number);
+        let row = row(line, lines.len(), &named.contents, &named.names)?;
+        bytes.extend(row);
+        lines.push(line.number);
     }
-    Ok(plan)
+    let plan = Plan::new(bytes);
+    Ok(PlanText { plan, lines })
 }
 
-fn row(line: Line, number: usize, book: &Book, names: &Names) -> Result<[u8; 4], Mistake> {
+fn row(line: Line, number: usize, contents: &Contents, names: &Names) -> Result<[u8; 4], Mistake> {
     let mut cursor = Cursor::new(line);
     if cursor.ahead(1) == Some("=") {
         let wrong = cursor.found(&format!("{number}, the number of this row"));
@@ -54,14 +57,14 @@ fn row(line: Line, number: usize, book: &Book, names: &Names) -> Result<[u8; 4],
         (Some("choose"), Some(_)) => choose(&mut cursor)?,
         (Some("output"), Some(_)) => last(&mut cursor, "output", 4)?,
         (Some("where"), Some(_)) => last(&mut cursor, "where", 5)?,
-        _ => column(&mut cursor, book, names)?,
+        _ => column(&mut cursor, contents, names)?,
     };
     cursor.end()?;
     Ok(row)
 }
 
 /// 'column' and a name, or the name alone.
-fn column(cursor: &mut Cursor, book: &Book, names: &Names) -> Result<[u8; 4], Mistake> {
+fn column(cursor: &mut Cursor, contents: &Contents, names: &Names) -> Result<[u8; 4], Mistake> {
     let introduced = cursor.ahead(1).is_some() && cursor.take("column");
     let expected = match introduced {
         true => "a column, or a label that some column has",
@@ -72,7 +75,7 @@ fn column(cursor: &mut Cursor, book: &Book, names: &Names) -> Result<[u8; 4], Mi
     let by_name = place(&names.columns, name);
     let by_label = || {
         let label = place(&names.data, name)?;
-        let lowest = book.columns.iter().position(|&of| of == label)?;
+        let lowest = contents.columns.iter().position(|&of| of == label)?;
         Some(lowest as u8)
     };
     let column = by_name.or_else(by_label).ok_or(unknown)?;
@@ -120,14 +123,17 @@ fn named_row(cursor: &mut Cursor) -> Result<u8, Mistake> {
 }
 
 /// The accesses of a plan of the form that Idle shows, in words.
-pub fn accesses(rows: &[u8], book: &Book, names: &Names) -> String {
+pub fn accesses(plan: &Plan, named: &NamedBook) -> String {
+    let NamedBook {
+        contents, names, ..
+    } = named;
     let mut value = String::new();
     let mut accesses = Vec::new();
-    for row in rows.chunks_exact(4) {
+    for row in plan.rows() {
         let number = usize::from(row[1]);
         match row[0] {
-            1 => value = names.data[usize::from(book.columns[number])].clone(),
-            2 => value = format!("{}({value})", names.operation(book.functions[number])),
+            1 => value = names.data[usize::from(contents.columns[number])].clone(),
+            2 => value = format!("{}({value})", names.operation(contents.functions[number])),
             4 => accesses.push(format!("output {value}")),
             _ => accesses.push(format!("condition {value}")),
         }

@@ -26,17 +26,18 @@
 //! Numbers are given in the order of the lines, from 0; operations in the order of their first
 //! appearance, from 1.
 
-use crate::book::{Book, Category, UNLABELLED};
+use crate::contents::{Category, Contents, UNLABELLED};
 use crate::explain;
 use crate::names::Names;
 use crate::rule;
 use crate::text::{self, mistake, Cursor, Line, Mistake, Section};
+use pspec::Book;
 
-/// A policy: the book, its names, and the lines that they come from.
+/// A policy: what it says, its names, and the lines that they come from.
 #[derive(Clone, Debug, Default, PartialEq, Eq)]
 pub struct Policy {
-    /// The book by its numbers.
-    pub book: Book,
+    /// What it says, by numbers.
+    pub contents: Contents,
     /// The names of the numbers.
     pub names: Names,
     /// Where each thing stands in the file.
@@ -116,12 +117,9 @@ fn place_of(header: Line, next: usize) -> Result<usize, Mistake> {
 
 impl Policy {
     /// The sealed book, if the engine accepts it; else why not, in the policy's words.
-    pub fn build(&self) -> Result<Vec<u8>, Mistake> {
-        let bytes = self.book.bytes();
-        match pspec::check(&bytes) {
-            Ok(_) => Ok(bytes),
-            Err(refusal) => Err(explain::book(refusal, self)),
-        }
+    pub fn build(&self) -> Result<Book, Mistake> {
+        let book = self.contents.book();
+        book.map_err(|refusal| explain::book(refusal, self))
     }
 
     fn section(&mut self, place: usize, section: &Section) -> Result<(), Mistake> {
@@ -159,7 +157,7 @@ impl Policy {
         new_name(&mut cursor, &mut self.names.users, "a user category")?;
         let upper = upper(&mut cursor, &self.names.users)?;
         end_of_category(&cursor, "'under' or the end of the line")?;
-        self.book.users.push(tree.parent(line, upper)?);
+        self.contents.users.push(tree.parent(line, upper)?);
         Ok(())
     }
 
@@ -170,7 +168,7 @@ impl Policy {
         let upper = upper(&mut cursor, &self.names.data)?;
         end_of_category(&cursor, "'[', 'under' or the end of the line")?;
         let parent = tree.parent(line, upper)?;
-        self.book.data.push(Category { parent, own });
+        self.contents.data.push(Category { parent, own });
         Ok(())
     }
 
@@ -201,7 +199,7 @@ impl Policy {
         };
         cursor.end()?;
         self.lines.columns.push(line.number);
-        self.book.columns.push(label);
+        self.contents.columns.push(label);
         Ok(())
     }
 
@@ -214,14 +212,14 @@ impl Policy {
             false => rule::operation(&mut cursor, &mut self.names)?,
         };
         cursor.end()?;
-        self.book.functions.push(operation);
+        self.contents.functions.push(operation);
         Ok(())
     }
 
     fn rule(&mut self, line: Line) -> Result<(), Mistake> {
         let rule = rule::read(line, &mut self.names)?;
         self.lines.rules.push(line.number);
-        self.book.rules.push(rule);
+        self.contents.rules.push(rule);
         Ok(())
     }
 }

@@ -1,10 +1,9 @@
 //! Which rules are idle, in the policy's names.
 
-use crate::book::Book;
-use crate::names::Names;
+use crate::named::NamedBook;
 use crate::plan::accesses;
 use crate::rule;
-use pspec::{idle, Idleness};
+use pspec::Idleness;
 use std::io::{self, IsTerminal, Write};
 
 /// What is said after a list of idle rules.
@@ -13,27 +12,27 @@ An idle rule stops nothing that the other rules let through. Of two equal rules 
 the other, and only one may go: delete one idle rule, then ask again.";
 
 /// Writes one line a rule, then the idle rules.
-pub fn write(bytes: &[u8], book: &Book, names: &Names, out: &mut dyn Write) -> io::Result<()> {
+pub fn write(named: &NamedBook, out: &mut dyn Write) -> io::Result<()> {
+    let (rules, names) = (&named.contents.rules, &named.names);
     let mut idle_rules = Vec::new();
-    for (r, rule) in book.rules.iter().enumerate() {
-        start(r, book.rules.len());
-        let mut buffer = [0; 36];
-        let answer = idle(bytes, r as u32, &mut buffer).map_err(io::Error::other)?;
+    for (r, rule) in rules.iter().enumerate() {
+        start(r, rules.len());
+        let answer = named.book.idle(r as u32).map_err(io::Error::other)?;
         clear();
         let found = match answer {
             Idleness::Idle => {
                 idle_rules.push(format!("rule {r}"));
                 "idle".to_string()
             }
-            Idleness::Needed { user, rows } => {
-                let plan = accesses(&buffer[..4 * rows as usize], book, names);
+            Idleness::Needed { user, plan } => {
+                let plan = accesses(&plan, named);
                 let user = &names.users[user as usize];
                 format!("needed. {user} breaks it alone with: {plan}")
             }
         };
         writeln!(out, "rule {r} ({}): {found}", rule::text(rule, names))?;
     }
-    if book.rules.is_empty() {
+    if rules.is_empty() {
         return writeln!(out, "The book has no rules.");
     }
     match idle_rules.as_slice() {

@@ -7,7 +7,7 @@
 //!
 //! A rule is written on one line. Restrictions are joined by `or`; `=> forbid` has none.
 
-use crate::book::{bits, Reference, Rule};
+use crate::contents::{bits, Reference, Rule};
 use crate::names::Names;
 use crate::text::{is_name, mistake, place, Cursor, Line, Mistake};
 

@@ -1,22 +1,24 @@
 //! A book as the text of a policy file.
 
-use crate::book::{Book, UNLABELLED};
+use crate::contents::{Contents, UNLABELLED};
 use crate::names::Names;
 use crate::rule;
 
-/// The text that `policy::read` reads as this book.
-pub fn text(book: &Book, names: &Names) -> String {
+/// The text that `policy::read` reads as this contents.
+pub fn text(contents: &Contents, names: &Names) -> String {
     let mut text = String::new();
-    if !book.in_order(names) {
+    if !contents.in_order(names) {
         text += &section("operations", names.operations.clone());
     }
-    let users = tree(&book.users, &names.users, |_| String::new());
+    let users = tree(&contents.users, &names.users, |_| String::new());
     text += &section("users", users);
-    let data = tree(&book.parents(), &names.data, |i| own(book, names, i));
+    let data = tree(&contents.parents(), &names.data, |i| {
+        own(contents, names, i)
+    });
     text += &section("data", data);
-    text += &section("columns", columns(book, names));
-    text += &section("functions", functions(book, names));
-    let rules = book.rules.iter().map(|rule| rule::text(rule, names));
+    text += &section("columns", columns(contents, names));
+    text += &section("functions", functions(contents, names));
+    let rules = contents.rules.iter().map(|rule| rule::text(rule, names));
     text += &section("rules", rules.collect());
     text
 }
@@ -49,31 +51,31 @@ fn tree(parents: &[u8], names: &[String], own: impl Fn(usize) -> String) -> Vec<
 }
 
 /// The operations that a category owns, as they stand beside it.
-fn own(book: &Book, names: &Names, i: usize) -> String {
-    match book.data[i].own {
+fn own(contents: &Contents, names: &Names, i: usize) -> String {
+    match contents.data[i].own {
         0 => String::new(),
         own => format!(" [{}]", rule::operations(own, names)),
     }
 }
 
-fn columns(book: &Book, names: &Names) -> Vec<String> {
+fn columns(contents: &Contents, names: &Names) -> Vec<String> {
     let label = |&label: &u8| match label {
         UNLABELLED => "-",
         _ => &names.data[usize::from(label)],
     };
-    let labels = book.columns.iter().map(label);
+    let labels = contents.columns.iter().map(label);
     let lines = names.columns.iter().zip(labels);
     lines
         .map(|(name, label)| format!("{name}: {label}"))
         .collect()
 }
 
-fn functions(book: &Book, names: &Names) -> Vec<String> {
+fn functions(contents: &Contents, names: &Names) -> Vec<String> {
     let operation = |&k: &u8| match k {
         0 => "-",
         _ => names.operation(k),
     };
-    let operations = book.functions.iter().map(operation);
+    let operations = contents.functions.iter().map(operation);
     let lines = names.functions.iter().zip(operations);
     lines.map(|(name, k)| format!("{name}: {k}")).collect()
 }

@@ -1,5 +1,16 @@
-//! The C calls, one safe function each. A slice goes over as its pointer and its length in
-//! elements; the pointer of an empty slice is not null, as in Rust.
+//! The calls as C has them: slices in, one packed number out. For tests and timing, which want every
+//! buffer and every number as the engine leaves it; a gate uses [`Book`](crate::Book).
+//!
+//! A slice goes over as its pointer and its length in elements; the pointer of an empty slice is not
+//! null, as in Rust. An answer is number × 2^40 + place × 2^32 + value, where number is 0 if nothing
+//! is refused.
+
+use crate::Refusal;
+
+/// The words that `flows` fills.
+pub const WORDS: usize = 32;
+/// The bytes that `idle` asks of its buffer.
+pub const BUFFER: usize = 36;
 
 mod c {
     extern "C" {
@@ -30,16 +41,19 @@ mod c {
     }
 }
 
+/// The book check. Value: the number of rules.
 pub fn check(book: &[u8]) -> u64 {
     // SAFETY: the pointer and the length are those of one slice, which the call only reads.
     unsafe { c::pspec_check(book.as_ptr(), book.len()) }
 }
 
+/// Writes a block's check. Value: 0.
 pub fn seal(block: &mut [u8]) -> u64 {
     // SAFETY: as above; the call may write, and the slice is lent to be written.
     unsafe { c::pspec_seal(block.as_mut_ptr(), block.len()) }
 }
 
+/// Writes a plan's accesses. Value: 0.
 pub fn flows(book: &[u8], plan: &[u8], words: &mut [u64]) -> u64 {
     let (to, room) = (words.as_mut_ptr(), words.len());
     // SAFETY: as above; the buffer overlaps neither the book nor the plan, as it is lent alone.
@@ -55,13 +69,55 @@ pub fn flows(book: &[u8], plan: &[u8], words: &mut [u64]) -> u64 {
     }
 }
 
+/// Which rules a user and a plan break. Value: bit r for rule r.
 pub fn judge(book: &[u8], user: u32, plan: &[u8]) -> u64 {
     // SAFETY: as above; the call only reads.
     unsafe { c::pspec_judge(book.as_ptr(), book.len(), user, plan.as_ptr(), plan.len()) }
 }
 
+/// Whether a rule is idle. Value: see `shown`; the plan is at the buffer's front.
 pub fn idle(book: &[u8], rule: u32, buffer: &mut [u8]) -> u64 {
     let (to, room) = (buffer.as_mut_ptr(), buffer.len());
     // SAFETY: as above; the buffer does not overlap the book, as it is lent alone.
     unsafe { c::pspec_idle(book.as_ptr(), book.len(), rule, to, room) }
+}
+
+/// The value of an answer, or its refusal.
+pub fn value(answer: u64) -> Result<u32, Refusal> {
+    let number = (answer >> 40) as u32;
+    let place = (answer >> 32) as u32 & 255;
+    match number {
+        0 => Ok(answer as u32),
+        _ => Err(Refusal::of(number, place)),
+    }
+}
+
+/// The user and the number of rows in a value of `idle`; none for an idle rule, as a shown plan has
+/// at least two rows.
+pub fn shown(value: u32) -> Option<(u32, u32)> {
+    match value {
+        0 => None,
+        _ => Some((value / 256, value % 256)),
+    }
+}
+
+#[cfg(test)]
+mod tests {
+    use super::*;
+
+    #[test]
+    fn values() {
+        assert_eq!(value(0), Ok(0));
+        assert_eq!(value(0xFFFF_FFFF), Ok(u32::MAX));
+        let refusal = Refusal::FaultyRow { row: 63 };
+        assert_eq!(value((22 << 40) + (63 << 32)), Err(refusal));
+        assert!(value(1 << 63).is_err());
+    }
+
+    #[test]
+    fn users_and_rows() {
+        assert_eq!(shown(0), None);
+        assert_eq!(shown(2), Some((0, 2)));
+        assert_eq!(shown(31 * 256 + 9), Some((31, 9)));
+    }
 }

@@ -1,108 +1,107 @@
-//! Why the engine refuses: a number, its name and its sentence.
+//! Why the engine refuses.
 
 use std::error::Error;
 use std::fmt;
 
-/// A refusal of the engine.
-///
-/// ```
-/// let refusal = pspec::check(&[]).unwrap_err();
-/// assert_eq!((refusal.number, refusal.place), (1, 0));
-/// assert_eq!(refusal.reason(), pspec::Reason::BookLength);
-/// assert_eq!(refusal.to_string(), "refused 1: the book is not 4 to 36 blocks of 512 bytes");
-/// ```
-#[derive(Clone, Copy, Debug, PartialEq, Eq, Hash)]
-pub struct Refusal {
-    /// The number of the refusal.
-    pub number: u32,
-    /// The block (2 to 9) or the row (22) that is at fault, else 0.
-    pub place: u32,
-}
-
-macro_rules! reasons {
-    ($($number:literal $name:ident $sentence:literal,)*) => {
-        /// The name of a refusal number.
+macro_rules! refusals {
+    ($($number:literal $name:ident $({ $place:ident })? $sentence:literal,)*) => {
+        /// Why the engine refuses. `include/pspec.h` has the same names and numbers, and
+        /// `docs/FORMAT.md` says what causes each and what to do.
+        ///
+        /// ```
+        /// let refusal = pspec::Book::new([]).unwrap_err();
+        /// assert_eq!(refusal, pspec::Refusal::BookLength);
+        /// assert_eq!(refusal.to_string(), "refused 1: the book is not 4 to 36 blocks of 512 bytes");
+        /// ```
         #[derive(Clone, Copy, Debug, PartialEq, Eq, Hash)]
         #[non_exhaustive]
-        pub enum Reason {
-            $(#[doc = concat!($number, ": ", $sentence, ".")] $name,)*
+        pub enum Refusal {
+            $(
+                #[doc = concat!($number, ": ", $sentence, ".")]
+                $name $({
+                    #[doc = concat!("The ", stringify!($place), " at fault.")]
+                    $place: u32,
+                })?,
+            )*
             /// A number that this wrapper does not know.
-            Unknown,
+            Unknown {
+                /// The number.
+                number: u32,
+                /// The block or row, if it has one.
+                place: u32,
+            },
         }
 
-        impl Reason {
-            /// All reasons that have a number, lowest first.
-            pub const ALL: &'static [Reason] = &[$(Reason::$name),*];
-
-            /// The reason of a refusal number.
-            pub fn of(number: u32) -> Reason {
+        impl Refusal {
+            /// The refusal of a number and a place.
+            pub fn of(number: u32, place: u32) -> Refusal {
                 match number {
-                    $($number => Reason::$name,)*
-                    _ => Reason::Unknown,
+                    $($number => Refusal::$name $({ $place: place })?,)*
+                    _ => Refusal::Unknown { number, place },
                 }
             }
 
-            /// The number, if it is known.
-            pub fn number(self) -> Option<u32> {
+            /// Its number.
+            pub fn number(self) -> u32 {
                 match self {
-                    $(Reason::$name => Some($number),)*
-                    Reason::Unknown => None,
+                    $(Refusal::$name { .. } => $number,)*
+                    Refusal::Unknown { number, .. } => number,
+                }
+            }
+
+            /// The block or the row at fault; 0 where there is none.
+            pub fn place(self) -> u32 {
+                match self {
+                    $(Refusal::$name $({ $place })? => 0 $(+ $place)?,)*
+                    Refusal::Unknown { place, .. } => place,
                 }
             }
 
             /// What is wrong, as a sentence without its full stop.
             pub fn sentence(self) -> &'static str {
                 match self {
-                    $(Reason::$name => $sentence,)*
-                    Reason::Unknown => "the reason has no name",
+                    $(Refusal::$name { .. } => $sentence,)*
+                    Refusal::Unknown { .. } => "this wrapper does not know the number",
+                }
+            }
+
+            /// What the place counts, where there is one.
+            fn place_name(self) -> Option<&'static str> {
+                match self {
+                    $(Refusal::$name { .. } => [$(stringify!($place))?].first().copied(),)*
+                    Refusal::Unknown { .. } => Some("place"),
                 }
             }
         }
     };
 }
 
-reasons! {
+refusals! {
     1 BookLength "the book is not 4 to 36 blocks of 512 bytes",
-    2 WrongCheck "a block has a wrong check",
-    3 WrongKind "a block is of the wrong kind",
-    4 CountOrZero "a count is out of bounds, or a byte that should be zero is not",
-    5 ParentOrOwn "a parent is not lower, or a mask of own operations has bit 0",
-    6 LabelOrFunction "a label is no leaf and not 255, or a function is above 15",
-    7 RuleNumbers "a rule has a wrong category number, action or exclusion",
-    8 SharedLeaf "two references of a rule share a leaf",
-    9 Mask "a mask has bit 0, an unsupported operation or a bit for an absent reference",
+    2 BlockCheck { block } "a block has a wrong check",
+    3 BlockKind { block } "a block is of the wrong kind",
+    4 CountOrZero { block } "a count is out of bounds, or a byte that should be zero is not",
+    5 ParentOrOwn { block } "a parent is not lower, or a mask of own operations has bit 0",
+    6 LabelOrFunction { block } "a label is no leaf and not 255, or a function is above 15",
+    7 RuleNumber { block } "a rule has a wrong category number, action or exclusion",
+    8 SharedLeaf { block } "two references of a rule share a leaf",
+    9 MaskOperation { block } "a mask has bit 0, an unsupported operation or a bit for an absent reference",
     10 BlockLength "the block is not 512 bytes",
     20 NoUser "the user is no leaf",
     21 PlanLength "the plan's length is not a multiple of 4, or above 256",
-    22 FaultyRow "a row of the plan is faulty",
-    23 WordsLength "the buffer is not 32 words",
+    22 FaultyRow { row } "a row of the plan is faulty",
+    23 WordCount "the buffer is not 32 words",
     24 NoRule "there is no such rule",
-    25 ShortBuffer "the buffer is under 36 bytes",
-}
-
-impl Refusal {
-    /// The name of this refusal's number.
-    pub fn reason(&self) -> Reason {
-        Reason::of(self.number)
-    }
-
-    /// What the place counts, where the number has one.
-    fn place_name(&self) -> Option<&'static str> {
-        match self.number {
-            2..=9 => Some("block"),
-            22 => Some("row"),
-            _ => None,
-        }
-    }
+    25 BufferLength "the buffer is under 36 bytes",
 }
 
 impl fmt::Display for Refusal {
     fn fmt(&self, f: &mut fmt::Formatter<'_>) -> fmt::Result {
-        write!(f, "refused {}", self.number)?;
+        write!(f, "refused {}", self.number())?;
         if let Some(name) = self.place_name() {
-            write!(f, " at {name} {}", self.place)?;
+            write!(f, " at {name} {}", self.place())?;
         }
-        write!(f, ": {}", self.reason().sentence())
+        write!(f, ": {}", self.sentence())
     }
 }
 
@@ -113,21 +112,21 @@ mod tests {
     use super::*;
 
     #[test]
-    fn every_number_has_its_own_name() {
-        for &reason in Reason::ALL {
-            let number = reason.number().expect("it has a number");
-            assert_eq!(Reason::of(number), reason);
+    fn numbers_and_places_come_back() {
+        for number in 0..256 {
+            let refusal = Refusal::of(number, 7);
+            assert_eq!(refusal.number(), number);
+            let placed = matches!(number, 2..=9 | 22) || matches!(refusal, Refusal::Unknown { .. });
+            assert_eq!(refusal.place(), if placed { 7 } else { 0 });
         }
-        assert_eq!(Reason::ALL.len(), 16);
-        assert_eq!(Reason::of(0), Reason::Unknown);
-        assert_eq!(Reason::Unknown.number(), None);
     }
 
     #[test]
     fn a_place_is_said_where_there_is_one() {
-        let at = |number, place| Refusal { number, place }.to_string();
-        assert!(at(22, 63).starts_with("refused 22 at row 63: "));
-        assert!(at(9, 4).starts_with("refused 9 at block 4: "));
-        assert!(at(24, 0).starts_with("refused 24: "));
+        let said = |number, place| Refusal::of(number, place).to_string();
+        assert!(said(22, 63).starts_with("refused 22 at row 63: "));
+        assert!(said(9, 4).starts_with("refused 9 at block 4: "));
+        assert!(said(24, 0).starts_with("refused 24: "));
+        assert!(said(99, 3).starts_with("refused 99 at place 3: "));
     }
 }

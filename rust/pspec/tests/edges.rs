@@ -1,23 +1,23 @@
 //! Empty slices, and slices in the middle of other bytes.
 
 use books::named::small_shop;
-use pspec::{check, flows, idle, judge, seal, Idleness, Reason, Refusal};
+use pspec::{raw, seal, Book, Plan, Refusal};
 
-fn reason<T: std::fmt::Debug>(answer: Result<T, Refusal>) -> Reason {
-    answer.expect_err("it is refused").reason()
+fn refusal(answer: u64) -> Refusal {
+    raw::value(answer).expect_err("it is refused")
 }
 
 #[test]
 fn empty_slices() {
     let book = small_shop().bytes();
-    assert_eq!(reason(check(&[])), Reason::BookLength);
-    assert_eq!(reason(seal(&mut [])), Reason::BlockLength);
-    assert_eq!(reason(flows(&[], &[], &mut [])), Reason::BookLength);
-    assert_eq!(reason(flows(&book, &[], &mut [])), Reason::WordsLength);
-    assert_eq!(reason(judge(&[], 0, &[])), Reason::BookLength);
-    assert_eq!(judge(&book, 1, &[]), Ok(0));
-    assert_eq!(reason(idle(&[], 0, &mut [])), Reason::BookLength);
-    assert_eq!(reason(idle(&book, 0, &mut [])), Reason::ShortBuffer);
+    assert_eq!(refusal(raw::check(&[])), Refusal::BookLength);
+    assert_eq!(refusal(raw::seal(&mut [])), Refusal::BlockLength);
+    assert_eq!(refusal(raw::flows(&[], &[], &mut [])), Refusal::BookLength);
+    assert_eq!(refusal(raw::flows(&book, &[], &mut [])), Refusal::WordCount);
+    assert_eq!(refusal(raw::judge(&[], 0, &[])), Refusal::BookLength);
+    assert_eq!(raw::judge(&book, 1, &[]), 0);
+    assert_eq!(refusal(raw::idle(&[], 0, &mut [])), Refusal::BookLength);
+    assert_eq!(refusal(raw::idle(&book, 0, &mut [])), Refusal::BufferLength);
 }
 
 #[test]
@@ -26,13 +26,13 @@ fn nothing_outside_a_buffer_is_written() {
     let plan = [1, 2, 0, 0, 4, 0, 0, 0];
 
     let mut words = [7; 40];
-    assert_eq!(flows(&book, &plan, &mut words[3..35]), Ok(()));
+    assert_eq!(raw::flows(&book, &plan, &mut words[3..35]), 0);
     assert_eq!((&words[..3], &words[35..]), (&[7; 3][..], &[7; 5][..]));
     assert_eq!(words[3], 1 << 4);
 
     let mut buffer = [7; 50];
-    let needed = Idleness::Needed { user: 1, rows: 2 };
-    assert_eq!(idle(&book, 1, &mut buffer[5..41]), Ok(needed));
+    let value = raw::value(raw::idle(&book, 1, &mut buffer[5..41]));
+    assert_eq!(value.map(raw::shown), Ok(Some((1, 2))));
     assert_eq!(buffer[5..13], plan);
     assert_eq!((&buffer[..5], &buffer[13..]), (&[7; 5][..], &[7; 37][..]));
 
@@ -47,6 +47,35 @@ fn a_book_may_start_at_any_address() {
     let book = small_shop().bytes();
     for shift in 0..9 {
         let moved = [vec![0xEE; shift], book.clone()].concat();
-        assert_eq!(check(&moved[shift..]), Ok(3));
+        assert_eq!(raw::check(&moved[shift..]), 3);
     }
+}
+
+#[test]
+fn refused_users_and_plans_open_nothing() {
+    let book = Book::new(small_shop().bytes()).expect("it is sound");
+    let short = Plan::new([1, 2, 0]);
+    let itself = Plan::new([4, 0, 0, 0]);
+    let said = |user, plan: &Plan| book.judge(user, plan).broken();
+    assert_eq!(said(0, &Plan::default()), Err(Refusal::NoUser));
+    assert_eq!(said(1, &short), Err(Refusal::PlanLength));
+    assert_eq!(said(1, &itself), Err(Refusal::FaultyRow { row: 0 }));
+    assert!(!book.judge(1, &itself).opens());
+    assert_eq!(book.flows(&short), Err(Refusal::PlanLength));
+    assert_eq!(short.to_string(), "010200");
+    assert_eq!(short.rows().count(), 0);
+}
+
+/// Every access that `iter` gives is contained, and no other.
+#[test]
+fn accesses_one_by_one() {
+    let book = Book::new(small_shop().bytes()).expect("it is sound");
+    // Column 2 decides between column 0 and column 1, and the result is put out.
+    let plan = Plan::new([1, 0, 0, 0, 1, 1, 0, 0, 1, 2, 0, 0, 3, 2, 0, 1, 4, 3, 0, 0]);
+    let accesses = book.flows(&plan).expect("it is a plan");
+    let each: Vec<_> = accesses.iter().map(|a| (a.leaf, a.operation)).collect();
+    assert_eq!(each, [(2, 0), (3, 0), (4, 0)]);
+    assert!(accesses.iter().all(|access| accesses.contains(access)));
+    let bits: u32 = accesses.words().iter().map(|word| word.count_ones()).sum();
+    assert_eq!(bits, 3);
 }

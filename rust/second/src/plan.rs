@@ -32,7 +32,7 @@ impl Row {
 
 /// The rows of an accepted plan: "a plan, for that book, when neither 21 nor 22 applies to it".
 pub fn read(bytes: &[u8], book: &Book) -> Result<Vec<Row>, Refusal> {
-    if !bytes.len().is_multiple_of(4) || bytes.len() > 256 {
+    if bytes.len() % 4 != 0 || bytes.len() > 256 {
         return Err(Refusal::of(PLAN_LENGTH));
     }
     let kinds: Vec<u8> = bytes.chunks(4).map(|row| row[0]).collect();

@@ -1,8 +1,8 @@
 //! Damaged texts are refused or read, and never stop the program.
 
+use crate::common::numbered;
 use books::valid::{self, Size};
 use books::Random;
-use pspec_book::book::Book;
 use pspec_book::names::Names;
 use pspec_book::{plan, policy, show};
 
@@ -32,12 +32,11 @@ fn damaged_policies() {
     let mut accepted = 0;
     for seed in 0..2000 {
         let mut random = Random::new(seed);
-        let bytes = valid::draft(&mut random, Size::Small).bytes();
-        let book = Book::read(&bytes).expect("it is sound");
-        let text = damaged(&mut random, &show::text(&book, &Names::numbered(&book)));
+        let named = numbered(valid::draft(&mut random, Size::Small).bytes());
+        let text = damaged(&mut random, &show::text(&named.contents, &named.names));
         let built = policy::read(&text).and_then(|policy| policy.build());
         match built {
-            Ok(bytes) => accepted += usize::from(pspec::check(&bytes).is_ok()),
+            Ok(_) => accepted += 1,
             Err(mistake) => assert!((1..=text.lines().count().max(1)).contains(&mistake.line)),
         }
     }
@@ -49,15 +48,13 @@ fn damaged_names_and_plans() {
     let plan = "0 = column column0\n1 = function0(0)\nchoose 0 ? 0 : 1\nwhere 1\noutput 2\n";
     for seed in 0..2000 {
         let mut random = Random::new(seed);
-        let bytes = valid::draft(&mut random, Size::Tiny).bytes();
-        let book = Book::read(&bytes).expect("it is sound");
-        let names = Names::numbered(&book);
-        let text = damaged(&mut random, &names.text(&bytes));
-        if let Ok(names) = Names::read(&text, &bytes, &book) {
-            show::text(&book, &names);
+        let named = numbered(valid::draft(&mut random, Size::Tiny).bytes());
+        let text = damaged(&mut random, &named.names.text(&named.book));
+        if let Ok(names) = Names::read(&text, &named.book) {
+            show::text(&named.contents, &names);
         }
-        if let Ok(plan) = plan::read(&damaged(&mut random, plan), &book, &names) {
-            assert_eq!(plan.bytes.len(), 4 * plan.lines.len());
+        if let Ok(plan) = plan::read(&damaged(&mut random, plan), &named) {
+            assert_eq!(plan.plan.bytes().len(), 4 * plan.lines.len());
         }
     }
 }

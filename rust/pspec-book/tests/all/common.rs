@@ -1,7 +1,10 @@
 //! Files of the repository, and books of texts.
 
-use pspec_book::policy::{self, Policy};
-use pspec_book::report;
+use pspec::Book;
+use pspec_book::contents::Contents;
+use pspec_book::named::NamedBook;
+use pspec_book::names::Names;
+use pspec_book::{policy, report};
 use std::path::PathBuf;
 
 /// A file of the repository by its path from the root.
@@ -17,17 +20,25 @@ pub fn text(path: &str) -> String {
     std::fs::read_to_string(&file).unwrap_or_else(|why| panic!("{}: {why}", file.display()))
 }
 
-/// The policy of a text without mistakes, and its book.
-pub fn built(text: &str) -> (Policy, Vec<u8>) {
+/// The book of a text without mistakes.
+pub fn built(text: &str) -> NamedBook {
     let policy = policy::read(text).expect("the text is a policy");
-    let bytes = policy.build().expect("the book is accepted");
-    (policy, bytes)
+    let book = policy.build().expect("the book is accepted");
+    let named = NamedBook::new(book, policy.names);
+    assert_eq!(named.contents, policy.contents);
+    named
 }
 
 /// The report on a text's book.
 pub fn report_on(text: &str) -> String {
-    let (policy, bytes) = built(text);
     let mut out = Vec::new();
-    report::write(&bytes, &policy.book, &policy.names, &mut out).expect("it is written");
+    report::write(&built(text), &mut out).expect("it is written");
     String::from_utf8(out).expect("it is text")
+}
+
+/// A sound book with numbers for names.
+pub fn numbered(bytes: Vec<u8>) -> NamedBook {
+    let book = Book::new(bytes).expect("it is sound");
+    let names = Names::numbered(&Contents::of(&book));
+    NamedBook::new(book, names)
 }

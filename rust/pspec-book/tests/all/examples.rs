@@ -8,10 +8,10 @@ const TPC_DS: &str = "examples/tpc-ds.pspec";
 
 #[test]
 fn small_shop_is_document_01s_book() {
-    let (_, bytes) = built(&text(SMALL_SHOP));
+    let named = built(&text(SMALL_SHOP));
     let book =
         std::fs::read(file("crates/policyreport/data/small.book")).expect("the book is there");
-    assert_eq!(bytes, book);
+    assert_eq!(named.book.bytes(), book);
 }
 
 #[test]
@@ -83,8 +83,7 @@ fn a_report_names_operations_and_conditions() {
 }
 
 fn broken(plan: &str) -> Vec<String> {
-    let (policy, bytes) = built(&text(TPC_DS));
-    let broken = judge::broken(&bytes, &policy.book, &policy.names, "Analyst", &text(plan));
+    let broken = judge::broken(&built(&text(TPC_DS)), "Analyst", &text(plan));
     broken.ok().expect("the plan is judged")
 }
 

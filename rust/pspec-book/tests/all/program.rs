@@ -170,11 +170,37 @@ fn a_refused_book_and_its_names() {
         let ran = run(&folder, &[command, "changed.book"]);
         assert_eq!(ran, (1, String::new(), complaint.to_string()));
     }
-    let names = text_of(&folder, "shop.book.names").replace("checks 0007", "checks 0008");
-    fs::write(folder.join("shop.book.names"), names).expect("it is written");
-    let (status, _, complaint) = run(&folder, &["show", "shop.book"]);
-    assert_eq!(status, 2);
-    assert!(complaint.starts_with("shop.book.names:1: found 'checks 0008 "));
+}
+
+/// Two policies with equal head blocks, as the two users stand in another order.
+#[test]
+fn names_of_another_book() {
+    let folder = folder("another");
+    let policy = |users: &str| {
+        format!(
+            "users\n  Analyst\n{users}data\n  Price\ncolumns\n  price: Price\n\
+             rules\n  Report, [access Price] => forbid\n"
+        )
+    };
+    let (one, other) = ("    Report\n    Marketing\n", "    Marketing\n    Report\n");
+    for (name, users) in [("one", one), ("other", other)] {
+        let file = format!("{name}.pspec");
+        fs::write(folder.join(&file), policy(users)).expect("it is written");
+        let (status, _, _) = run(&folder, &["build", &file, "-o", &format!("{name}.book")]);
+        assert_eq!(status, 0);
+    }
+    fs::write(folder.join("p.txt"), "price\noutput 0\n").expect("it is written");
+    let judge = ["judge", "one.book", "Report", "p.txt"];
+    assert_eq!(run(&folder, &judge).0, 1);
+    fs::copy(
+        folder.join("other.book.names"),
+        folder.join("one.book.names"),
+    )
+    .expect("it is copied");
+    let (status, answer, complaint) = run(&folder, &judge);
+    assert_eq!((status, answer.as_str()), (2, ""));
+    let found = "one.book.names:6: found other bytes than the book has in block 4: ";
+    assert!(complaint.starts_with(found), "{complaint}");
 }
 
 fn text_of(folder: &std::path::Path, name: &str) -> String {
@@ -199,19 +225,36 @@ fn mistakes_in_a_names_file() {
     names_say(
         "  City\n",
         "",
-        "6: found 4 names of data; expected 5, as in the book",
+        "13: found 4 names of data; expected 5, as in the book",
     );
     names_say(
         "  City\n",
         "  State\n",
-        "10: found 'State' a second time; expected each name once",
+        "17: found 'State' a second time; expected each name once",
     );
     names_say(
         "  City\n",
         "  New City\n",
-        "10: found 'City'; expected the end of the line",
+        "17: found 'City'; expected the end of the line",
     );
-    names_say("data\n", "dates\n", "6: found 'dates'; expected 'data'");
+    names_say("data\n", "dates\n", "13: found 'dates'; expected 'data'");
+    let advice = "these are not its names. \
+                  Build the book again, or delete this file to see numbers";
+    names_say(
+        "book\n",
+        "checks 0007\n",
+        &format!("1: found 'checks 0007'; expected 'book' and the bytes of the book: {advice}"),
+    );
+    names_say(
+        "  0103\n",
+        "",
+        &format!("2: found other bytes than the book has in block 0: {advice}"),
+    );
+    names_say(
+        "users\n",
+        "  05\nusers\n",
+        &format!("1: found 8 blocks; expected 7, as in the book: {advice}"),
+    );
 }
 
 #[test]

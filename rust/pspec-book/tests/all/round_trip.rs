@@ -1,9 +1,10 @@
 //! Random books: blocks to text and back.
 
-use crate::common::built;
+use crate::common::{built, numbered};
 use books::valid::{self, Size};
 use books::{plans, Draft, Random};
-use pspec_book::book::Book;
+use pspec::{seal, Book, BLOCK};
+use pspec_book::named::NamedBook;
 use pspec_book::names::Names;
 use pspec_book::{plan, show};
 
@@ -19,29 +20,30 @@ fn drafts() -> impl Iterator<Item = Draft> {
 #[test]
 fn the_same_bytes_come_back() {
     for draft in drafts() {
-        let bytes = draft.bytes();
-        let book = Book::read(&bytes).expect("it is sound");
-        assert_eq!(book.bytes(), bytes);
-        let text = show::text(&book, &Names::numbered(&book));
-        let (policy, again) = built(&text);
-        assert_eq!(again, bytes, "{text}");
-        assert_eq!(show::text(&policy.book, &policy.names), text);
+        let named = numbered(draft.bytes());
+        assert_eq!(named.contents.book().as_ref(), Ok(&named.book));
+        let text = show::text(&named.contents, &named.names);
+        let again = built(&text);
+        assert!(again.book == named.book, "{text}");
+        assert_eq!(show::text(&again.contents, &again.names), text);
     }
 }
 
 #[test]
 fn names_survive_their_file() {
     for draft in drafts() {
-        let bytes = draft.bytes();
-        let book = Book::read(&bytes).expect("it is sound");
-        let mut names = Names::numbered(&book);
+        let NamedBook {
+            book,
+            contents,
+            mut names,
+        } = numbered(draft.bytes());
         for name in &mut names.operations {
             *name = format!("x.{name}");
         }
-        let read = Names::read(&names.text(&bytes), &bytes, &book);
+        let read = Names::read(&names.text(&book), &book);
         assert_eq!(read.expect("it fits"), names);
-        let (policy, again) = built(&show::text(&book, &names));
-        assert_eq!((again, policy.names), (bytes, names));
+        let again = built(&show::text(&contents, &names));
+        assert_eq!((again.book, again.names), (book, names));
     }
 }
 
@@ -69,11 +71,11 @@ fn plan_text(bytes: &[u8]) -> String {
 #[test]
 fn plans_are_read_as_they_are_written() {
     for (seed, draft) in drafts().enumerate() {
-        let book = Book::read(&draft.bytes()).expect("it is sound");
+        let named = numbered(draft.bytes());
         let bytes = plans::sound(&mut Random::new(seed as u64), &draft);
         let text = plan_text(&bytes);
-        let plan = plan::read(&text, &book, &Names::numbered(&book)).expect("it is a plan");
-        assert_eq!(plan.bytes, bytes);
+        let plan = plan::read(&text, &named).expect("it is a plan");
+        assert_eq!(plan.plan.bytes(), bytes);
     }
 }
 
@@ -104,16 +106,42 @@ rules
   users exclude rules, data, [access All exclude access, projection, condition projection] => forbid
   data, [access access exclude columns] => [{}] or [{avg}]
 ";
-    let (policy, bytes) = built(text);
-    assert_eq!(show::text(&policy.book, &policy.names), text);
-    assert_eq!(policy.book.users, [0, 0, 0, 1]);
-    assert_eq!(policy.book.rules[0].references.len(), 2);
-    let book = Book::read(&bytes).expect("it is sound");
-    let plan = plan::read(
-        "column column\noutput\nchoose(0)\noutput 2",
-        &book,
-        &policy.names,
-    );
+    let named = built(text);
+    assert_eq!(show::text(&named.contents, &named.names), text);
+    assert_eq!(named.contents.users, [0, 0, 0, 1]);
+    assert_eq!(named.contents.rules[0].references.len(), 2);
+    let plan = plan::read("column column\noutput\nchoose(0)\noutput 2", &named);
     let bytes = [1, 0, 0, 0, 1, 1, 0, 0, 2, 0, 0, 255, 4, 2, 0, 0];
-    assert_eq!(plan.expect("it is a plan").bytes, bytes);
+    assert_eq!(plan.expect("it is a plan").plan.bytes(), bytes);
+}
+
+/// Names are refused for every book that differs from theirs in one byte, and for one block less.
+#[test]
+fn names_are_bound_to_every_byte() {
+    let mut refused = 0;
+    for (seed, draft) in drafts().enumerate() {
+        let named = numbered(draft.bytes());
+        let text = named.names.text(&named.book);
+        let mut random = Random::new(seed as u64);
+        for _ in 0..50 {
+            let mut bytes = named.book.bytes().to_vec();
+            let place = random.below(bytes.len());
+            bytes[place] ^= 1 << random.below(8);
+            let block = place / BLOCK * BLOCK;
+            seal(&mut bytes[block..block + BLOCK]).expect("it is a block");
+            match Book::new(bytes) {
+                Ok(other) if other != named.book => {
+                    assert!(Names::read(&text, &other).is_err());
+                    refused += 1;
+                }
+                _ => (),
+            }
+        }
+        if named.book.rule_count() > 0 {
+            let bytes = named.book.bytes();
+            let shorter = Book::new(&bytes[..bytes.len() - BLOCK]).expect("it is sound");
+            assert!(Names::read(&text, &shorter).is_err());
+        }
+    }
+    assert!(refused > 100, "{refused} changes leave a book");
 }

@@ -1,16 +1,14 @@
-//! A book by its numbers, and its blocks.
+//! What a book says, by its numbers, and its blocks.
 
 use crate::names::Names;
-use pspec::Refusal;
+use pspec::{seal, Book, Refusal, BLOCK};
 
-/// The size of a block.
-pub const BLOCK: usize = 512;
 /// The label of a column that has none.
 pub const UNLABELLED: u8 = 255;
 
 /// What a book says, by its numbers.
 #[derive(Clone, Debug, Default, PartialEq, Eq)]
-pub struct Book {
+pub struct Contents {
     /// The parent of each user category.
     pub users: Vec<u8>,
     /// The data categories.
@@ -56,9 +54,10 @@ pub struct Reference {
     pub excluded: Vec<u8>,
 }
 
-impl Book {
-    /// The sealed blocks. Every list is short enough for its place: `policy` has seen to it.
-    pub fn bytes(&self) -> Vec<u8> {
+impl Contents {
+    /// The sealed book, if the engine accepts it. Every list is short enough for its place: `policy`
+    /// has seen to it.
+    pub fn book(&self) -> Result<Book, Refusal> {
         let data: Vec<u8> = self.data.iter().flat_map(Category::bytes).collect();
         let mut blocks = vec![
             block(1, self.users.len(), &self.users),
@@ -68,24 +67,23 @@ impl Book {
         ];
         blocks.extend(self.rules.iter().map(Rule::block));
         for block in &mut blocks {
-            pspec::seal(block).expect("a block has 512 bytes");
+            seal(block).expect("a block has 512 bytes");
         }
-        blocks.concat()
+        Book::new(blocks.concat())
     }
 
-    /// Reads a book that the engine accepts.
-    pub fn read(bytes: &[u8]) -> Result<Book, Refusal> {
-        pspec::check(bytes)?;
-        let blocks: Vec<&[u8]> = bytes.chunks_exact(BLOCK).collect();
+    /// What a book says.
+    pub fn of(book: &Book) -> Contents {
+        let blocks: Vec<&[u8]> = book.bytes().chunks_exact(BLOCK).collect();
         let fields =
             |block: usize, width: usize| &blocks[block][2..2 + width * count(blocks[block])];
-        Ok(Book {
+        Contents {
             users: fields(0, 1).to_vec(),
             data: fields(1, 3).chunks_exact(3).map(Category::read).collect(),
             columns: fields(2, 1).to_vec(),
             functions: fields(3, 1).to_vec(),
             rules: blocks[4..].iter().map(|block| Rule::read(block)).collect(),
-        })
+        }
     }
 
     /// The parent of each data category.

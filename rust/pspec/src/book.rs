@@ -1,0 +1,135 @@
+//! A book, and the calls that ask it something.
+
+use crate::{raw, Accesses, Broken, Idleness, Plan, Refusal, Verdict};
+use std::fmt;
+
+/// The bytes of a block.
+pub const BLOCK: usize = 512;
+
+/// A book that the engine accepts.
+///
+/// ```
+/// use pspec::{seal, Book, Refusal};
+///
+/// # let mut bytes = books::named::small_shop().bytes();
+/// let book = Book::new(&bytes[..])?; // the small shop
+/// assert_eq!(book.rule_count(), 3);
+///
+/// bytes[512 * 2 + 2] = 1; // column 0 gets another label: block 2 has a wrong check
+/// assert_eq!(Book::new(&bytes[..]), Err(Refusal::BlockCheck { block: 2 }));
+///
+/// seal(&mut bytes[512 * 2..512 * 3])?; // the check is right, but category 1 is no leaf
+/// assert_eq!(Book::new(bytes), Err(Refusal::LabelOrFunction { block: 2 }));
+/// # Ok::<(), Refusal>(())
+/// ```
+#[derive(Clone, PartialEq, Eq, Hash)]
+pub struct Book {
+    bytes: Vec<u8>,
+    rule_count: u32,
+}
+
+impl Book {
+    /// The book with these bytes, if the engine accepts it.
+    pub fn new(bytes: impl Into<Vec<u8>>) -> Result<Book, Refusal> {
+        let bytes = bytes.into();
+        let rule_count = raw::value(raw::check(&bytes))?;
+        Ok(Book { bytes, rule_count })
+    }
+
+    /// The bytes that it was made from.
+    pub fn bytes(&self) -> &[u8] {
+        &self.bytes
+    }
+
+    /// The number of its rules, 0 to 32.
+    pub fn rule_count(&self) -> u32 {
+        self.rule_count
+    }
+
+    /// What a plan gives away.
+    ///
+    /// ```
+    /// use pspec::{Access, Action, Book, Plan};
+    ///
+    /// # let bytes = books::named::small_shop().bytes();
+    /// let book = Book::new(bytes)?; // the small shop
+    /// let plan = Plan::new([1, 2, 0, 0, 2, 1, 0, 255, 4, 1, 0, 0]); // the average of column 2, put out
+    /// let accesses: Vec<Access> = book.flows(&plan)?.iter().collect();
+    /// let average = Access { action: Action::Projection, leaf: 4, operation: 1 };
+    /// assert_eq!(accesses, [average]);
+    /// # Ok::<(), pspec::Refusal>(())
+    /// ```
+    pub fn flows(&self, plan: &Plan) -> Result<Accesses, Refusal> {
+        let mut words = [0; raw::WORDS];
+        raw::value(raw::flows(&self.bytes, plan.bytes(), &mut words))?;
+        Ok(Accesses::new(words))
+    }
+
+    /// Which rules a user and a plan break.
+    ///
+    /// ```
+    /// use pspec::{Book, Plan, Refusal};
+    ///
+    /// # let bytes = books::named::small_shop().bytes();
+    /// let book = Book::new(bytes)?; // the small shop
+    /// let price = Plan::new([1, 2, 0, 0, 4, 0, 0, 0]); // column 2, put out
+    /// let broken = book.judge(1, &price).broken()?;
+    /// assert!(!broken.opens());
+    /// assert!(broken.rules().eq([1]));
+    ///
+    /// assert!(book.judge(1, &Plan::new([])).opens());
+    /// assert_eq!(book.judge(0, &price).broken(), Err(Refusal::NoUser)); // others are below user 0
+    /// # Ok::<(), Refusal>(())
+    /// ```
+    pub fn judge(&self, user: u32, plan: &Plan) -> Verdict {
+        match raw::value(raw::judge(&self.bytes, user, plan.bytes())) {
+            Ok(mask) => Verdict::Judged(Broken::new(mask)),
+            Err(refusal) => Verdict::Refused(refusal),
+        }
+    }
+
+    /// Whether a rule could go without letting anything more through; if not, the first user and
+    /// plan that break this rule and no other.
+    ///
+    /// ```
+    /// use pspec::{Book, Idleness, Plan, Refusal};
+    ///
+    /// # let bytes = books::named::small_shop().bytes();
+    /// let book = Book::new(bytes)?; // the small shop
+    /// assert_eq!(book.idle(0)?, Idleness::Idle);
+    /// let plan = Plan::new([1, 2, 0, 0, 4, 0, 0, 0]);
+    /// assert_eq!(book.idle(1)?, Idleness::Needed { user: 1, plan });
+    /// assert_eq!(book.idle(3), Err(Refusal::NoRule));
+    /// # Ok::<(), Refusal>(())
+    /// ```
+    pub fn idle(&self, rule: u32) -> Result<Idleness, Refusal> {
+        let mut buffer = [0; raw::BUFFER];
+        let value = raw::value(raw::idle(&self.bytes, rule, &mut buffer))?;
+        Ok(match raw::shown(value) {
+            None => Idleness::Idle,
+            Some((user, rows)) => Idleness::Needed {
+                user,
+                plan: Plan::new(&buffer[..4 * rows as usize]),
+            },
+        })
+    }
+}
+
+impl fmt::Debug for Book {
+    fn fmt(&self, f: &mut fmt::Formatter<'_>) -> fmt::Result {
+        write!(f, "Book {{ rules: {} }}", self.rule_count)
+    }
+}
+
+/// Writes the check of a block of 512 bytes into its last two bytes.
+///
+/// ```
+/// let mut block = [0; 512];
+/// block[0] = 4;
+/// assert_eq!(pspec::seal(&mut block), Ok(()));
+/// assert_eq!(block[510..], [0, 4]);
+/// assert_eq!(pspec::seal(&mut block[1..]), Err(pspec::Refusal::BlockLength));
+/// ```
+pub fn seal(block: &mut [u8]) -> Result<(), Refusal> {
+    raw::value(raw::seal(block)).map(|_| ())
+}
