@@ -17,6 +17,11 @@ pub fn say(text: &[u8]) -> Answer {
     none.text(text)
 }
 
+// No line of a file can expect this one, for its line end.
+pub fn malformed() -> Answer {
+    say(b" malformed\n")
+}
+
 pub fn refused(r: Refusal) -> Answer {
     say(b" refused ").number(r.number as u64)
         .place(r.number)
@@ -78,7 +83,7 @@ impl Answer {
         if sound {
             return self;
         }
-        say(b" malformed")
+        malformed()
     }
 
     // Whether the answer is this text. One that fills its room may have been cut, and is none.

@@ -2,6 +2,7 @@
 // has edits for every case below it, up to the next such line. What stands before = in a case is a
 // label and what is tried, with bars between the parts; what stands after it is the answer expected.
 use crate::answers::Answer;
+use crate::answers::malformed;
 use crate::answers::say;
 use crate::books::build;
 use crate::checking;
@@ -72,7 +73,7 @@ fn tried(call: Call, common: &[u8], parts: &[u8]) -> Answer {
     let asked = numbers::read(before(parts, b'|'));
     let texts = after(parts, b'|');
     if !may_ask(call, asked) {
-        return say(b" malformed");
+        return malformed();
     }
     match call {
         Call::Seal => sealing::answered(asked, texts),

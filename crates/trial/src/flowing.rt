@@ -1,6 +1,7 @@
 // Flows. A case has the number of words and the plan's length in bytes, where they are not 32 and
 // four a row. The words are all ones before the call.
 use crate::answers::Answer;
+use crate::answers::malformed;
 use crate::answers::refused;
 use crate::answers::say;
 use crate::numbers::Numbers;
@@ -18,20 +19,23 @@ fn all_ones(words: [u64; 40]) -> bool {
     ok
 }
 
-// With access n, where it is among the words: p for projection or c for condition, the leaf and the
-// operation. Projections come first, then all goes by leaf, then by operation.
+// An access as text: p for projection or c for condition, the leaf and the operation.
+fn named(answer: Answer, n: usize) -> Answer {
+    answer
+        .either(n < 1024, b" p", b" c")
+        .number((n / 16 % 64) as u64)
+        .text(b".")
+        .number((n % 16) as u64)
+}
+
+// With access n, where it is among the words: projections come first, then all goes by leaf, then by
+// operation.
 fn with_access(answer: Answer, words: [u64; 40], n: usize) -> Answer {
-    let s = n / 1024;
-    let d = n / 16 % 64;
-    let k = n % 16;
-    if (words[(16 * s + k) % 40] >> d) % 2 == 0 {
+    let word = words[(n / 1024 * 16 + n % 16) % 40];
+    if (word >> (n / 16 % 64)) % 2 == 0 {
         return answer;
     }
-    answer
-        .either(s == 0, b" p", b" c")
-        .number(d as u64)
-        .text(b".")
-        .number(k as u64)
+    named(answer, n)
 }
 
 // All accesses among the first 32 words.
@@ -63,7 +67,7 @@ fn said(flowed: Flowed, words: [u64; 40]) -> Answer {
 pub fn answered(asked: Numbers, book: &[u8], plan: &[u8]) -> Answer {
     let count = asked.or(0, 32) as usize;
     if 40 < count {
-        return say(b" malformed");
+        return malformed();
     }
     let mut words = [ONES; 40];
     let rows = part(plan, 0, asked.or(1, 1028) as usize);

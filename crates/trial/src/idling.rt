@@ -3,6 +3,7 @@
 // refusal, or idle, or the user and the plan with the mask that Judge gives for both; then whether
 // the buffer's other bytes, and 16 bytes or more after it, are kept.
 use crate::answers::Answer;
+use crate::answers::malformed;
 use crate::answers::refused;
 use crate::answers::say;
 use crate::numbers::Numbers;
@@ -58,7 +59,7 @@ fn said(book: &[u8], found: Idleness, buffer: [u8; 80], first: [u8; 80]) -> Answ
 
 fn buffered(book: &[u8], rule: u32, length: usize, first: [u8; 80]) -> Answer {
     if 80 < length {
-        return say(b" malformed");
+        return malformed();
     }
     let mut buffer = first;
     let found = idle(book, rule, &mut buffer[0..length]);

@@ -20,8 +20,8 @@ struct Outcome {
     bytes: [u8; 18944],
 }
 
-fn check_holds(checked: Checked) -> bool {
-    match checked {
+fn check_holds(space: &[u8]) -> bool {
+    match check(part(space, 0, 2048)) {
         Checked::Accepted(_) => true,
         Checked::Refused(r) => (r.number != 2) | (r.place != 0),
     }
@@ -33,14 +33,13 @@ fn others_kept(space: &[u8], first: &[u8]) -> bool {
     low & same(part(space, 512, 18944), part(first, 512, 18944))
 }
 
+fn stored_check(space: &[u8]) -> u64 {
+    (256 * byte_at(space, 510) + byte_at(space, 511)) as u64
+}
+
 fn done(space: &[u8], first: &[u8]) -> Answer {
-    let stored = 256 * byte_at(space, 510) + byte_at(space, 511);
-    say(b" done, check ").number(stored as u64)
-        .either(
-            check_holds(check(part(space, 0, 2048))),
-            b" holds",
-            b" fails",
-        )
+    say(b" done, check ").number(stored_check(space))
+        .either(check_holds(space), b" holds", b" fails")
         .either(
             others_kept(space, first),
             b", other bytes unchanged",
