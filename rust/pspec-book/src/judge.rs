@@ -4,17 +4,15 @@ use crate::explain;
 use crate::named::NamedBook;
 use crate::plan;
 use crate::rule;
-use crate::text::{place, Mistake};
+use crate::text::{place, Mistakes};
 use pspec::Refusal;
 
 /// Why no judgement is given.
 pub enum NotJudged {
-    /// The book has no user category of this name.
-    Unknown,
-    /// The category is no user.
-    NoUser(String),
+    /// There is no such user.
+    User(String),
     /// The plan is refused.
-    Plan(Mistake),
+    Plan(Mistakes),
 }
 
 /// The broken rules, one text each.
@@ -24,12 +22,13 @@ pub fn broken(named: &NamedBook, user: &str, text: &str) -> Result<Vec<String>, 
         contents,
         names,
     } = named;
-    let number = place(&names.users, user).ok_or(NotJudged::Unknown)?;
+    let number = place(&names.users, user);
+    let number = number.ok_or_else(|| NotJudged::User(explain::unknown_user(user, named)))?;
     let plan = plan::read(text, named).map_err(NotJudged::Plan)?;
     let broken = book.judge(number.into(), &plan.plan).broken();
     let broken = broken.map_err(|refusal| match refusal {
-        Refusal::NoUser => NotJudged::NoUser(explain::no_user(number, &contents.users, names)),
-        _ => NotJudged::Plan(explain::plan(refusal, &plan)),
+        Refusal::NoUser => NotJudged::User(explain::no_user(number, &contents.users, names)),
+        _ => NotJudged::Plan(explain::plan(refusal, &plan).into()),
     })?;
     let rule = |r: u32| rule::text(&contents.rules[r as usize], names);
     Ok(broken
