@@ -7,3 +7,4 @@ mod imports;
 mod mistakes;
 mod program;
 mod round_trip;
+mod scripts;
