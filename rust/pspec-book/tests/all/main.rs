@@ -3,6 +3,7 @@
 mod any_text;
 mod common;
 mod examples;
+mod format;
 mod imports;
 mod mistakes;
 mod program;
