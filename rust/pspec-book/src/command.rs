@@ -75,13 +75,11 @@ fn judge(book: &str, user: &str, plan: &str, out: &mut dyn Write) -> Result<Outc
         NotJudged::User(why) => Fault::Refused(why),
         NotJudged::Plan(mistakes) => Fault::Refused(mistakes.in_file(plan)),
     })?;
-    if broken.is_empty() {
-        return said(writeln!(out, "{user} breaks no rule."));
-    }
-    for rule in &broken {
-        said(writeln!(out, "{user} breaks {rule}"))?;
-    }
-    Ok(Outcome::Broken)
+    said(write!(out, "{}", judge::text(user, &broken, &named)))?;
+    Ok(match broken.is_empty() {
+        true => Outcome::Fine,
+        false => Outcome::Broken,
+    })
 }
 
 fn said(written: io::Result<()>) -> Result<Outcome, Fault> {

@@ -30,6 +30,7 @@
 #![warn(missing_docs)]
 
 pub mod arguments;
+pub mod breaking;
 pub mod build;
 pub mod command;
 pub mod contents;
@@ -39,6 +40,7 @@ pub mod files;
 pub mod help;
 pub mod hierarchy;
 pub mod judge;
+pub mod lineage;
 pub mod named;
 pub mod names;
 pub mod plan;

@@ -241,7 +241,8 @@ fn with_excluded(category: u8, excluded: &[u8], list: &[String]) -> String {
     }
 }
 
-fn reference_text(reference: &Reference, names: &Names) -> String {
+/// The text of a reference.
+pub fn reference_text(reference: &Reference, names: &Names) -> String {
     let action = ACTIONS[usize::from(reference.action) - 1];
     let data = with_excluded(reference.category, &reference.excluded, &names.data);
     format!("{action} {data}")

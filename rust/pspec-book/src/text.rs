@@ -84,6 +84,15 @@ pub fn counted(count: usize, word: &str) -> String {
     }
 }
 
+/// A list of numbers after what they count, as 'lines 1, 2 and 4'.
+pub fn counted_list(word: &str, numbers: &[String]) -> String {
+    match numbers {
+        [] => format!("no {word}"),
+        [one] => format!("{word} {one}"),
+        [first @ .., last] => format!("{word}s {} and {last}", first.join(", ")),
+    }
+}
+
 /// The most letters of a word that are shown.
 const LETTERS_SHOWN: usize = 80;
 

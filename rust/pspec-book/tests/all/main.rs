@@ -9,3 +9,4 @@ mod mistakes;
 mod program;
 mod round_trip;
 mod scripts;
+mod stopped;

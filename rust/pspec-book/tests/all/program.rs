@@ -74,9 +74,12 @@ fn judged(user: &str, plan: &str) -> (i32, String, String) {
 fn judging() {
     let plan =
         "0 = column State\noutput 0\nprice\n3 = sum(2)  # the column's own name above\noutput 3\n";
-    let broken = "Report breaks rule 1 (Analyst, [access Price] => [{avg}])\n\
+    let broken = "Report breaks rule 1 (Analyst, [access Price] => [{avg}])\n  \
+                  access Price: output sum(Price), line 5 from line 3\n\
                   Report breaks rule 2 (Report, [projection Address, projection Price] \
-                  => [{}, {avg}])\n";
+                  => [{}, {avg}])\n  \
+                  projection Address: output State, line 2 from line 1\n  \
+                  projection Price: output sum(Price), line 5 from line 3\n";
     assert_eq!(
         judged("Report", plan),
         (1, broken.to_string(), String::new())
