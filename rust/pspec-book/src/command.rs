@@ -39,7 +39,7 @@ fn carry_out(arguments: &Arguments, out: &mut dyn Write) -> Result<Outcome, Faul
             } = open(book)?;
             said(write!(out, "{}", show::text(&contents, &names)))
         }
-        ("report", [book]) => said(report::write(&open(book)?, out)),
+        ("report", [book]) => said(report::write(&open(book)?, out).map(|_| ())),
         ("judge", [book, user, plan]) => judge(book, user, plan, out),
         (name, _) => Err(Fault::Usage(format!("found '{name}'"))),
     }

@@ -34,6 +34,7 @@ pub mod breaking;
 pub mod build;
 pub mod command;
 pub mod contents;
+pub mod covering;
 pub mod explain;
 pub mod fault;
 pub mod files;

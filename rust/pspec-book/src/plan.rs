@@ -125,7 +125,7 @@ fn named_row(cursor: &mut Cursor) -> Result<u8, Mistake> {
 }
 
 /// The accesses of a plan of the form that Idle shows, in words.
-pub fn accesses(plan: &Plan, named: &NamedBook) -> String {
+pub fn accesses(plan: &Plan, named: &NamedBook) -> Vec<String> {
     let NamedBook {
         contents, names, ..
     } = named;
@@ -140,5 +140,5 @@ pub fn accesses(plan: &Plan, named: &NamedBook) -> String {
             _ => accesses.push(format!("condition {value}")),
         }
     }
-    accesses.join(", ")
+    accesses
 }

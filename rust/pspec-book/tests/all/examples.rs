@@ -60,10 +60,33 @@ fn narrow(third: &str) -> String {
 #[test]
 fn three_rules_together_make_a_fourth_idle() {
     let with = format!("rules\n{WIDE}");
-    let idle = "Idle: rule 0, rule 4, rule 5, rule 6.";
+    let idle = "Idle: rules 0, 4, 5 and 6.";
     assert_eq!(idle_after("rules\n", &with), idle);
+    let report = report_on(&text(TPC_DS).replace("rules\n", &with));
+    let why = |r: usize| {
+        report
+            .lines()
+            .nth(r)
+            .and_then(|line| line.split("): ").nth(1))
+    };
+    assert_eq!(why(0), Some("idle, covered by rules 4, 5 and 6 together"));
+    assert_eq!(why(5), Some("idle, covered by rule 0"));
     let three = ["Gender", "Marital", "Education"].map(narrow).concat();
     assert_eq!(idle_after(&three, WIDE), "none");
+}
+
+/// Why the changes that docs/EXAMPLE.md speaks of make rules idle.
+#[test]
+fn why_a_rule_is_idle() {
+    let why = |from: &str, to: &str, r: usize| {
+        let report = report_on(&text(TPC_DS).replace(from, to));
+        let line = report.lines().nth(r).expect("it is there").to_string();
+        line.split("): ").nth(1).expect("it is said").to_string()
+    };
+    let by_name = why("projection Name", "access Name", 6);
+    assert_eq!(by_name, "idle, covered by rule 2");
+    let by_suite = why("ca_suite_number: Suite", "ca_suite_number: -", 7);
+    assert_eq!(by_suite, "idle, nothing can break it");
 }
 
 /// A function has another name than its operation, and the report names the operation.

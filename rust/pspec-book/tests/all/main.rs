@@ -4,6 +4,7 @@ mod any_text;
 mod common;
 mod examples;
 mod format;
+mod idle;
 mod imports;
 mod mistakes;
 mod program;
