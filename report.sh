@@ -1,13 +1,33 @@
 #!/usr/bin/env bash
 # Proves, builds and runs the report. Without an argument it reports on the small shop.
-#   bash report.sh [BOOK]
-set -eu
+#   ./report.sh [BOOK]
+# While it proves: one line a crate, with its seconds; all the rest is in target/log/report.
+# Exit status: 1 where something is not proved, 2 where a file or a tool is missing.
+set -euo pipefail
 root=$(cd "$(dirname "$0")" && pwd)
-book=$(realpath -m "${1:-$root/crates/policyreport/data/small.book}")
-echo "proving and building the report; this takes some minutes the first time" >&2
-(cd "$root" && rt check policyreport) >&2
+[ $# -le 1 ] || { echo "found $# arguments; expected report.sh [BOOK]" >&2; exit 2; }
+book=$(realpath -m -- "${1:-$root/crates/policyreport/data/small.book}")
+if [ -d "$book" ]; then
+    echo "$1: found a folder; expected a book" >&2
+    exit 2
+elif [ ! -r "$book" ]; then
+    echo "$1: there is no such file, or it can't be read" >&2
+    exit 2
+fi
+
+cd "$root"
+. ./kit.sh
+needs rt
+same_kit
+mkdir -p target/log
+echo "proving and building the report: some minutes the first time" >&2
+if ! rt check policyreport 2>&1 | tee target/log/report | grep --line-buffered '^rt: ' >&2; then
+    echo "not proved: target/log/report says why" >&2
+    exit 1
+fi
+
+# the program reads small.book in its folder
 folder=$(mktemp -d)
 trap 'rm -r "$folder"' EXIT
-# the program reads small.book in its folder; a book that is not there is an empty one
-cp "$book" "$folder/small.book" 2>/dev/null || true
+cp -- "$book" "$folder/small.book"
 cd "$folder" && "$root/target/bin/policyreport"

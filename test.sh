@@ -5,6 +5,9 @@
 # implementation. The last line is 'N passed, 0 failed'.
 set -euo pipefail
 cd "$(dirname "$0")"
+. ./kit.sh
+needs rt cc cargo
+same_kit
 log=$(mktemp)
 folder=$(mktemp -d)
 trap 'rm -rf "$log" "$folder"' EXIT

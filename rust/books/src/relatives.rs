@@ -2,7 +2,6 @@
 
 use crate::draft::{below, Draft, Reference, Rule};
 use crate::random::Random;
-use crate::valid;
 
 /// One or more relatives of a rule, all sound where the rule is.
 pub fn some(random: &mut Random, draft: &Draft, rule: &Rule) -> Vec<Rule> {
@@ -65,7 +64,7 @@ fn stricter(random: &mut Random, rule: &Rule) -> Rule {
 fn looser(random: &mut Random, draft: &Draft, rule: &Rule) -> Rule {
     let mut new = rule.clone();
     if new.restrictions.len() < 8 {
-        let restriction = valid::restriction(random, draft, &rule.references);
+        let restriction = restriction(random, draft, &rule.references);
         new.restrictions.push(restriction);
     }
     new
@@ -169,4 +168,15 @@ fn by_exclusion(random: &mut Random, draft: &Draft, rule: &Rule) -> Vec<Rule> {
     let mut without = rule.clone();
     without.references[place].excluded.push(out);
     vec![without, with_category(draft, rule, place, out)]
+}
+
+/// Masks of supported operations, many of them zero.
+pub fn restriction(random: &mut Random, draft: &Draft, references: &[Reference]) -> [u16; 3] {
+    let mut masks = [0; 3];
+    for (mask, reference) in masks.iter_mut().zip(references) {
+        if random.chance(3, 5) {
+            *mask = random.some_of(draft.supported(reference.category));
+        }
+    }
+    masks
 }

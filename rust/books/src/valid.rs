@@ -167,7 +167,7 @@ fn rule(random: &mut Random, draft: &Draft) -> Rule {
         _ => random.between(1, 3),
     };
     let mut restrictions: Vec<[u16; 3]> = (0..m)
-        .map(|_| restriction(random, draft, &references))
+        .map(|_| relatives::restriction(random, draft, &references))
         .collect();
     // A restriction without masks accepts everything, and the rule is idle for that alone.
     if !random.chance(1, 12) {
@@ -250,15 +250,4 @@ fn reference(random: &mut Random, draft: &Draft, earlier: &[Reference]) -> Refer
         action: random.one(&[1, 2, 3, 3]),
         excluded,
     }
-}
-
-/// Masks of supported operations, many of them zero.
-pub fn restriction(random: &mut Random, draft: &Draft, references: &[Reference]) -> [u16; 3] {
-    let mut masks = [0; 3];
-    for (mask, reference) in masks.iter_mut().zip(references) {
-        if random.chance(3, 5) {
-            *mask = random.some_of(draft.supported(reference.category));
-        }
-    }
-    masks
 }

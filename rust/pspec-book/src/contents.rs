@@ -1,8 +1,9 @@
 //! What a book says, by its numbers, and its blocks.
 
-use crate::names::Names;
 use pspec::{seal, Book, Refusal, BLOCK};
 
+/// The most operations that a book has.
+pub const OPERATIONS: usize = 15;
 /// The label of a column that has none.
 pub const UNLABELLED: u8 = 255;
 
@@ -113,12 +114,6 @@ impl Contents {
             }
         }
         order
-    }
-
-    /// Do these names number the operations as the text alone would?
-    pub fn in_order(&self, names: &Names) -> bool {
-        let all = 1..=names.operations.len() as u8;
-        self.operations().into_iter().eq(all)
     }
 }
 

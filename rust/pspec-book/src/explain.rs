@@ -5,58 +5,76 @@
 //! stands. Refusals 1 to 5 come from no policy file, as `policy` keeps its counts and parents in
 //! bounds.
 
-use crate::contents::{bits, Reference, Rule};
+use crate::contents::{bits, Contents, Reference, Rule};
 use crate::hierarchy::{children, leaves, under};
+use crate::named::NamedBook;
 use crate::names::Names;
 use crate::plan::PlanText;
 use crate::policy::Policy;
 use crate::rule::operations;
-use crate::text::{mistake, Mistake};
+use crate::text::{mistake, shown, Mistake, Mistakes};
 use pspec::Refusal;
 
-/// Why the engine refuses the book of a policy, with the line at fault.
-pub fn book(refusal: Refusal, policy: &Policy) -> Mistake {
-    let block = refusal.place() as usize;
-    let (line, found) = match block {
-        2 => column(policy),
-        0..=3 => (policy.lines.sections[block + 1], None),
-        _ => rule(refusal, block - 4, policy),
-    };
+/// Why the engine refuses the book of a policy: it is asked about each column and each rule alone,
+/// so that all are found.
+pub fn book(refusal: Refusal, policy: &Policy) -> Mistakes {
+    let columns = (0..policy.contents.columns.len()).filter_map(|i| column(i, policy));
+    let rules = (0..policy.contents.rules.len()).filter_map(|r| rule(r, policy));
+    let mistakes = Mistakes::of(columns.chain(rules).collect());
+    let first = || mistake(policy.lines.sections[1], refusal.to_string()).into();
+    mistakes.err().unwrap_or_else(first)
+}
+
+fn refused(line: usize, refusal: Refusal, found: Option<String>) -> Mistake {
     let sentence = refusal.sentence().to_string();
     let what = found.unwrap_or(sentence);
-    let what = format!("refused {}: {what}", refusal.number());
-    mistake(line, what)
+    mistake(line, format!("refused {}: {what}", refusal.number()))
 }
 
-/// The first column whose label is no leaf.
-fn column(policy: &Policy) -> (usize, Option<String>) {
-    let (parents, names) = (policy.contents.parents(), &policy.names);
-    for (i, &label) in policy.contents.columns.iter().enumerate() {
-        let below = children(&parents, label);
-        if !below.is_empty() {
-            let (column, label) = (&names.columns[i], &names.data[usize::from(label)]);
-            let below = named(&below, &names.data);
-            let what = format!(
-                "found the label {label} for the column {column}; \
-                 expected a category without others below it, and {label} has {below}"
-            );
-            return (policy.lines.columns[i], Some(what));
-        }
+/// The hierarchies of a policy, without columns and rules.
+fn hierarchies(policy: &Policy) -> Contents {
+    Contents {
+        columns: vec![],
+        functions: vec![],
+        rules: vec![],
+        ..policy.contents.clone()
     }
-    (policy.lines.sections[3], None)
 }
 
-fn rule(refusal: Refusal, r: usize, policy: &Policy) -> (usize, Option<String>) {
-    let Some(rule) = policy.contents.rules.get(r) else {
-        return (policy.lines.sections[5], None);
+fn column(i: usize, policy: &Policy) -> Option<Mistake> {
+    let label = policy.contents.columns[i];
+    let alone = Contents {
+        columns: vec![label],
+        ..hierarchies(policy)
     };
+    let refusal = alone.book().err()?;
+    let (parents, names) = (policy.contents.parents(), &policy.names);
+    let below = children(&parents, label);
+    let found = (!below.is_empty()).then(|| {
+        let (column, label) = (&names.columns[i], &names.data[usize::from(label)]);
+        let below = named(&below, &names.data);
+        format!(
+            "found the label {label} for the column {column}; \
+             expected a category without others below it, and {label} has {below}"
+        )
+    });
+    Some(refused(policy.lines.columns[i], refusal, found))
+}
+
+fn rule(r: usize, policy: &Policy) -> Option<Mistake> {
+    let rule = &policy.contents.rules[r];
+    let alone = Contents {
+        rules: vec![rule.clone()],
+        ..hierarchies(policy)
+    };
+    let refusal = alone.book().err()?;
     let found = match refusal {
         Refusal::RuleNumber { .. } => exclusion(rule, policy),
         Refusal::SharedLeaf { .. } => shared_leaf(rule, policy),
         Refusal::MaskOperation { .. } => unsupported(rule, policy),
         _ => None,
     };
-    (policy.lines.rules[r], found)
+    Some(refused(policy.lines.rules[r], refusal, found))
 }
 
 fn exclusion(rule: &Rule, policy: &Policy) -> Option<String> {
@@ -179,6 +197,14 @@ fn wrong_row(plan: &PlanText, row: usize) -> Option<String> {
         }
     }
     None
+}
+
+/// That the book names no such user.
+pub fn unknown_user(user: &str, named_book: &NamedBook) -> String {
+    let leaves = leaves(&named_book.contents.users, 0, &[]);
+    let users = named(&leaves, &named_book.names.users);
+    let found = shown(user);
+    format!("refused: found the user '{found}'; expected one of {users}")
 }
 
 /// Why the engine takes a category for no user.

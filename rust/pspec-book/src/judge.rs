@@ -1,39 +1,99 @@
-//! Which rules a user and a plan break, in the policy's names.
+//! Which rules a user and a plan break, and by what, in the policy's names.
 
+use crate::breaking::breaking;
 use crate::explain;
+use crate::lineage::{self, Traced};
 use crate::named::NamedBook;
 use crate::plan;
 use crate::rule;
-use crate::text::{place, Mistake};
-use pspec::Refusal;
+use crate::text::{place, Mistakes};
+use pspec::{Access, Refusal};
 
 /// Why no judgement is given.
+#[derive(Clone, Debug, PartialEq, Eq)]
 pub enum NotJudged {
-    /// The book has no user category of this name.
-    Unknown,
-    /// The category is no user.
-    NoUser(String),
+    /// There is no such user.
+    User(String),
     /// The plan is refused.
-    Plan(Mistake),
+    Plan(Mistakes),
 }
 
-/// The broken rules, one text each.
-pub fn broken(named: &NamedBook, user: &str, text: &str) -> Result<Vec<String>, NotJudged> {
+/// A rule that a user and a plan break.
+#[derive(Clone, Debug, PartialEq, Eq)]
+pub struct BrokenRule {
+    /// Its number.
+    pub number: u32,
+    /// Its text.
+    pub rule: String,
+    /// What breaks it, reference by reference.
+    pub parts: Vec<Part>,
+}
+
+/// The accesses that break a rule, for one of its references.
+#[derive(Clone, Debug, PartialEq, Eq)]
+pub struct Part {
+    /// The reference's text.
+    pub reference: String,
+    /// The accesses.
+    pub accesses: Vec<Traced>,
+}
+
+/// The broken rules.
+pub fn broken(named: &NamedBook, user: &str, text: &str) -> Result<Vec<BrokenRule>, NotJudged> {
     let NamedBook {
         book,
         contents,
         names,
     } = named;
-    let number = place(&names.users, user).ok_or(NotJudged::Unknown)?;
+    let number = place(&names.users, user);
+    let number = number.ok_or_else(|| NotJudged::User(explain::unknown_user(user, named)))?;
     let plan = plan::read(text, named).map_err(NotJudged::Plan)?;
+    let refused = |refusal| match refusal {
+        Refusal::NoUser => NotJudged::User(explain::no_user(number, &contents.users, names)),
+        _ => NotJudged::Plan(explain::plan(refusal, &plan).into()),
+    };
     let broken = book.judge(number.into(), &plan.plan).broken();
-    let broken = broken.map_err(|refusal| match refusal {
-        Refusal::NoUser => NotJudged::NoUser(explain::no_user(number, &contents.users, names)),
-        _ => NotJudged::Plan(explain::plan(refusal, &plan)),
-    })?;
-    let rule = |r: u32| rule::text(&contents.rules[r as usize], names);
-    Ok(broken
-        .rules()
-        .map(|r| format!("rule {r} ({})", rule(r)))
-        .collect())
+    let broken = broken.map_err(refused)?;
+    let traced = lineage::traced(&plan, named).map_err(refused)?;
+    Ok(broken.rules().map(|r| one(r, named, &traced)).collect())
+}
+
+fn one(r: u32, named: &NamedBook, traced: &[Traced]) -> BrokenRule {
+    let rule = &named.contents.rules[r as usize];
+    let accesses: Vec<Access> = traced.iter().map(|of| of.access).collect();
+    let breaking = breaking(rule, &named.contents, &accesses);
+    let part = |(reference, accesses): (_, Vec<Access>)| Part {
+        reference: rule::reference_text(reference, &named.names),
+        accesses: {
+            let taken = traced.iter().filter(|of| accesses.contains(&of.access));
+            taken.cloned().collect()
+        },
+    };
+    BrokenRule {
+        number: r,
+        rule: rule::text(rule, &named.names),
+        parts: rule.references.iter().zip(breaking).map(part).collect(),
+    }
+}
+
+/// The broken rules in words, one after the other.
+pub fn text(user: &str, broken: &[BrokenRule], named: &NamedBook) -> String {
+    if broken.is_empty() {
+        return format!("{user} breaks no rule.\n");
+    }
+    let mut text = String::new();
+    for BrokenRule {
+        number,
+        rule,
+        parts,
+    } in broken
+    {
+        text += &format!("{user} breaks rule {number} ({rule})\n");
+        for part in parts.iter().filter(|part| !part.accesses.is_empty()) {
+            let accesses = part.accesses.iter().map(|of| of.text(&named.names));
+            let accesses: Vec<String> = accesses.collect();
+            text += &format!("  {}: {}\n", part.reference, accesses.join("; "));
+        }
+    }
+    text
 }

@@ -22,18 +22,26 @@
 //!   Analyst, [projection Price] => [{avg}]
 //! ";
 //! let policy = pspec_book::policy::read(text)?;
-//! let book = policy.build()?;
+//! let book = pspec_book::build::book(&policy)?;
 //! assert_eq!(book.rule_count(), 1);
-//! # Ok::<(), pspec_book::text::Mistake>(())
+//! # Ok::<(), pspec_book::text::Mistakes>(())
 //! ```
 #![forbid(unsafe_code)]
 #![warn(missing_docs)]
 
+pub mod arguments;
+pub mod breaking;
+pub mod build;
 pub mod command;
 pub mod contents;
+pub mod covering;
 pub mod explain;
+pub mod fault;
+pub mod files;
+pub mod help;
 pub mod hierarchy;
 pub mod judge;
+pub mod lineage;
 pub mod named;
 pub mod names;
 pub mod plan;
@@ -42,3 +50,4 @@ pub mod report;
 pub mod rule;
 pub mod show;
 pub mod text;
+pub mod tree;

@@ -1,12 +1,29 @@
 //! Policies as text: see `pspec-book help`.
 
-use pspec_book::command::{run, Fault, Outcome, USAGE};
+use pspec_book::arguments::usage;
+use pspec_book::command::{run, Outcome};
+use pspec_book::fault::Fault;
+use std::ffi::OsString;
 use std::io;
 use std::process::ExitCode;
 
 fn main() -> ExitCode {
-    let arguments: Vec<String> = std::env::args().skip(1).collect();
-    let status = match run(&arguments, &mut io::stdout().lock()) {
+    let words: Result<Vec<String>, OsString> = std::env::args_os()
+        .skip(1)
+        .map(OsString::into_string)
+        .collect();
+    let ran = match words {
+        Ok(words) => run(&words, &mut io::stdout().lock()),
+        Err(word) => Err(Fault::File(format!(
+            "{word:?}: found a word that is no text"
+        ))),
+    };
+    ExitCode::from(status(ran))
+}
+
+/// The exit status, after what there is to complain about.
+fn status(ran: Result<Outcome, Fault>) -> u8 {
+    match ran {
         Ok(Outcome::Fine) => 0,
         Ok(Outcome::Broken) => 1,
         Err(Fault::Refused(why)) => {
@@ -18,9 +35,8 @@ fn main() -> ExitCode {
             2
         }
         Err(Fault::Usage(why)) => {
-            eprintln!("{why}\n\n{USAGE}");
+            eprintln!("{why}\n\n{}", usage());
             2
         }
-    };
-    ExitCode::from(status)
+    }
 }

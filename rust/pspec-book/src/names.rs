@@ -4,8 +4,7 @@
 //! it repeats the book, one line a block, so that names are taken for the book they were made for and
 //! for no other. A digest would be shorter, but then two books could share one.
 
-use crate::contents::Contents;
-use crate::rule::OPERATIONS;
+use crate::contents::{Contents, OPERATIONS};
 use crate::text::{self, mistake, Cursor, Line, Mistake, Section};
 use pspec::{Book, BLOCK};
 
@@ -63,7 +62,11 @@ impl Names {
 
     /// Reads the file's text, which must fit the book.
     pub fn read(text: &str, book: &Book) -> Result<Names, Mistake> {
-        let lines = text::lines(text)?;
+        let mut mistakes = Vec::new();
+        let lines = text::lines(text, &mut mistakes);
+        if let Some(tab) = mistakes.into_iter().next() {
+            return Err(tab);
+        }
         let sections = text::sections(&lines)?;
         let end = text.lines().count().max(1);
         let mut sections = sections.into_iter();

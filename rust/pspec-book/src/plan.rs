@@ -14,7 +14,7 @@
 use crate::contents::Contents;
 use crate::named::NamedBook;
 use crate::names::Names;
-use crate::text::{self, mistake, place, Cursor, Line, Mistake};
+use crate::text::{self, mistake, place, Cursor, Line, Mistake, Mistakes};
 use pspec::Plan;
 
 /// A plan and the lines that its rows come from.
@@ -32,13 +32,15 @@ const NONE: u8 = 255;
 const ROW: &str = "'column', a function, 'choose', 'output' or 'where'";
 
 /// Reads a plan for a book.
-pub fn read(text: &str, named: &NamedBook) -> Result<PlanText, Mistake> {
-    let (mut bytes, mut lines) = (Vec::new(), Vec::new());
-    for line in text::lines(text)? {
-        let row = row(line, lines.len(), &named.contents, &named.names)?;
-        bytes.extend(row);
+pub fn read(text: &str, named: &NamedBook) -> Result<PlanText, Mistakes> {
+    let (mut bytes, mut lines, mut mistakes) = (vec![], vec![], vec![]);
+    for line in text::lines(text, &mut mistakes) {
+        let row = row(line, lines.len(), &named.contents, &named.names);
+        bytes.extend(row.as_ref().unwrap_or(&[0; 4]));
         lines.push(line.number);
+        mistakes.extend(row.err());
     }
+    Mistakes::of(mistakes)?;
     let plan = Plan::new(bytes);
     Ok(PlanText { plan, lines })
 }
@@ -123,7 +125,7 @@ fn named_row(cursor: &mut Cursor) -> Result<u8, Mistake> {
 }
 
 /// The accesses of a plan of the form that Idle shows, in words.
-pub fn accesses(plan: &Plan, named: &NamedBook) -> String {
+pub fn accesses(plan: &Plan, named: &NamedBook) -> Vec<String> {
     let NamedBook {
         contents, names, ..
     } = named;
@@ -138,5 +140,5 @@ pub fn accesses(plan: &Plan, named: &NamedBook) -> String {
             _ => accesses.push(format!("condition {value}")),
         }
     }
-    accesses.join(", ")
+    accesses
 }

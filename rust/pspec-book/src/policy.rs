@@ -26,12 +26,11 @@
 //! Numbers are given in the order of the lines, from 0; operations in the order of their first
 //! appearance, from 1.
 
-use crate::contents::{Category, Contents, UNLABELLED};
-use crate::explain;
+use crate::contents::{Category, Contents, OPERATIONS, UNLABELLED};
 use crate::names::Names;
 use crate::rule;
-use crate::text::{self, mistake, Cursor, Line, Mistake, Section};
-use pspec::Book;
+use crate::text::{self, mistake, shown, Cursor, Line, Mistake, Mistakes, Section};
+use crate::tree::Tree;
 
 /// A policy: what it says, its names, and the lines that they come from.
 #[derive(Clone, Debug, Default, PartialEq, Eq)]
@@ -68,24 +67,18 @@ const USERS: usize = 1;
 const DATA: usize = 2;
 
 /// The most lines of each section.
-const MOST: [usize; 6] = [rule::OPERATIONS, 32, 64, 128, 64, 32];
+const MOST: [usize; 6] = [OPERATIONS, 32, 64, 128, 64, 32];
 
-/// Reads a policy file.
-pub fn read(text: &str) -> Result<Policy, Mistake> {
-    let lines = text::lines(text)?;
+/// Reads a policy file. All mistakes are found, but that a section without a known place ends the
+/// reading: what it would have named is missing in all that follows.
+pub fn read(text: &str) -> Result<Policy, Mistakes> {
+    let mut mistakes = Vec::new();
+    let lines = text::lines(text, &mut mistakes);
+    let end = text.lines().count().max(1);
     let mut policy = Policy::default();
-    let mut next = 0;
-    for section in text::sections(&lines)? {
-        let place = place_of(section.header, next)?;
-        policy.lines.sections[place] = section.header.number;
-        policy.section(place, &section)?;
-        next = place + 1;
-    }
-    if next <= DATA {
-        let missing = SECTIONS[next.max(USERS)];
-        let what = format!("found the end of the file; expected the section '{missing}'");
-        return Err(mistake(text.lines().count().max(1), what));
-    }
+    let ended = policy.sections(&lines, end, &mut mistakes);
+    mistakes.extend(ended.err());
+    Mistakes::of(mistakes)?;
     Ok(policy)
 }
 
@@ -108,7 +101,7 @@ fn place_of(header: Line, next: usize) -> Result<usize, Mistake> {
             };
             let what = format!(
                 "found '{}' at the left margin; expected {expected}",
-                header.text
+                shown(header.text)
             );
             Err(mistake(header.number, what))
         }
@@ -116,34 +109,41 @@ fn place_of(header: Line, next: usize) -> Result<usize, Mistake> {
 }
 
 impl Policy {
-    /// The sealed book, if the engine accepts it; else why not, in the policy's words.
-    pub fn build(&self) -> Result<Book, Mistake> {
-        let book = self.contents.book();
-        book.map_err(|refusal| explain::book(refusal, self))
+    fn sections(
+        &mut self,
+        lines: &[Line],
+        end: usize,
+        mistakes: &mut Vec<Mistake>,
+    ) -> Result<(), Mistake> {
+        let mut next = 0;
+        for section in text::sections(lines)? {
+            let place = place_of(section.header, next)?;
+            self.lines.sections[place] = section.header.number;
+            counts(place, &section)?;
+            self.section(place, &section, mistakes);
+            next = place + 1;
+        }
+        if next > DATA {
+            return Ok(());
+        }
+        let missing = SECTIONS[next.max(USERS)];
+        let what = format!("found the end of the file; expected the section '{missing}'");
+        Err(mistake(end, what))
     }
 
-    fn section(&mut self, place: usize, section: &Section) -> Result<(), Mistake> {
-        let least = usize::from(place == USERS || place == DATA);
-        let (found, most) = (section.lines.len(), MOST[place]);
-        if found < least || found > most {
-            let what = format!(
-                "found {found} lines in the section '{}'; expected {least} to {most}",
-                SECTIONS[place]
-            );
-            return Err(mistake(section.header.number, what));
-        }
+    fn section(&mut self, place: usize, section: &Section, mistakes: &mut Vec<Mistake>) {
         let mut tree = Tree::default();
         for &line in &section.lines {
-            match place {
-                0 => self.operation(line)?,
-                USERS => self.user(line, &mut tree)?,
-                DATA => self.data(line, &mut tree)?,
-                3 => self.column(line)?,
-                4 => self.function(line)?,
-                _ => self.rule(line)?,
-            }
+            let read = match place {
+                0 => self.operation(line),
+                USERS => self.user(line, &mut tree),
+                DATA => self.data(line, &mut tree),
+                3 => self.column(line),
+                4 => self.function(line),
+                _ => self.rule(line),
+            };
+            mistakes.extend(read.err());
         }
-        Ok(())
     }
 
     fn operation(&mut self, line: Line) -> Result<(), Mistake> {
@@ -153,23 +153,40 @@ impl Policy {
     }
 
     fn user(&mut self, line: Line, tree: &mut Tree) -> Result<(), Mistake> {
+        let read = self.user_line(line);
+        let parent = tree.parent(line, read.clone().unwrap_or(None));
+        read?;
+        self.contents.users.push(parent?);
+        Ok(())
+    }
+
+    /// The category after 'under'.
+    fn user_line(&mut self, line: Line) -> Result<Option<u8>, Mistake> {
         let mut cursor = Cursor::new(line);
         new_name(&mut cursor, &mut self.names.users, "a user category")?;
         let upper = upper(&mut cursor, &self.names.users)?;
         end_of_category(&cursor, "'under' or the end of the line")?;
-        self.contents.users.push(tree.parent(line, upper)?);
-        Ok(())
+        Ok(upper)
     }
 
     fn data(&mut self, line: Line, tree: &mut Tree) -> Result<(), Mistake> {
+        let read = self.data_line(line);
+        let upper = read.as_ref().map_or(None, |&(_, upper)| upper);
+        let parent = tree.parent(line, upper);
+        let (own, _) = read?;
+        let parent = parent?;
+        self.contents.data.push(Category { parent, own });
+        Ok(())
+    }
+
+    /// The mask of own operations, and the category after 'under'.
+    fn data_line(&mut self, line: Line) -> Result<(u16, Option<u8>), Mistake> {
         let mut cursor = Cursor::new(line);
         new_name(&mut cursor, &mut self.names.data, "a data category")?;
         let own = self.own(&mut cursor)?;
         let upper = upper(&mut cursor, &self.names.data)?;
         end_of_category(&cursor, "'[', 'under' or the end of the line")?;
-        let parent = tree.parent(line, upper)?;
-        self.contents.data.push(Category { parent, own });
-        Ok(())
+        Ok((own, upper))
     }
 
     fn own(&mut self, cursor: &mut Cursor) -> Result<u16, Mistake> {
@@ -224,6 +241,20 @@ impl Policy {
     }
 }
 
+/// A section has as many lines as there is room for.
+fn counts(place: usize, section: &Section) -> Result<(), Mistake> {
+    let least = usize::from(place == USERS || place == DATA);
+    let (found, most) = (section.lines.len(), MOST[place]);
+    if found >= least && found <= most {
+        return Ok(());
+    }
+    let what = format!(
+        "found {found} lines in the section '{}'; expected {least} to {most}",
+        SECTIONS[place]
+    );
+    Err(mistake(section.header.number, what))
+}
+
 /// Adds a name to a list that must not have it yet.
 fn new_name(cursor: &mut Cursor, list: &mut Vec<String>, what: &str) -> Result<(), Mistake> {
     let twice = cursor.found(&format!("the name of {what} that no line above has"));
@@ -246,69 +277,4 @@ fn upper(cursor: &mut Cursor, list: &[String]) -> Result<Option<u8>, Mistake> {
 
 fn end_of_category(cursor: &Cursor, expected: &str) -> Result<(), Mistake> {
     cursor.end().map_err(|_| cursor.found(expected))
-}
-
-/// The categories from the root to the last line's, each with its indentation.
-#[derive(Default)]
-struct Tree {
-    count: u8,
-    first: usize,
-    path: Vec<(usize, u8)>,
-}
-
-impl Tree {
-    /// The parent of the next category.
-    fn parent(&mut self, line: Line, upper: Option<u8>) -> Result<u8, Mistake> {
-        let number = self.count;
-        self.count += 1;
-        if number == 0 {
-            self.first = line.indent;
-        }
-        self.close(line)?;
-        let parent = match (upper, self.path.last()) {
-            (Some(_), _) if line.indent != self.first => return Err(self.too_deep(line)),
-            (Some(upper), _) => upper,
-            (None, Some(&(_, category))) => category,
-            (None, None) if number == 0 => 0,
-            (None, None) => return Err(second_root(line)),
-        };
-        self.path.push((line.indent, number));
-        Ok(parent)
-    }
-
-    /// Leaves the categories that this line is not below.
-    fn close(&mut self, line: Line) -> Result<(), Mistake> {
-        let mut beside = None;
-        while let Some(&(indent, _)) = self.path.last() {
-            if indent < line.indent {
-                break;
-            }
-            beside = Some(indent);
-            self.path.pop();
-        }
-        if beside.is_none_or(|indent| indent == line.indent) {
-            return Ok(());
-        }
-        let what = format!(
-            "found '{}' after {} spaces; expected as many as a category above it has",
-            line.text, line.indent
-        );
-        Err(mistake(line.number, what))
-    }
-
-    fn too_deep(&self, line: Line) -> Mistake {
-        let what = format!(
-            "found 'under' after {} spaces; expected {}, as for the root",
-            line.indent, self.first
-        );
-        mistake(line.number, what)
-    }
-}
-
-fn second_root(line: Line) -> Mistake {
-    let what = format!(
-        "found '{}' beside the root; expected it indented below another, or 'under' and a category",
-        line.text
-    );
-    mistake(line.number, what)
 }

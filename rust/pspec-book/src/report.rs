@@ -1,9 +1,11 @@
-//! Which rules are idle, in the policy's names.
+//! Which rules are idle and why, and what breaks each other one alone, in the policy's names.
 
+use crate::covering::{why_idle, WhyIdle};
 use crate::named::NamedBook;
 use crate::plan::accesses;
 use crate::rule;
-use pspec::Idleness;
+use crate::text::counted_list;
+use pspec::{Idleness, Plan, Refusal};
 use std::io::{self, IsTerminal, Write};
 
 /// What is said after a list of idle rules.
@@ -11,33 +13,114 @@ const ADVICE: &str = "\
 An idle rule stops nothing that the other rules let through. Of two equal rules each is idle beside
 the other, and only one may go: delete one idle rule, then ask again.";
 
-/// Writes one line a rule, then the idle rules.
-pub fn write(named: &NamedBook, out: &mut dyn Write) -> io::Result<()> {
-    let (rules, names) = (&named.contents.rules, &named.names);
-    let mut idle_rules = Vec::new();
-    for (r, rule) in rules.iter().enumerate() {
-        start(r, rules.len());
-        let answer = named.book.idle(r as u32).map_err(io::Error::other)?;
-        clear();
-        let found = match answer {
-            Idleness::Idle => {
-                idle_rules.push(format!("rule {r}"));
-                "idle".to_string()
-            }
-            Idleness::Needed { user, plan } => {
-                let plan = accesses(&plan, named);
-                let user = &names.users[user as usize];
-                format!("needed. {user} breaks it alone with: {plan}")
+/// What is said where several rules cover one.
+const TOGETHER: &str = "
+Of rules that cover another together none can be left out; other rules may cover it as well.";
+
+/// What is found of a rule.
+#[derive(Clone, Debug, PartialEq, Eq)]
+pub struct RuleReport {
+    /// Its number.
+    pub number: usize,
+    /// Its text.
+    pub rule: String,
+    /// Whether it is idle.
+    pub found: Found,
+}
+
+/// Whether a rule is idle.
+#[derive(Clone, Debug, PartialEq, Eq)]
+pub enum Found {
+    /// It is, and why.
+    Idle(WhyIdle),
+    /// It is not: this user and this plan break it alone.
+    Needed {
+        /// The user's name.
+        user: String,
+        /// The plan's accesses, in words.
+        accesses: Vec<String>,
+        /// The plan.
+        plan: Plan,
+    },
+}
+
+impl RuleReport {
+    /// Is the rule idle?
+    pub fn is_idle(&self) -> bool {
+        matches!(self.found, Found::Idle(_))
+    }
+
+    fn is_covered_by_several(&self) -> bool {
+        matches!(&self.found, Found::Idle(WhyIdle::Covered(rules)) if rules.len() > 1)
+    }
+
+    /// One line.
+    pub fn text(&self) -> String {
+        let found = match &self.found {
+            Found::Idle(why) => format!("idle, {}", why.text()),
+            Found::Needed { user, accesses, .. } => {
+                let accesses = accesses.join(", ");
+                format!("needed. {user} breaks it alone with: {accesses}")
             }
         };
-        writeln!(out, "rule {r} ({}): {found}", rule::text(rule, names))?;
+        format!("rule {} ({}): {found}", self.number, self.rule)
     }
-    if rules.is_empty() {
-        return writeln!(out, "The book has no rules.");
+}
+
+/// What is found of one rule.
+pub fn of_rule(named: &NamedBook, r: usize) -> Result<RuleReport, Refusal> {
+    let found = match named.book.idle(r as u32)? {
+        Idleness::Idle => Found::Idle(why_idle(&named.book, r)?),
+        Idleness::Needed { user, plan } => Found::Needed {
+            user: named.names.users[user as usize].clone(),
+            accesses: accesses(&plan, named),
+            plan,
+        },
+    };
+    Ok(RuleReport {
+        number: r,
+        rule: rule::text(&named.contents.rules[r], &named.names),
+        found,
+    })
+}
+
+/// What is found of each rule, given out as it is found.
+pub fn each(
+    named: &NamedBook,
+    mut found: impl FnMut(&RuleReport) -> io::Result<()>,
+) -> io::Result<Vec<RuleReport>> {
+    let count = named.contents.rules.len();
+    let mut reports = Vec::new();
+    for r in 0..count {
+        start(r, count);
+        let report = of_rule(named, r).map_err(io::Error::other)?;
+        clear();
+        found(&report)?;
+        reports.push(report);
     }
-    match idle_rules.as_slice() {
-        [] => writeln!(out, "\nNo rule is idle."),
-        rules => writeln!(out, "\nIdle: {}.\n{ADVICE}", rules.join(", ")),
+    Ok(reports)
+}
+
+/// Writes one line a rule, then the idle rules; gives what was found.
+pub fn write(named: &NamedBook, out: &mut dyn Write) -> io::Result<Vec<RuleReport>> {
+    let reports = each(named, |report| writeln!(out, "{}", report.text()))?;
+    writeln!(out, "{}", summary(&reports))?;
+    Ok(reports)
+}
+
+/// The idle rules, and what to do about them.
+fn summary(reports: &[RuleReport]) -> String {
+    let idle = reports.iter().filter(|report| report.is_idle());
+    let idle: Vec<String> = idle.map(|report| report.number.to_string()).collect();
+    match (reports.is_empty(), idle.is_empty()) {
+        (true, _) => "The book has no rules.".to_string(),
+        (_, true) => "\nNo rule is idle.".to_string(),
+        _ => {
+            let several = reports.iter().any(RuleReport::is_covered_by_several);
+            let together = if several { TOGETHER } else { "" };
+            let idle = counted_list("rule", &idle);
+            format!("\nIdle: {idle}.\n{ADVICE}{together}")
+        }
     }
 }
 

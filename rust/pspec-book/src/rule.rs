@@ -7,9 +7,9 @@
 //!
 //! A rule is written on one line. Restrictions are joined by `or`; `=> forbid` has none.
 
-use crate::contents::{bits, Reference, Rule};
+use crate::contents::{bits, Reference, Rule, OPERATIONS};
 use crate::names::Names;
-use crate::text::{is_name, mistake, place, Cursor, Line, Mistake};
+use crate::text::{is_name, mistake, Cursor, Line, Mistake};
 
 /// The actions; the first has number 1.
 const ACTIONS: [&str; 3] = ["projection", "condition", "access"];
@@ -23,8 +23,6 @@ const EXCLUDED_USERS: usize = 4;
 const REFERENCES: usize = 3;
 const EXCLUDED_DATA: usize = 8;
 const RESTRICTIONS: usize = 8;
-/// The most operations that a book has.
-pub const OPERATIONS: usize = 15;
 
 /// Reads a rule. An operation that was not named before gets the next number.
 pub fn read(line: Line, names: &mut Names) -> Result<Rule, Mistake> {
@@ -47,12 +45,13 @@ pub fn read(line: Line, names: &mut Names) -> Result<Rule, Mistake> {
 pub fn operation(cursor: &mut Cursor, names: &mut Names) -> Result<u8, Mistake> {
     let name = cursor.name("an operation")?;
     let list = &mut names.operations;
-    if let Some(place) = place(list, name) {
-        return Ok(place + 1);
+    let known = list.iter().position(|known| known == name);
+    let place = known.unwrap_or(list.len());
+    if known.is_none() {
+        list.push(name.to_string());
     }
-    list.push(name.to_string());
-    at_most(cursor, list.len(), OPERATIONS, "operations in a book")?;
-    Ok(list.len() as u8)
+    at_most(cursor, place + 1, OPERATIONS, "operations in a book")?;
+    Ok(place as u8 + 1)
 }
 
 /// Refuses more of something than there is room for.
@@ -242,7 +241,8 @@ fn with_excluded(category: u8, excluded: &[u8], list: &[String]) -> String {
     }
 }
 
-fn reference_text(reference: &Reference, names: &Names) -> String {
+/// The text of a reference.
+pub fn reference_text(reference: &Reference, names: &Names) -> String {
     let action = ACTIONS[usize::from(reference.action) - 1];
     let data = with_excluded(reference.category, &reference.excluded, &names.data);
     format!("{action} {data}")

@@ -7,7 +7,7 @@ use crate::rule;
 /// The text that `policy::read` reads as this contents.
 pub fn text(contents: &Contents, names: &Names) -> String {
     let mut text = String::new();
-    if !contents.in_order(names) {
+    if !in_order(contents, names) {
         text += &section("operations", names.operations.clone());
     }
     let users = tree(&contents.users, &names.users, |_| String::new());
@@ -21,6 +21,12 @@ pub fn text(contents: &Contents, names: &Names) -> String {
     let rules = contents.rules.iter().map(|rule| rule::text(rule, names));
     text += &section("rules", rules.collect());
     text
+}
+
+/// Do these names number the operations as the text alone would?
+fn in_order(contents: &Contents, names: &Names) -> bool {
+    let all = 1..=names.operations.len() as u8;
+    contents.operations().into_iter().eq(all)
 }
 
 fn section(header: &str, lines: Vec<String>) -> String {

@@ -26,6 +26,89 @@ pub fn mistake(line: usize, what: impl Into<String>) -> Mistake {
     Mistake { line, what }
 }
 
+/// The mistakes of a text, at least one: the first of each line, lowest line first.
+#[derive(Clone, Debug, PartialEq, Eq)]
+pub struct Mistakes(Vec<Mistake>);
+
+/// The most mistakes that are shown.
+const MOST_SHOWN: usize = 20;
+
+impl Mistakes {
+    /// These mistakes, or nothing where there are none.
+    pub fn of(mut mistakes: Vec<Mistake>) -> Result<(), Mistakes> {
+        mistakes.sort_by_key(|mistake| mistake.line);
+        mistakes.dedup_by_key(|mistake| mistake.line);
+        match mistakes.is_empty() {
+            true => Ok(()),
+            false => Err(Mistakes(mistakes)),
+        }
+    }
+
+    /// Each of them.
+    pub fn iter(&self) -> impl Iterator<Item = &Mistake> {
+        self.0.iter()
+    }
+
+    /// One a line, after the file's name.
+    pub fn in_file(&self, file: &str) -> String {
+        let shown = self.0.iter().take(MOST_SHOWN);
+        let mut lines: Vec<String> = shown.map(|mistake| format!("{file}:{mistake}")).collect();
+        if self.0.len() > MOST_SHOWN {
+            let more = counted(self.0.len() - MOST_SHOWN, "mistake");
+            lines.push(format!("{file}: and {more} more"));
+        }
+        lines.join("\n")
+    }
+}
+
+impl From<Mistake> for Mistakes {
+    fn from(mistake: Mistake) -> Mistakes {
+        Mistakes(vec![mistake])
+    }
+}
+
+impl fmt::Display for Mistakes {
+    fn fmt(&self, f: &mut fmt::Formatter<'_>) -> fmt::Result {
+        let lines: Vec<String> = self.0.iter().map(Mistake::to_string).collect();
+        f.write_str(&lines.join("\n"))
+    }
+}
+
+impl Error for Mistakes {}
+
+/// A number and a word, in the plural where it is not one.
+pub fn counted(count: usize, word: &str) -> String {
+    match count {
+        1 => format!("1 {word}"),
+        _ => format!("{count} {word}s"),
+    }
+}
+
+/// A list of numbers after what they count, as 'lines 1, 2 and 4'.
+pub fn counted_list(word: &str, numbers: &[String]) -> String {
+    match numbers {
+        [] => format!("no {word}"),
+        [one] => format!("{word} {one}"),
+        [first @ .., last] => format!("{word}s {} and {last}", first.join(", ")),
+    }
+}
+
+/// The most letters of a word that are shown.
+const LETTERS_SHOWN: usize = 80;
+
+/// A found text as it is shown: cut where it is long, with a code for what can't be seen.
+pub fn shown(found: &str) -> String {
+    let letter = |c: char| match c {
+        '\'' | '"' | '\\' => c.to_string(),
+        _ => c.escape_debug().to_string(),
+    };
+    let mut shown: String = found.chars().take(LETTERS_SHOWN).map(letter).collect();
+    if found.chars().nth(LETTERS_SHOWN).is_some() {
+        shown += "...";
+    }
+    shown
+}
+
 /// A line that says something.
 #[derive(Clone, Copy, Debug, PartialEq, Eq)]
 pub struct Line<'a> {
@@ -37,8 +120,9 @@ pub struct Line<'a> {
     pub text: &'a str,
 }
 
-/// The lines of a text that hold more than a comment.
-pub fn lines(text: &str) -> Result<Vec<Line<'_>>, Mistake> {
+/// The lines of a text that hold more than a comment. A byte order mark before them is left out.
+pub fn lines<'a>(text: &'a str, mistakes: &mut Vec<Mistake>) -> Vec<Line<'a>> {
+    let text = text.strip_prefix('\u{feff}').unwrap_or(text);
     let mut lines = Vec::new();
     for (i, whole) in text.lines().enumerate() {
         let said = whole.split('#').next().unwrap_or("").trim_end();
@@ -47,18 +131,20 @@ pub fn lines(text: &str) -> Result<Vec<Line<'_>>, Mistake> {
         if text.is_empty() {
             continue;
         }
+        let number = i + 1;
         // A tab has no fixed width, so it would leave open what stands below what.
         if margin.contains(|c| c != ' ') {
             let what = "found a tab before the first word; expected spaces";
-            return Err(mistake(i + 1, what));
+            mistakes.push(mistake(number, what));
         }
+        let indent = margin.len();
         lines.push(Line {
-            number: i + 1,
-            indent: margin.len(),
+            number,
+            indent,
             text,
         });
     }
-    Ok(lines)
+    lines
 }
 
 /// A line at the left margin, and the indented lines below it.
@@ -84,7 +170,7 @@ pub fn sections<'a>(lines: &[Line<'a>]) -> Result<Vec<Section<'a>>, Mistake> {
                 let what = format!(
                     "found '{}' before any section; \
                      expected the name of a section at the left margin",
-                    line.text
+                    shown(line.text)
                 );
                 return Err(mistake(line.number, what));
             }
@@ -95,6 +181,9 @@ pub fn sections<'a>(lines: &[Line<'a>]) -> Result<Vec<Section<'a>>, Mistake> {
 
 /// Words that a name can't be, as they have a place in a rule or a tree.
 const RESERVED: [&str; 4] = ["exclude", "under", "or", "forbid"];
+
+/// The most letters of a name.
+const LETTERS: usize = 64;
 
 /// May this word be a name?
 pub fn is_name(word: &str) -> bool {
@@ -152,13 +241,15 @@ impl<'a> Cursor<'a> {
 
     /// The next word, which must be a name.
     pub fn name(&mut self, expected: &str) -> Result<&'a str, Mistake> {
-        match self.ahead(0) {
-            Some(word) if is_name(word) => {
-                self.next += 1;
-                Ok(word)
-            }
-            _ => Err(self.found(expected)),
+        let name = self.ahead(0).filter(|word| is_name(word));
+        let name = name.ok_or_else(|| self.found(expected))?;
+        let letters = name.chars().count();
+        if letters > LETTERS {
+            let what = format!("found a name of {letters} letters; expected at most {LETTERS}");
+            return Err(mistake(self.line, what));
         }
+        self.next += 1;
+        Ok(name)
     }
 
     /// The number of the next word in a list, which must have it.
@@ -188,7 +279,7 @@ impl<'a> Cursor<'a> {
     /// The mistake that something else was expected here.
     pub fn found(&self, expected: &str) -> Mistake {
         let found = match self.ahead(0) {
-            Some(word) => format!("'{word}'"),
+            Some(word) => format!("'{}'", shown(word)),
             None => "the end of the line".to_string(),
         };
         mistake(self.line, format!("found {found}; expected {expected}"))
@@ -230,6 +321,14 @@ mod tests {
         );
         assert_eq!(words("x: -"), ["x", ":", "-"]);
         assert_eq!(words("é=ü"), ["é", "=", "ü"]);
+    }
+
+    #[test]
+    fn what_is_found_is_shown() {
+        assert_eq!(shown("a'b\u{200b}é"), "a'b\\u{200b}é");
+        assert_eq!(shown(&"x".repeat(100_000)).len(), 83);
+        assert_eq!(counted(1, "rule"), "1 rule");
+        assert_eq!(counted(0, "rule"), "0 rules");
     }
 
     #[test]

@@ -42,3 +42,12 @@ fn the_example_runs_in_another_crate() {
     let said = String::from_utf8_lossy(&ran.stdout);
     assert_eq!(said, fenced(&readme, "```text"));
 }
+
+/// The part of the example that the repository's README shows.
+#[test]
+fn the_readme_shows_a_part_of_it() {
+    let pspec = Path::new(env!("CARGO_MANIFEST_DIR"));
+    let text = |path| fs::read_to_string(pspec.join(path)).expect("it is there");
+    let (whole, part) = (text("README.md"), text("../../README.md"));
+    assert!(whole.contains(fenced(&part, "```rust")));
+}

@@ -4,7 +4,7 @@ use crate::common::numbered;
 use books::valid::{self, Size};
 use books::Random;
 use pspec_book::names::Names;
-use pspec_book::{plan, policy, show};
+use pspec_book::{build, plan, policy, show};
 
 const PIECES: [&str; 16] = [
     "", " ", "\n", "  ", "\t", ",", "[", "]", "{", "}", "=>", "#", "under", "exclude", "255", "é",
@@ -34,10 +34,13 @@ fn damaged_policies() {
         let mut random = Random::new(seed);
         let named = numbered(valid::draft(&mut random, Size::Small).bytes());
         let text = damaged(&mut random, &show::text(&named.contents, &named.names));
-        let built = policy::read(&text).and_then(|policy| policy.build());
+        let built = policy::read(&text).and_then(|policy| build::book(&policy));
         match built {
             Ok(_) => accepted += 1,
-            Err(mistake) => assert!((1..=text.lines().count().max(1)).contains(&mistake.line)),
+            Err(mistakes) => {
+                let lines = 1..=text.lines().count().max(1);
+                assert!(mistakes.iter().all(|mistake| lines.contains(&mistake.line)));
+            }
         }
     }
     assert!(accepted > 20, "{accepted} are still policies");

@@ -4,7 +4,7 @@ use pspec::Book;
 use pspec_book::contents::Contents;
 use pspec_book::named::NamedBook;
 use pspec_book::names::Names;
-use pspec_book::{policy, report};
+use pspec_book::{build, policy, report};
 use std::path::PathBuf;
 
 /// A file of the repository by its path from the root.
@@ -23,7 +23,7 @@ pub fn text(path: &str) -> String {
 /// The book of a text without mistakes.
 pub fn built(text: &str) -> NamedBook {
     let policy = policy::read(text).expect("the text is a policy");
-    let book = policy.build().expect("the book is accepted");
+    let book = build::book(&policy).expect("the book is accepted");
     let named = NamedBook::new(book, policy.names);
     assert_eq!(named.contents, policy.contents);
     named

@@ -60,10 +60,33 @@ fn narrow(third: &str) -> String {
 #[test]
 fn three_rules_together_make_a_fourth_idle() {
     let with = format!("rules\n{WIDE}");
-    let idle = "Idle: rule 0, rule 4, rule 5, rule 6.";
+    let idle = "Idle: rules 0, 4, 5 and 6.";
     assert_eq!(idle_after("rules\n", &with), idle);
+    let report = report_on(&text(TPC_DS).replace("rules\n", &with));
+    let why = |r: usize| {
+        report
+            .lines()
+            .nth(r)
+            .and_then(|line| line.split("): ").nth(1))
+    };
+    assert_eq!(why(0), Some("idle, covered by rules 4, 5 and 6 together"));
+    assert_eq!(why(5), Some("idle, covered by rule 0"));
     let three = ["Gender", "Marital", "Education"].map(narrow).concat();
     assert_eq!(idle_after(&three, WIDE), "none");
+}
+
+/// Why the changes that docs/EXAMPLE.md speaks of make rules idle.
+#[test]
+fn why_a_rule_is_idle() {
+    let why = |from: &str, to: &str, r: usize| {
+        let report = report_on(&text(TPC_DS).replace(from, to));
+        let line = report.lines().nth(r).expect("it is there").to_string();
+        line.split("): ").nth(1).expect("it is said").to_string()
+    };
+    let by_name = why("projection Name", "access Name", 6);
+    assert_eq!(by_name, "idle, covered by rule 2");
+    let by_suite = why("ca_suite_number: Suite", "ca_suite_number: -", 7);
+    assert_eq!(by_suite, "idle, nothing can break it");
 }
 
 /// A function has another name than its operation, and the report names the operation.
@@ -82,20 +105,27 @@ fn a_report_names_operations_and_conditions() {
     assert_eq!(none, "The book has no rules.\n");
 }
 
-fn broken(plan: &str) -> Vec<String> {
-    let broken = judge::broken(&built(&text(TPC_DS)), "Analyst", &text(plan));
-    broken.ok().expect("the plan is judged")
+fn judged(plan: &str) -> String {
+    let named = built(&text(TPC_DS));
+    let broken = judge::broken(&named, "Analyst", &text(plan)).expect("the plan is judged");
+    judge::text("Analyst", &broken, &named)
 }
 
 /// The paper on the system says that such queries violate its rules 3 and 7, and that its own check
 /// rejects `substr` where rule 10 asks for `truncate`.
 #[test]
 fn plans_break_the_rules_that_the_paper_names() {
-    let names = broken("examples/tpc-ds-names.plan");
-    assert_eq!(names.len(), 2);
-    assert!(names[0].starts_with("rule 2 (") && names[1].starts_with("rule 6 ("));
     assert_eq!(
-        broken("examples/tpc-ds-zip.plan"),
-        ["rule 9 (Analyst, [access Zip] => [{truncate}])"]
+        judged("examples/tpc-ds-names.plan"),
+        "Analyst breaks rule 2 (Analyst, [projection Name] => forbid)\n  \
+         projection Name: output F_Name, line 6 from line 2; output L_Name, line 7 from line 3\n\
+         Analyst breaks rule 6 (Analyst, [access F_Name, access L_Name] => forbid)\n  \
+         access F_Name: output F_Name, line 6 from line 2\n  \
+         access L_Name: output L_Name, line 7 from line 3\n"
+    );
+    assert_eq!(
+        judged("examples/tpc-ds-zip.plan"),
+        "Analyst breaks rule 9 (Analyst, [access Zip] => [{truncate}])\n  \
+         access Zip: output Zip, line 5 from line 2\n"
     );
 }

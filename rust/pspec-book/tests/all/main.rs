@@ -3,6 +3,11 @@
 mod any_text;
 mod common;
 mod examples;
+mod format;
+mod idle;
+mod imports;
 mod mistakes;
 mod program;
 mod round_trip;
+mod scripts;
+mod stopped;

@@ -1,6 +1,6 @@
 //! Each mistake in a policy, with its line and its message.
 
-use pspec_book::policy;
+use pspec_book::{build, policy};
 
 const POLICY: &str = "\
 users
@@ -22,7 +22,7 @@ rules
 ";
 
 fn mistake_in(text: &str) -> String {
-    let built = policy::read(text).and_then(|policy| policy.build());
+    let built = policy::read(text).and_then(|policy| build::book(&policy));
     built.expect_err("there is a mistake").to_string()
 }
 
@@ -46,7 +46,7 @@ fn many(count: usize, line: impl Fn(usize) -> String) -> String {
 #[test]
 fn without_a_mistake() {
     let policy = policy::read(POLICY).expect("it is a policy");
-    assert!(policy.build().is_ok());
+    assert!(build::book(&policy).is_ok());
 }
 
 #[test]
@@ -317,4 +317,94 @@ fn what_the_engine_refuses() {
         "A, [access S] => [{avg}]",
         "refused 9: found the operation avg for S; expected none, as S supports no operation",
     );
+}
+
+#[test]
+fn all_mistakes_are_shown() {
+    let policy = POLICY
+        .replacen("    B\n", "\tB\n", 1)
+        .replacen("P [avg]", "P [avg", 1)
+        .replacen("q: Q", "q: X", 1)
+        .replacen("f: avg", "f avg", 1)
+        .replacen("A, [access P] => [{avg}]", "A, [read P] => forbid", 1);
+    let expected = "3: found a tab before the first word; expected spaces\n\
+                    7: found the end of the line; expected ',' or ']'\n\
+                    12: found 'X'; expected a data category or '-'\n\
+                    14: found 'avg'; expected ':'\n\
+                    16: found 'read'; expected projection, condition or access";
+    assert_eq!(mistake_in(&policy), expected);
+}
+
+#[test]
+fn all_that_the_engine_refuses_is_shown() {
+    let policy = POLICY.replacen("q: Q\n", "q: P\n  r: R\n  s: All\n", 1)
+        + "  A, [access P exclude P] => forbid\n  B, [access S] => [{avg}]\n";
+    let mistakes = mistake_in(&policy);
+    let starts = [
+        "12: refused 6: found the label P for the column q; ",
+        "14: refused 6: found the label All for the column s; ",
+        "19: refused 7: found P excluded from P; ",
+        "20: refused 9: found the operation avg for S; ",
+    ];
+    let lines: Vec<&str> = mistakes.lines().collect();
+    assert_eq!(lines.len(), 4, "{mistakes}");
+    for (line, start) in lines.iter().zip(starts) {
+        assert!(line.starts_with(start), "{line}");
+    }
+}
+
+/// A mistake in a line of a tree is not repeated for the lines below it.
+#[test]
+fn one_mistake_is_one_line() {
+    let bad = POLICY.replacen("  All\n", "  7all\n", 1);
+    assert_eq!(
+        mistake_in(&bad),
+        "6: found '7all'; expected the name of a data category"
+    );
+    let deep = POLICY.replacen("      Q\n", "     Q\n", 1);
+    assert_eq!(mistake_in(&deep).lines().count(), 1);
+}
+
+#[test]
+fn more_than_fit_a_screen() {
+    let columns: String = (0..100).map(|i| format!("  c{i}: X\n")).collect();
+    let mistakes = policy::read(&POLICY.replacen("  q: Q\n", &columns, 1)).expect_err("100");
+    let said = mistakes.in_file("x");
+    assert_eq!(said.lines().count(), 21);
+    assert!(said.ends_with("\nx: and 80 mistakes more"));
+}
+
+#[test]
+fn letters_that_cannot_be_seen() {
+    let marked = format!("\u{feff}{POLICY}");
+    assert!(policy::read(&marked).is_ok());
+    says(
+        "q: Q",
+        "\u{feff}q: Q",
+        "12: found '\\u{feff}'; expected the name of a column",
+    );
+    says(
+        "users",
+        "use\u{200b}rs",
+        "1: found 'use\\u{200b}rs' at the left margin; \
+         expected the section operations or users",
+    );
+}
+
+#[test]
+fn long_names() {
+    let most = "x".repeat(64);
+    assert!(policy::read(&POLICY.replace('S', &most)).is_ok());
+    says(
+        "    S",
+        &format!("    {}", "é".repeat(65)),
+        "10: found a name of 65 letters; expected at most 64",
+    );
+    says(
+        "q: Q",
+        &format!("{}: Q", "q".repeat(100_000)),
+        "12: found a name of 100000 letters; expected at most 64",
+    );
+    let long = mistake_in(&POLICY.replacen("q: Q", &format!("q: {}", "Q".repeat(99_999)), 1));
+    assert!(long.len() < 200, "{long}");
 }

@@ -74,9 +74,12 @@ fn judged(user: &str, plan: &str) -> (i32, String, String) {
 fn judging() {
     let plan =
         "0 = column State\noutput 0\nprice\n3 = sum(2)  # the column's own name above\noutput 3\n";
-    let broken = "Report breaks rule 1 (Analyst, [access Price] => [{avg}])\n\
+    let broken = "Report breaks rule 1 (Analyst, [access Price] => [{avg}])\n  \
+                  access Price: output sum(Price), line 5 from line 3\n\
                   Report breaks rule 2 (Report, [projection Address, projection Price] \
-                  => [{}, {avg}])\n";
+                  => [{}, {avg}])\n  \
+                  projection Address: output State, line 2 from line 1\n  \
+                  projection Price: output sum(Price), line 5 from line 3\n";
     assert_eq!(
         judged("Report", plan),
         (1, broken.to_string(), String::new())
@@ -89,8 +92,8 @@ fn judging() {
         judged("Analyst", ""),
         (1, String::new(), no_user.to_string())
     );
-    let unknown = "found the user 'Bob'; expected one of Report, Marketing\n";
-    assert_eq!(judged("Bob", ""), (2, String::new(), unknown.to_string()));
+    let unknown = "refused: found the user 'Bob'; expected one of Report, Marketing\n";
+    assert_eq!(judged("Bob", ""), (1, String::new(), unknown.to_string()));
 }
 
 /// The complaint about a plan.
@@ -272,7 +275,7 @@ fn wrong_arguments_and_files() {
     );
     complains(
         &["build", "x"],
-        "found 'build x'; expected build POLICY.pspec -o BOOK\n\n",
+        "found 'build x'; expected build POLICY -o BOOK\n\n",
     );
     complains(&["show"], "found 'show'; expected show BOOK\n\n");
     complains(&["report", "no.book"], "no.book: can't be read: ");
@@ -285,8 +288,64 @@ fn wrong_arguments_and_files() {
         &["build", &policy, "-o", "none/x.book"],
         "none/x.book: can't be written: ",
     );
-    let (status, help, _) = run(&folder, &["help"]);
-    assert!(status == 0 && help.contains("outside the proof"));
+}
+
+#[test]
+fn help_and_version() {
+    let folder = folder("help");
+    let says = |arguments: &[&str], text: &str| {
+        let (status, answer, complaint) = run(&folder, arguments);
+        assert_eq!((status, complaint.as_str()), (0, ""));
+        assert!(answer.contains(text), "{answer}");
+    };
+    says(&["help"], "outside the proof");
+    says(&["--help"], "pspec-book judge BOOK USER PLAN");
+    for asked in [["report", "--help"], ["report", "-h"], ["help", "report"]] {
+        says(&asked, "pspec-book report BOOK");
+    }
+    says(
+        &["judge", "no.book", "--help"],
+        "pspec-book judge BOOK USER PLAN",
+    );
+    let version = concat!("pspec-book ", env!("CARGO_PKG_VERSION"), "\n").to_string();
+    assert_eq!(run(&folder, &["--version"]), (0, version, String::new()));
+}
+
+/// A file whose name starts with '-' stands after '--'; options may stand anywhere before it.
+#[test]
+fn options_and_files() {
+    let folder = shop("options");
+    fs::copy(folder.join("shop.pspec"), folder.join("-shop")).expect("it is copied");
+    let built = run(&folder, &["build", "-o", "x.book", "--", "-shop"]);
+    assert_eq!(built.0, 0);
+    for wrong in [
+        &["build", "-shop", "-o", "x.book"][..],
+        &["build", "shop.pspec", "-o"],
+        &["build", "shop.pspec", "-o", "x", "-o", "y"],
+        &["build", "shop.pspec", "other.pspec", "-o", "x"],
+        &["show", "shop.book", "--json"],
+    ] {
+        let (status, answer, complaint) = run(&folder, wrong);
+        assert_eq!((status, answer.as_str()), (2, ""));
+        assert!(complaint.starts_with("found '"), "{complaint}");
+    }
+}
+
+#[test]
+fn one_rule() {
+    let folder = folder("one-rule");
+    let policy = "users\n  A\ndata\n  D\nrules\n  A, [access D] => forbid\n";
+    fs::write(folder.join("p.pspec"), policy).expect("it is written");
+    let (_, answer, _) = run(&folder, &["build", "p.pspec", "-o", "p.book"]);
+    assert_eq!(answer, "p.book: 5 blocks, 1 rule; names in p.book.names\n");
+}
+
+#[test]
+fn all_mistakes_of_a_plan() {
+    let complaint = "p.txt:1: found 'prices'; expected 'column', a function, 'choose', 'output' \
+                     or 'where'\np.txt:3: found 'x'; expected the number of a row\n";
+    let judged = judged("Report", "prices\nprice\noutput x\noutput 1\n");
+    assert_eq!(judged, (1, String::new(), complaint.to_string()));
 }
 
 #[test]
@@ -294,10 +353,11 @@ fn a_mistake_has_its_file_and_line() {
     let folder = folder("mistake");
     fs::write(
         folder.join("bad.pspec"),
-        "users\n  A\ndata\n  D\nrules\n  A, [read D] => forbid\n",
+        "users\n  A\ndata\n  D\nrules\n  A, [read D] => forbid\n  B, [access D] => forbid\n",
     )
     .expect("it is written");
-    let complaint = "bad.pspec:6: found 'read'; expected projection, condition or access\n";
+    let complaint = "bad.pspec:6: found 'read'; expected projection, condition or access\n\
+                     bad.pspec:7: found 'B'; expected a user category that the policy names\n";
     let ran = run(&folder, &["build", "bad.pspec", "-o", "bad.book"]);
     assert_eq!(ran, (1, String::new(), complaint.to_string()));
     assert!(!folder.join("bad.book").exists());

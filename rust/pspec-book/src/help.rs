@@ -1,0 +1,47 @@
+//! The texts that the program reads, what its exit status says, and what is proved.
+
+/// What `pspec-book help` prints below the commands.
+pub const HELP: &str = "\
+A policy (# starts a comment):
+
+  users                     a tree by indentation; the first line is the root
+    Analyst
+      Report
+  data                      the same, with each category's own operations
+    All
+      Address
+        City
+      Price [avg, sum]
+  columns                   a data leaf, or - for an unlabelled column
+    price: Price
+  functions                 an operation, or - for none
+    mean: avg
+  rules                     one a line
+    Analyst exclude Report, [access Price] => [{avg}]
+    Analyst, [projection Address exclude City, condition Price] => [{}, {avg}] or [{}, {sum}]
+    Report, [projection City] => forbid
+
+Actions are projection, condition and access; 'or' stands between restrictions. Numbers follow the
+order of the lines, and operations their first appearance. A section 'operations' at the top, one a
+line, gives another order. 'Name under Parent', indented as the root is, gives a category's parent
+where the order of the lines keeps it from standing below it.
+
+A name has at most 64 letters, digits, '_', '-' and '.', and starts with a letter or '_'.
+
+A plan, one row a line, its number optional; USER is a user without others below it:
+
+  0 = column price          a column, or a label for its lowest column
+  1 = mean(0)               a function of one row or two
+  2 = choose 0 ? 0 : 1      row 0 decides
+  output 2
+  where 1
+
+Names are taken from BOOK.names; without that file they are numbers, such as user0 or data3.
+
+Exit status: 0 when the answer is given and, for judge, no rule is broken; 1 when the policy, the
+book, the user or the plan is refused, or a rule is broken, so that only 0 opens a gate; 2 for wrong
+arguments, a file that can't be read or written, or names of another book.
+
+Every answer about a book comes from the proved engine: the book check, Judge and Idle. This program
+stands outside the proof: that a text means the blocks made of it, and the words around an answer,
+are tried by tests only.";

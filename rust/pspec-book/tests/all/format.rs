@@ -1,0 +1,87 @@
+//! `docs/FORMAT.md`: its bytes and answers are those of the engine.
+
+use crate::common::{file, text};
+use pspec::{Book, Plan, Refusal, BLOCK};
+
+fn small_shop() -> Vec<u8> {
+    std::fs::read(file("crates/policyreport/data/small.book")).expect("it is there")
+}
+
+/// The cells of the tables' lines, without the marks of code.
+fn cells(text: &str) -> impl Iterator<Item = Vec<String>> + '_ {
+    let lines = text.lines().filter(|line| line.starts_with("| "));
+    lines.map(|line| {
+        let cells = line.trim_matches('|').split('|');
+        cells
+            .map(|cell| cell.trim().trim_matches('`').to_string())
+            .collect()
+    })
+}
+
+fn hexadecimal(text: &str) -> Vec<u8> {
+    let digits: String = text.split_whitespace().collect();
+    let pairs = (0..digits.len()).step_by(2);
+    pairs
+        .map(|i| u8::from_str_radix(&digits[i..i + 2], 16).expect("it is a byte"))
+        .collect()
+}
+
+#[test]
+fn the_listing_is_the_small_shop() {
+    let format = text("docs/FORMAT.md");
+    let (_, listing) = format.split_once("```text\n").expect("it is there");
+    let (listing, _) = listing.split_once("```").expect("it ends");
+    let mut bytes: Vec<u8> = Vec::new();
+    for line in listing.lines() {
+        if line.starts_with("block ") {
+            bytes.resize(bytes.len() + BLOCK, 0);
+            continue;
+        }
+        let (place, rest) = line.split_once(": ").expect("a place");
+        let place: usize = place.trim().parse().expect("it is a number");
+        let (fields, _) = rest.split_once("  ").expect("a comment");
+        let start = bytes.len() - BLOCK + place;
+        let fields = hexadecimal(fields);
+        bytes[start..start + fields.len()].copy_from_slice(&fields);
+    }
+    assert_eq!(bytes, small_shop());
+}
+
+#[test]
+fn the_plans_are_judged_so() {
+    let book = Book::new(small_shop()).expect("it is sound");
+    let format = text("docs/FORMAT.md");
+    let (_, plans) = format.split_once("## The plan").expect("it is there");
+    let (plans, _) = plans.split_once("## The calls").expect("it ends");
+    let mut judged = 0;
+    for row in cells(plans).filter(|row| row.len() == 4 && row[3] != "User 2") {
+        let plan = Plan::new(hexadecimal(&row[1]));
+        for (user, said) in [(1, &row[2]), (2, &row[3])] {
+            let broken = book.judge(user, &plan).broken().expect("it is a plan");
+            let rules: Vec<String> = broken.rules().map(|r| r.to_string()).collect();
+            let wanted = if rules.is_empty() {
+                "none".to_string()
+            } else {
+                rules.join(", ")
+            };
+            assert_eq!(said, &wanted, "{}", row[0]);
+            judged += 1;
+        }
+    }
+    assert_eq!(judged, 16);
+}
+
+#[test]
+fn every_refusal_is_explained() {
+    let format = text("docs/FORMAT.md");
+    let (_, refusals) = format.split_once("## The refusals").expect("it is there");
+    let mut explained = Vec::new();
+    for row in cells(refusals) {
+        let Ok(number) = row[0].parse() else { continue };
+        let name = format!("{:?}", Refusal::of(number, 0));
+        assert_eq!(name.split(' ').next(), Some(row[1].as_str()));
+        explained.push(number);
+    }
+    let known = |&number: &u32| !matches!(Refusal::of(number, 0), Refusal::Unknown { .. });
+    assert!((0..256).filter(known).eq(explained));
+}

@@ -1,0 +1,89 @@
+//! What breaks a rule, against the engine on random books and plans.
+
+use crate::common::numbered;
+use books::valid::{self, Size};
+use books::{plans, Random};
+use pspec::{Access, Plan};
+use pspec_book::breaking::breaking;
+use pspec_book::hierarchy::leaves;
+use pspec_book::lineage::traced;
+use pspec_book::named::NamedBook;
+use pspec_book::plan::PlanText;
+
+const SIZES: [Size; 4] = [Size::Tiny, Size::Small, Size::Middle, Size::Large];
+
+/// A random book and a sound plan for it, a line for each row.
+fn case(seed: u64) -> (NamedBook, PlanText) {
+    let mut random = Random::new(seed);
+    let draft = valid::draft(&mut random, SIZES[seed as usize % 4]);
+    let plan = Plan::new(plans::sound(&mut random, &draft));
+    let lines = (1..=plan.rows().count()).collect();
+    (numbered(draft.bytes()), PlanText { plan, lines })
+}
+
+/// Every access that the engine finds has a line that gives it and a column's line, and both are
+/// such rows.
+#[test]
+fn every_access_comes_from_somewhere() {
+    for seed in 0..800 {
+        let (named, plan) = case(seed);
+        let rows: Vec<[u8; 4]> = plan.plan.rows().collect();
+        for of in traced(&plan, &named).expect("it is a plan") {
+            assert!(!of.lines.is_empty());
+            for (&sink, columns) in &of.lines {
+                assert!((3..=5).contains(&rows[sink - 1][0]));
+                for &column in columns {
+                    let [kind, a, ..] = rows[column - 1];
+                    assert_eq!(kind, 1);
+                    assert_eq!(named.contents.columns[usize::from(a)], of.access.leaf);
+                }
+            }
+        }
+    }
+}
+
+/// A plan that gives these accesses and no others.
+fn plan_of(accesses: &[Access], named: &NamedBook) -> Option<Plan> {
+    let mut rows: Vec<[u8; 4]> = Vec::new();
+    for access in accesses {
+        let of = |list: &[u8], number| list.iter().position(|&one| one == number);
+        let column = of(&named.contents.columns, access.leaf)? as u8;
+        rows.push([1, column, 0, 0]);
+        if access.operation > 0 {
+            let function = of(&named.contents.functions, access.operation)? as u8;
+            rows.push([2, function, rows.len() as u8 - 1, 255]);
+        }
+        rows.push([4 + access.action as u8, rows.len() as u8 - 1, 0, 0]);
+    }
+    (rows.len() <= 64).then(|| Plan::new(rows.concat()))
+}
+
+/// Something is found for each reference exactly when the engine says that the rule is broken; and
+/// a plan of what is found breaks it as well.
+#[test]
+fn what_is_found_breaks_the_rule() {
+    let (mut broken_rules, mut again) = (0, 0);
+    for seed in 0..800 {
+        let (named, plan) = case(seed);
+        let accesses = named.book.flows(&plan.plan).expect("it is a plan");
+        let accesses: Vec<Access> = accesses.iter().collect();
+        for user in leaves(&named.contents.users, 0, &[]) {
+            let judged = named.book.judge(user.into(), &plan.plan).broken();
+            let judged = judged.expect("it is a plan");
+            for (r, rule) in named.contents.rules.iter().enumerate() {
+                let covered = leaves(&named.contents.users, rule.user, &rule.excluded);
+                let found = breaking(rule, &named.contents, &accesses);
+                let found_all = found.iter().all(|of| !of.is_empty());
+                let broken = judged.contains(r as u32);
+                assert_eq!(broken, found_all && covered.contains(&user));
+                if let (true, Some(plan)) = (broken, plan_of(&found.concat(), &named)) {
+                    let again_judged = named.book.judge(user.into(), &plan).broken();
+                    assert!(again_judged.expect("it is a plan").contains(r as u32));
+                    again += 1;
+                }
+                broken_rules += usize::from(broken);
+            }
+        }
+    }
+    assert!(broken_rules > 1000 && again > 500, "{broken_rules} {again}");
+}
