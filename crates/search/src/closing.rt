@@ -5,15 +5,16 @@ use book::sets::word_at;
 use book::sets::word_if;
 ghost use mathlib.Core.Path.{_≡_};
 ghost use mathlib.Core.Bool.{_&&_, not};
-ghost use Prim.Native.Nat.{ℕ, _+_, _*_, _%_};
+ghost use Prim.Native.Nat.{ℕ, _+_, _*_, _%_, _<_};
 ghost use lib.ListN.{getD};
 ghost use Rattle.book.specs.Sets.{has};
 ghost use Rattle.search.specs.Inner.Places.{inPlaces, PlacesOf};
 ghost use Rattle.search.specs.Inner.Table.{meets};
 ghost use Rattle.search.specs.Inner.Closing.{acceptedAt, meetsWith, Masked};
+ghost use Rattle.search.specs.Inner.Search.{referenceAt, accepts};
 
 // Whether place p meets reference i of rule q.
-fn meets(t: &[u64], q: u8, i: u8, p: usize) -> bool
+pub fn meets(t: &[u64], q: u8, i: u8, p: usize) -> bool
     ensures { λ r. ⌜ r ≡ meets (now (t .entry)) q i p ⌝ }
 {
     contains(
@@ -40,6 +41,28 @@ pub fn accepted_beside(t: &[u64], q: u8, i: u8, k: u8, l: u8, b: usize, c: usize
         found = found | word_if(first & second, taken_word(t, q, i, j));
     }
     found
+}
+
+// The reference of a rule with n references that stands i-th.
+pub fn reference_at(n: u8, i: u8) -> u8
+    ensures { λ r. ⌜ (r ≡ referenceAt n i) × (r < 3) ⌝ }
+{
+    ((i as usize + n as usize) % 3) as u8
+}
+
+// The operations of a third place that rule r accepts beside a and y.
+pub fn accepted_third(t: &[u64], r: u8, n: u8, a: usize, y: usize) -> u64
+    ensures { λ w. ⌜ ((p : ℕ) → has w (p % 64) ≡ accepts (now (t .entry)) r n a y p) ⌝ }
+{
+    accepted_beside(
+        t,
+        r,
+        reference_at(n, 2),
+        reference_at(n, 0),
+        reference_at(n, 1),
+        a,
+        y,
+    )
 }
 
 // For each reference of a rule the operations that break it there.
