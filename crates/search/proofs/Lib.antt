@@ -5,6 +5,7 @@ pub mod Sieves
 pub mod Solutions
 pub mod SearchSteps
 pub mod Candidates
+pub mod SettlingLaws
 pub mod UserLaws
 pub mod LowestLaws
 pub mod OneRow

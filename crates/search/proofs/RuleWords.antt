@@ -72,18 +72,6 @@ module _ (rule : List ℕ) (i j p : ℕ) where
       said
       ∙ rw (k, taken (p % 16), lt-ltb (p % 16) 16 (omega arith), e, lt-ltb j (restrictionCount rule) h)
 
--- a rule's word past the places says nothing of leaves
-pub word-leaves :
-    (rule : List ℕ) (leaves other k word : ℕ)
-    → RuleWord rule leaves k word
-    → (k < 99 → leaves ≡ other)
-    → RuleWord rule other k word
-word-leaves rule leaves other k word w same =
-    record {
-      meeting = λ low p l e. w .meeting low p l e ∙ ap (λ (x : ℕ). meetsReference rule x (k / 33) p) (same low);
-      taking = w .taking;
-    }
-
 -- Tables
 
 -- word m of the tables

@@ -5,15 +5,16 @@ use book::sets::word_at;
 use book::sets::word_if;
 ghost use mathlib.Core.Path.{_≡_};
 ghost use mathlib.Core.Bool.{_&&_, not};
-ghost use Prim.Native.Nat.{ℕ, _+_, _*_, _%_};
+ghost use Prim.Native.Nat.{ℕ, _+_, _*_, _%_, _<_};
 ghost use lib.ListN.{getD};
 ghost use Rattle.book.specs.Sets.{has};
 ghost use Rattle.search.specs.Inner.Places.{inPlaces, PlacesOf};
 ghost use Rattle.search.specs.Inner.Table.{meets};
-ghost use Rattle.search.specs.Inner.Closing.{acceptedAt, closesAt, closesBy, meetsWith};
+ghost use Rattle.search.specs.Inner.Closing.{acceptedAt, meetsWith, Masked};
+ghost use Rattle.search.specs.Inner.Search.{referenceAt, accepts};
 
 // Whether place p meets reference i of rule q.
-fn meets(t: &[u64], q: u8, i: u8, p: usize) -> bool
+pub fn meets(t: &[u64], q: u8, i: u8, p: usize) -> bool
     ensures { λ r. ⌜ r ≡ meets (now (t .entry)) q i p ⌝ }
 {
     contains(
@@ -42,21 +43,63 @@ pub fn accepted_beside(t: &[u64], q: u8, i: u8, k: u8, l: u8, b: usize, c: usize
     found
 }
 
-// The operations that break rule q at reference i, with b at k and c at l.
-fn closing_one(t: &[u64], q: u8, i: u8, k: u8, l: u8, b: usize, c: usize) -> u64
-    ensures { λ r. ⌜ ((p : ℕ) → has r (p % 64) ≡ closesAt (now (t .entry)) q i k l b c p) ⌝ }
+// The reference of a rule with n references that stands i-th.
+pub fn reference_at(n: u8, i: u8) -> u8
+    ensures { λ r. ⌜ (r ≡ referenceAt n i) × (r < 3) ⌝ }
 {
-    if meets(t, q, k, b) & meets(t, q, l, c) {
+    ((i as usize + n as usize) % 3) as u8
+}
+
+// The operations of a third place that rule r accepts beside a and y.
+pub fn accepted_third(t: &[u64], r: u8, n: u8, a: usize, y: usize) -> u64
+    ensures { λ w. ⌜ ((p : ℕ) → has w (p % 64) ≡ accepts (now (t .entry)) r n a y p) ⌝ }
+{
+    accepted_beside(
+        t,
+        r,
+        reference_at(n, 2),
+        reference_at(n, 0),
+        reference_at(n, 1),
+        a,
+        y,
+    )
+}
+
+// For each reference of a rule the operations that break it there.
+pub struct Masks {
+    pub first: u64,
+    pub second: u64,
+    pub third: u64,
+}
+
+// The operations that break rule q at reference i, with b at k and c at l, if these meet theirs.
+fn closing_if(met: bool, t: &[u64], q: u8, i: u8, k: u8, l: u8, b: usize, c: usize) -> u64
+    ensures { λ r. ⌜ ((p : ℕ) → has r (p % 64) ≡ (met && not (acceptedAt (now (t .entry)) q i k l b c p))) ⌝ }
+{
+    if met {
         return !accepted_beside(t, q, i, k, l, b, c);
     }
     0
 }
 
-// In either order of b and c.
-pub fn closing_mask(t: &[u64], q: u8, i: u8, k: u8, l: u8, b: usize, c: usize) -> u64
-    ensures { λ r. ⌜ ((p : ℕ) → has r (p % 64) ≡ closesBy (now (t .entry)) q i k l b c p) ⌝ }
+// The operations that break rule q beside b and c, in either order of them.
+pub fn closing_masks(t: &[u64], q: u8, b: usize, c: usize) -> Masks
+    ensures { λ r. ⌜ Masked (now (t .entry)) q b c r ⌝ }
 {
-    closing_one(t, q, i, k, l, b, c) | closing_one(t, q, i, k, l, c, b)
+    let b_first = meets(t, q, 0, b);
+    let b_second = meets(t, q, 1, b);
+    let b_third = meets(t, q, 2, b);
+    let c_first = meets(t, q, 0, c);
+    let c_second = meets(t, q, 1, c);
+    let c_third = meets(t, q, 2, c);
+    Masks {
+        first: closing_if(b_second & c_third, t, q, 0, 1, 2, b, c)
+            | closing_if(c_second & b_third, t, q, 0, 1, 2, c, b),
+        second: closing_if(b_first & c_third, t, q, 1, 0, 2, b, c)
+            | closing_if(c_first & b_third, t, q, 1, 0, 2, c, b),
+        third: closing_if(b_first & c_second, t, q, 2, 0, 1, b, c)
+            | closing_if(c_first & b_second, t, q, 2, 0, 1, c, b),
+    }
 }
 
 // A set without the places that meet a reference of rule q with one of the operations given for it.

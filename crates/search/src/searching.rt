@@ -1,21 +1,23 @@
 // The first three places, one for each reference of rule r, that break r and no rule of a set. The
 // references stand in their order with absent ones first, so the last one always stands third and
 // is never looped over.
-use crate::closing::accepted_beside;
+use crate::closing::accepted_third;
+use crate::closing::reference_at;
 use crate::places::NOWHERE;
 use crate::places::PAST_PLACES;
 use crate::places::first_from;
 use crate::places::is_empty;
+use crate::settling::SETTLING;
+use crate::settling::settle;
 use crate::sifting::Remaining;
 use crate::sifting::sift;
 use book::sets::word_at;
-ghost use mathlib.Core.Path.{_≡_};
 ghost use mathlib.Core.Bool.{_&&_, not};
-ghost use Prim.Native.Nat.{_%_, _<_};
+ghost use Prim.Native.Nat.{_%_};
 ghost use Rattle.book.specs.Sets.{has};
 ghost use Rattle.search.specs.Inner.Places.{inPlaces, PlacesOf};
-ghost use Rattle.search.specs.Inner.Search.{referenceAt, candidate, solves, solvesIn, solvesFirst, solvesBeside};
-ghost use Rattle.search.specs.Inner.Search.{Searched, SearchedFrom, Thirds, Possible};
+ghost use Rattle.search.specs.Inner.Search.{candidate, solves, solvesIn, solvesFirst, solvesBeside, solvesPair};
+ghost use Rattle.search.specs.Inner.Search.{Searched, SearchedFrom, SearchedSince, Thirds, Possible};
 
 // The first three places; or the rules that took places away, and which of them did so last.
 pub enum Sought {
@@ -30,14 +32,7 @@ pub enum Sought {
     },
 }
 
-// The reference that stands i-th.
-fn reference_at(n: u8, i: u8) -> u8
-    ensures { λ r. ⌜ (r ≡ referenceAt n i) × (r < 3) ⌝ }
-{
-    ((i as usize + n as usize) % 3) as u8
-}
-
-// The places that can be chosen for it.
+// The places that can be chosen for the reference that stands i-th.
 fn candidates(t: &[u64], r: u8, n: u8, had: [u64; 32], i: u8) -> [u64; 33]
     ensures { λ c. ⌜ PlacesOf (candidate (now (t .entry)) r n had i) c ⌝ }
 {
@@ -69,15 +64,7 @@ fn without_operations(set: [u64; 33], operations: u64) -> [u64; 33]
 fn thirds(t: &[u64], r: u8, n: u8, rules: u64, a: usize, y: usize, before: Remaining) -> Remaining
     ensures { λ s. ⌜ Thirds (now (t .entry)) r n rules a y before s ⌝ }
 {
-    let accepted = accepted_beside(
-        t,
-        r,
-        reference_at(n, 2),
-        reference_at(n, 0),
-        reference_at(n, 1),
-        a,
-        y,
-    );
+    let accepted = accepted_third(t, r, n, a, y);
     let all = before.places;
     let places = without_operations(all, accepted);
     let refused = Remaining {
@@ -86,6 +73,53 @@ fn thirds(t: &[u64], r: u8, n: u8, rules: u64, a: usize, y: usize, before: Remai
         last: before.last,
     };
     sift(t, rules, a, y, refused)
+}
+
+// The first third place beside a and y.
+fn beside_both(
+    t: &[u64],
+    r: u8,
+    n: u8,
+    rules: u64,
+    a: usize,
+    y: usize,
+    places: [u64; 33],
+    seen: u64,
+    last: u8,
+) -> Sought
+    ensures { λ s. ⌜ SearchedSince (solvesPair (now (t .entry)) r n a y places) rules seen s ⌝ }
+{
+    let from = Remaining {
+        places,
+        rules: seen,
+        last,
+    };
+    let rest = thirds(t, r, n, rules, a, y, from);
+    let open = rest.places;
+    let x = first_from(open, 0);
+    if x < PAST_PLACES {
+        return Sought::Found {
+            first: a,
+            second: y,
+            third: x,
+        };
+    }
+    Sought::Nothing {
+        rules: rest.rules,
+        last: rest.last,
+    }
+}
+
+// How often in a row the same rule took last. Nothing is promised of it: it only says when to ask
+// what that rule settles.
+fn in_a_row(turns: u8, again: bool) -> u8 {
+    if !again {
+        return 0;
+    }
+    if turns <= SETTLING {
+        return turns + 1;
+    }
+    turns
 }
 
 // The first second and third place beside first place a.
@@ -106,26 +140,24 @@ fn beside(
     if is_empty(places) {
         return Sought::Nothing { rules: seen, last };
     }
-    let mut y = first_from(seconds, 0);
+    let mut waiting = seconds;
+    let mut turns = 0u8;
+    let mut y = first_from(waiting, 0);
     while y < PAST_PLACES {
-        let from = Remaining {
-            places,
-            rules: seen,
-            last,
+        let sought = beside_both(t, r, n, rules, a, y, places, seen, last);
+        let Sought::Nothing {
+            rules: more,
+            last: next,
+        } = sought
+        else {
+            return sought;
         };
-        let rest = thirds(t, r, n, rules, a, y, from);
-        let open = rest.places;
-        let x = first_from(open, 0);
-        if x < PAST_PLACES {
-            return Sought::Found {
-                first: a,
-                second: y,
-                third: x,
-            };
-        }
+        turns = in_a_row(turns, last == next);
+        let rest = settle(t, r, n, rules, a, places, turns, waiting, more, next);
+        waiting = rest.places;
         seen = rest.rules;
         last = rest.last;
-        y = first_from(seconds, y + 1);
+        y = first_from(waiting, y + 1);
     }
     Sought::Nothing { rules: seen, last }
 }

@@ -10,13 +10,13 @@ use book::fields::rule_at;
 use book::rules::covered_users;
 use book::rules::leaf_set;
 use book::sets::contains;
+use book::sets::word_at;
 use book::sets::word_if;
 use verdicts::breaking::action_fits;
 use verdicts::breaking::all_if_zero;
 ghost use mathlib.Core.Path.{_≡_};
 ghost use mathlib.Core.Bool.{cond};
-ghost use Prim.Native.Nat.{_+_, _*_, _/_, _≤_, _<_};
-ghost use lib.ListN.{getD};
+ghost use Prim.Native.Nat.{_≤_};
 ghost use Rattle.book.specs.Sets.{has};
 ghost use Rattle.search.specs.Inner.Table.{FittingWord, ReferenceWord, RestrictionWord, RuleWord, LeafSets};
 ghost use Rattle.search.specs.Inner.Table.{TableHolds, CoveredWord, CoversHold};
@@ -97,19 +97,6 @@ fn leaf_sets(book: &[u8], n: u8) -> [u64; 96]
     sets
 }
 
-// The leaf set that word k of rule q is about.
-fn leaves_for(sets: [u64; 96], q: usize, k: usize) -> u64
-    ensures { λ r. ⌜ (q < 32 → k < 99 → r ≡ getD sets (3 * q + k / 33) 0) ⌝ }
-{
-    if 32 <= q {
-        return 0;
-    }
-    if 99 <= k {
-        return 0;
-    }
-    sets[3 * q + k / 33]
-}
-
 // The tables of the first n rules.
 pub fn table(book: &[u8], n: u8) -> [u64; 4096]
     ensures { λ r. ⌜ (n ≤ 32 → TableHolds (now (book .entry)) n r) ⌝ }
@@ -121,7 +108,7 @@ pub fn table(book: &[u8], n: u8) -> [u64; 4096]
     }
     let count = 128 * (n as usize);
     for m in 0..count {
-        let leaves = leaves_for(sets, m / 128, m % 128);
+        let leaves = word_at(&sets, 3 * (m / 128) + m % 128 / 33);
         t[m] = rule_word(rule_at(book, (m / 128) as u8), leaves, m % 128);
     }
     t

@@ -76,13 +76,13 @@ fn search_for(
 ) -> Sought
     ensures { λ s. ⌜ (AllSettle (now (t .entry)) r n had masks → SearchedFor (now (t .entry)) r n had covered u s) ⌝ }
 {
-    let rules = others(covered, r, u);
     if !covers(covered, r, u) {
         return Sought::Nothing {
             rules: UNSETTLED,
             last,
         };
     }
+    let rules = others(covered, r, u);
     if settled(masks, rules) {
         return Sought::Nothing {
             rules: UNSETTLED,

@@ -1,6 +1,6 @@
 -- Which places break a rule beside two others, in the tables' terms. No call's promise leans on this file. Assumes
 -- nothing.
-use Prim.Native.Nat.{ℕ, _%_, _≤_, _<_}
+use Prim.Native.Nat.{ℕ, _%_, _<_}
 use mathlib.Core.Path.{_≡_}
 use mathlib.Core.Bool.{Bool, true, false, _&&_, _||_, not}
 use mathlib.Core.List.{List}
@@ -8,6 +8,7 @@ use Rattle.book.specs.Lists.{any, upTo}
 use Rattle.book.specs.Sets.{has}
 use Rattle.search.specs.Inner.Places.{inPlaces, pastPlaces, PlacesOf}
 use Rattle.search.specs.Inner.Table.{meets, takesAt}
+use Rattle.search.specs.declared.closing.Masks.{Masks}
 use Rattle.search.specs.declared.sifting.Remaining.{Remaining}
 
 -- some restriction takes p at reference i, b at k and c at l
@@ -35,6 +36,12 @@ meetsWith t q first second third p =
     (meets t q 0 p && has first (p % 64))
     || ((meets t q 1 p && has second (p % 64)) || (meets t q 2 p && has third (p % 64)))
 
+-- the operations that break rule q at each of its references beside b and c
+pub record Masked (t : List ℕ) (q b c : ℕ) (masks : Masks) : Type 0 where
+  pub first : (p : ℕ) → has (masks .first) (p % 64) ≡ closesBy t q 0 1 2 b c p
+  pub second : (p : ℕ) → has (masks .second) (p % 64) ≡ closesBy t q 1 0 2 b c p
+  pub third : (p : ℕ) → has (masks .third) (p % 64) ≡ closesBy t q 2 0 1 b c p
+
 -- Sets of rules
 
 abbrev pub Within : (ℕ → Bool) → (ℕ → Bool) → Type 0
@@ -58,6 +65,10 @@ pub record Turned (t : List ℕ) (q b c : ℕ) (before after : Remaining) : Type
       → inPlaces (after .places) p ≡ false
       → has (after .rules) q ≡ true
 
+-- it did so by its masks
+abbrev pub TurnedBy : List ℕ → ℕ → Masks → Remaining → Remaining → Type 0
+TurnedBy t q masks before after = (b c : ℕ) → q < 32 → Masked t q b c masks → Turned t q b c before after
+
 -- rules of a set did so, one after the other; those that are done leave nothing that breaks them
 pub record Sifted (t : List ℕ) (rules : ℕ) (done : ℕ → Bool) (b c : ℕ) (before after : Remaining) : Type 0 where
   pub within : (p : ℕ) → p < pastPlaces → inPlaces (after .places) p ≡ true → inPlaces (before .places) p ≡ true
@@ -77,9 +88,3 @@ pub record Sifted (t : List ℕ) (rules : ℕ) (done : ℕ → Bool) (b c : ℕ)
       → any (λ q. has (after .rules) q && closes t q b c p) (upTo 32) ≡ true
   pub more : Within (has (before .rules)) (has (after .rules))
   pub only : Grown (has rules) (has (before .rules)) (has (after .rules))
-
--- of a set of rules those that are left when some that break at no place are dropped
-pub record Skipping (t : List ℕ) (rules b c left : ℕ) : Type 0 where
-  pub fewer : left ≤ rules
-  pub members : Within (has left) (has rules)
-  pub idle : (q p : ℕ) → has rules q ≡ true → has left q ≡ false → closes t q b c p ≡ false

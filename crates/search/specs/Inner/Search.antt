@@ -27,9 +27,13 @@ candidate t r n had i p =
     cond (ltb (referenceAt n i) n)
     (ltb p nowhere && (has (getD had (p / 64) 0) (p % 64) && meets t r (referenceAt n i) p)) (eqb p nowhere)
 
--- no restriction of rule r accepts the three places
+-- some restriction of rule r accepts the three places
+abbrev pub accepts : List ℕ → ℕ → ℕ → ℕ → ℕ → ℕ → Bool
+accepts t r n a y x = acceptedAt t r (referenceAt n 2) (referenceAt n 0) (referenceAt n 1) a y x
+
+-- none does
 unfoldable pub refuses : List ℕ → ℕ → ℕ → ℕ → ℕ → ℕ → Bool
-refuses t r n a y x = not (acceptedAt t r (referenceAt n 2) (referenceAt n 0) (referenceAt n 1) a y x)
+refuses t r n a y x = not (accepts t r n a y x)
 
 -- the three places break rule q: one by itself, two of them with the first, or all
 unfoldable pub drops : List ℕ → ℕ → ℕ → ℕ → ℕ → Bool
@@ -65,6 +69,12 @@ solvesBeside t r n f seconds thirds rules a y x =
     (eqb a f && (inPlaces seconds y && inPlaces thirds x))
     && (refuses t r n a y x && not (any (λ q. rules q && closes t q a y x) (upTo 32)))
 
+-- the same for a first place f and a second place s
+unfoldable pub solvesPair : List ℕ → ℕ → ℕ → ℕ → ℕ → List ℕ → (ℕ → Bool) → ℕ → ℕ → ℕ → Bool
+solvesPair t r n f s thirds rules a y x =
+    (eqb a f && (eqb y s && inPlaces thirds x))
+    && (refuses t r n a y x && not (any (λ q. rules q && closes t q a y x) (upTo 32)))
+
 -- the order of choices
 unfoldable pub tripleBefore : ℕ → ℕ → ℕ → ℕ → ℕ → ℕ → Bool
 tripleBefore a y x b z w = ltb a b || (eqb a b && (ltb y z || (eqb y z && ltb x w)))
@@ -85,10 +95,13 @@ unfoldable pub Searched : ((ℕ → Bool) → ℕ → ℕ → ℕ → Bool) → 
 Searched test rules before (Found a y x) = Solved (test (has rules)) a y x
 Searched test rules before (Nothing marked last) = Unsolved test (has rules) (has before) (has marked)
 
--- what it answers that is given the third places and the marked rules, these being among the rules
+-- what it answers that is given marked rules which are among the rules
+abbrev pub SearchedSince : ((ℕ → Bool) → ℕ → ℕ → ℕ → Bool) → ℕ → ℕ → Sought → Type 0
+SearchedSince test rules before sought = Within (has before) (has rules) → Searched test rules before sought
+
+-- the same with the third places
 abbrev pub SearchedFrom : (List ℕ → (ℕ → Bool) → ℕ → ℕ → ℕ → Bool) → ℕ → Remaining → Sought → Type 0
-SearchedFrom test rules before sought =
-    Within (has (before .rules)) (has rules) → Searched (test (before .places)) rules (before .rules) sought
+SearchedFrom test rules before sought = SearchedSince (test (before .places)) rules (before .rules) sought
 
 -- the last reference's places beside the two before
 pub record Thirds (t : List ℕ) (r n rules a y : ℕ) (before after : Remaining) : Type 0 where
@@ -110,6 +123,60 @@ pub record Thirds (t : List ℕ) (r n rules a y : ℕ) (before after : Remaining
       → any (λ q. has (after .rules) q && closes t q a y x) (upTo 32) ≡ true
   pub more : Within (has (before .rules)) (has (after .rules))
   pub only : Grown (has rules) (has (before .rules)) (has (after .rules))
+
+-- Second places that one rule settles
+
+-- rule q takes at reference i every place of a set but those with its own operations: it accepts only others
+abbrev pub TakesAll : List ℕ → ℕ → ℕ → List ℕ → ℕ → ℕ → Type 0
+TakesAll t q i thirds own other =
+    (x : ℕ)
+    → x < pastPlaces
+    → inPlaces thirds x ≡ true
+    → has own (x % 64) ≡ false
+    → (meets t q i x && not (has other (x % 64))) ≡ true
+
+-- operations of a second place at l, with a at k, beside which it takes at i every third place that r refuses
+abbrev pub SettledWith : List ℕ → ℕ → ℕ → ℕ → ℕ → ℕ → ℕ → ℕ → List ℕ → ℕ → Type 0
+SettledWith t r n q i k l a thirds operations =
+    (y x : ℕ)
+    → x < pastPlaces
+    → has operations (y % 64) ≡ true
+    → inPlaces thirds x ≡ true
+    → refuses t r n a y x ≡ true
+    → (meets t q i x && not (acceptedAt t q i k l a y x)) ≡ true
+
+-- second places are gone beside which every third place that r refuses is taken
+pub record Settled
+    (t : List ℕ)
+    (r n a : ℕ)
+    (thirds : List ℕ)
+    (taken : ℕ → ℕ → Bool)
+    (before after : List ℕ)
+    : Type 0 where
+  pub within : (y : ℕ) → y < pastPlaces → inPlaces after y ≡ true → inPlaces before y ≡ true
+  pub gone :
+      (y x : ℕ)
+      → y < pastPlaces
+      → x < pastPlaces
+      → inPlaces before y ≡ true
+      → inPlaces after y ≡ false
+      → inPlaces thirds x ≡ true
+      → refuses t r n a y x ≡ true
+      → taken y x ≡ true
+
+-- by a rule that is marked
+pub record SettledBy
+    (t : List ℕ)
+    (r n rules a : ℕ)
+    (thirds seconds : List ℕ)
+    (seen : ℕ)
+    (after : Remaining)
+    : Type 0 where
+  pub settled :
+      Settled t r n a thirds (λ y x. any (λ q. has (after .rules) q && closes t q a y x) (upTo 32)) seconds
+      (after .places)
+  pub more : Within (has seen) (has (after .rules))
+  pub only : Grown (has rules) (has seen) (has (after .rules))
 
 -- the places that can be chosen for the i-th reference, less what breaks a rule by itself
 pub record Possible (t : List ℕ) (r n : ℕ) (had : List ℕ) (rules i seen : ℕ) (after : Remaining) : Type 0 where

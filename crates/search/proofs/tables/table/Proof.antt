@@ -1,11 +1,9 @@
 -- One word a turn (`Filled`); the law `table-holds` reads the words as the book. Assumes nothing.
-use Prim.Native.Nat.{_+_, _-_, _*_, _/_, _%_, _≤_}
+use Prim.Native.Nat.{_-_, _*_, _≤_}
 use native.Mathlib.Omega.{arith}
-use lib.ListN.{getD}
 use denote.Ref.{now}
-use Rattle.book.specs.Blocks.{ruleAt}
 use Rattle.lineage.proofs.Tables.{Filled, fill-none, fill-more}
-use Rattle.search.proofs.RuleWords.{TableWord, word-leaves, table-holds}
+use Rattle.search.proofs.RuleWords.{TableWord, table-holds}
 use borrow.Author.Needs.{needs}
 use Rattle.search.proofs.tables.table.Statement.{statement}
 use Rattle.search.proofs.tables.table.Tie as tie
@@ -23,17 +21,11 @@ loop-holds : tie.Need-loop-holds Inv-loop μ-loop
 loop-holds c = (omega arith, fill-none (search needs))
 
 loop-again : tie.Need-loop-again Inv-loop μ-loop
-loop-again c =
-    let m = c .before .before .before .before .loop .m in
-    let book = now (c .before .before .before .before .before .before .before .before .args .book) in
-    let sets = c .before .before .before .before .before .before .leaf-sets .result in (
-      omega arith,
-      fill-more (c .before .before .before .before .loop .inv .1) (omega arith)
-          (word-leaves (ruleAt book (m / 128)) (c .before .before .leaves-for .result)
-          (getD sets (3 * (m / 128) + m % 128 / 33) 0) (m % 128) (c .rule-word .result)
-          (rw (← (c .before .rule-at .ensures)) (c .rule-word .ensures))
-          (c .before .before .leaves-for .ensures (omega arith))),
-    )
+loop-again c = (
+  omega arith,
+  fill-more (c .before .before .before .before .before .loop .inv .1) (omega arith)
+      (rw (← (c .before .rule-at .ensures), ← (c .before .before .word-at .ensures)) (c .rule-word .ensures)),
+)
 
 returns-2 : tie.Need-returns-2 Inv-loop μ-loop
 returns-2 c few =
@@ -52,6 +44,9 @@ table-spec =
     returns
     (λ c. search needs)
     loop-holds
+    (λ c. search needs)
+    (λ c. search needs)
+    (λ c. search needs)
     (λ c κs. search needs)
     (λ c. search needs)
     (λ c κs. search needs)
