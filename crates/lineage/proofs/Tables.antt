@@ -6,7 +6,7 @@ use mathlib.Core.Path.{_≡_, refl, sym, ap, _∙_}
 use mathlib.Core.Logic.{⊎-elim}
 use mathlib.Core.Bool.{Bool, true, false, _&&_, cond}
 use mathlib.Core.List.{List}
-use lib.ListN.{length, getD, set, length-set}
+use lib.ListN.{length, getD, set, length-set, List·getD-eq-default}
 use lib.Seq.{getD-set-same, getD-set-other}
 use lib.Bits.{bitOr, or-zero-r}
 use lib.Dec.{eqb, ltb}
@@ -95,15 +95,18 @@ row-more {i} {new} {old} {n} {l} {k} {v} r small m e =
         ∙ r .at j q
         ∙ rw (beside i k j (eqb-false j (16 * i + k) t) small)
 
-pub row-skip :
-    {i : ℕ} {new old : ℕ → ℕ} {n : ℕ} {l : List ℕ} {k : ℕ} →
-    Rowed i new old n l k → k < 16 → n ≤ 16 * i + k → Rowed i new old n l (k + 1)
-row-skip {i} {k = k} r small m =
-    record {
-      bound = omega arith;
-      size = r .size;
-      at = λ j q. r .at j q ∙ rw (beside i k j (λ z. omega arith) small);
-    }
+-- a table of whole rows that has no row i
+pub row-past : (i n j x y : ℕ) → n < 16 * i + 16 → n % 16 ≡ 0 → j < n → y ≡ cond (eqb (j / 16) i) x y
+row-past i n j x y past whole h = rw (ne-eqb (j / 16) i (λ e. omega arith))
+
+pub word-past :
+    (table : List ℕ) (r k : ℕ)
+    → length table < 16 * r + 16
+    → length table % 16 ≡ 0
+    → _≡_ {A = ℕ} 0 (getD table (16 * r + k) 0)
+word-past table r k past whole =
+    let out : length table ≤ 16 * r + k = omega arith in
+    sym (List·getD-eq-default table 0 out)
 
 pub row-end :
     {i : ℕ} {new old : ℕ → ℕ} {n : ℕ} {l : List ℕ} {k : ℕ} →

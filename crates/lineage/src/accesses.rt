@@ -28,12 +28,12 @@ fn with_row(words: [u64; 32], s: usize, row: [u64; 16]) -> [u64; 32]
 fn with_given(words: [u64; 32], plan: &[u8], table: &[u64], i: u8) -> [u64; 32]
     ensures { λ r. ⌜ GatheredStep (now (plan .entry)) (now (table .entry)) i words r ⌝ }
 {
-    let row = row_words(table, row_a(plan, i));
+    let a = row_a(plan, i);
     let kind = kind(plan, i);
     match kind {
-        3 => with_row(words, 1, row),
-        4 => with_row(words, 0, row),
-        5 => with_row(words, 1, row),
+        3 => with_row(words, 1, row_words(table, a)),
+        4 => with_row(words, 0, row_words(table, a)),
+        5 => with_row(words, 1, row_words(table, a)),
         _ => words,
     }
 }

@@ -5,7 +5,7 @@ pub mod Users
 pub mod Accesses
 pub mod Offers
 pub mod Choices
-pub mod Pairs
+pub mod ChoiceWords
 pub mod Monotone
 pub mod Semantic
 pub mod Verdict

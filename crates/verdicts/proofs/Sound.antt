@@ -5,7 +5,7 @@ use native.Mathlib.Nat.{lt-of-lt-of-le}
 use mathlib.Core.Path.{_≡_, refl, sym, ap, _∙_}
 use mathlib.Core.Bool.{Bool, true, false, _&&_, not, false≢true}
 use mathlib.Core.List.{List}
-use lib.ListN.{length, getD, take, drop, length-take, List·getD-eq-default}
+use lib.ListN.{length, getD, take, drop, length-take, length-drop, List·getD-eq-default}
 use lib.Seq.{getD-take, getD-drop}
 use lib.Dec.{eqb, ltb}
 use lib.Bits.{and-mask}
@@ -35,6 +35,7 @@ module _
     (h : HeadHolds head)
     (r : RuleHolds head rule)
     (bytes : (i : ℕ) → getD rule i 0 < 256)
+    (whole : length rule ≡ 512)
   where
     -- a mask for an absent reference names nothing
     absent-mask :
@@ -68,6 +69,8 @@ module _
           leaves = h .data-most;
           some = r .references-some;
           few = r .references-most;
+          whole = whole;
+          restrictions = r .restrictions-most;
           absent = absent-mask;
         }
 
@@ -92,11 +95,16 @@ module _ (book : List ℕ) (accepted : BookAccepted book) where
   few-rules =
       accepted-length book accepted .1
 
+  rule-whole : (r : ℕ) → r < ruleCount book → length (ruleAt book r) ≡ 512
+  rule-whole r l =
+      let size = accepted-length book accepted .0 in
+      rw (length-take, length-drop (512 * (4 + r)) book) (omega arith)
+
   pub rules-sound :
       ((i : ℕ) → getD book i 0 < 256) → (r : ℕ) → r < ruleCount book → RuleSound (headOf book) (ruleAt book r)
   rules-sound bytes r l =
       rule-sound (headOf book) (ruleAt book r) (accepted-head book accepted)
-      (accepted-rule book accepted r l) (rule-bytes book bytes r)
+      (accepted-rule book accepted r l) (rule-bytes book bytes r) (rule-whole r l)
 
 -- The mask
 

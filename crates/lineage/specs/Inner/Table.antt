@@ -12,7 +12,7 @@ use Rattle.book.specs.Sets.{has, WordOf}
 use Rattle.book.specs.Blocks.{Head}
 use Rattle.book.specs.Head.{isDataLeaf, operation}
 use Rattle.book.specs.Inner.Reading.{Supporting}
-use Rattle.lineage.specs.Rows.{Plan, Apply, kindAt, rowA}
+use Rattle.lineage.specs.Rows.{Plan, Apply, kindAt, rowA, rowB, rowC}
 use Rattle.lineage.specs.Paths.{labels}
 use Rattle.lineage.specs.Accesses.{reaches, gives}
 
@@ -25,10 +25,22 @@ pub record PlanSound (head : Head) (plan : Plan) : Type 0 where
 abbrev pub RowReached : Head → Plan → ℕ → List ℕ → Type 0
 RowReached head plan i row = (k : ℕ) → k < 16 → WordOf (λ d. reaches head plan i d k) (getD row k 0)
 
--- the rows below i, sixteen words each; the others are empty
-abbrev pub Reached : Head → Plan → ℕ → List ℕ → Type 0
-Reached head plan i table =
-    (r k : ℕ) → k < 16 → WordOf (λ d. ltb r i && reaches head plan r d k) (getD table (16 * r + k) 0)
+-- a table of whole rows, sixteen words each: the rows below i; the others are empty
+pub record Reached (head : Head) (plan : Plan) (i : ℕ) (table : List ℕ) : Type 0 where
+  pub whole : length table % 16 ≡ 0
+  pub at : (r k : ℕ) → k < 16 → WordOf (λ d. ltb r i && reaches head plan r d k) (getD table (16 * r + k) 0)
+
+-- the words of row r of a table of whole rows; all zero past its end
+abbrev pub RowOf : (table : List ℕ) (r : ℕ) (row : List ℕ) → Type 0
+RowOf table r row = length table % 16 ≡ 0 → (k : ℕ) → k < 16 → getD row k 0 ≡ getD table (16 * r + k) 0
+
+-- the words of the two rows that row i names, joined
+abbrev pub Brought : Plan → (table : List ℕ) (i : ℕ) (row : List ℕ) → Type 0
+Brought plan table i row =
+    length table % 16 ≡ 0
+    → (k : ℕ)
+    → k < 16
+    → getD row k 0 ≡ bitOr (getD table (16 * rowB plan i + k) 0) (getD table (16 * rowC plan i + k) 0)
 
 -- the words of a Column row: its labels, without an operation
 abbrev pub ColumnReached : Head → ℕ → List ℕ → Type 0
@@ -49,11 +61,14 @@ Moved row o supporting next =
     ((has (getD row k 0) d && not (eqb k 0 && (not (eqb o 0) && has (getD supporting o 0) d)))
     || (eqb k o && ((not (eqb o 0) && has (getD supporting o 0) d) && has (getD row 0 0) d)))
 
--- row i of a table written, all else as it was
+-- row i of a table of whole rows written, all else as it was
 abbrev pub Stored : ℕ → List ℕ → List ℕ → List ℕ → Type 0
 Stored i row before after =
     (length after ≡ length before)
-    × ((j : ℕ) → j < length before → getD after j 0 ≡ cond (eqb (j / 16) i) (getD row (j % 16) 0) (getD before j 0))
+    × (length before % 16 ≡ 0
+    → (j : ℕ)
+    → j < length before
+    → getD after j 0 ≡ cond (eqb (j / 16) i) (getD row (j % 16) 0) (getD before j 0))
 
 -- where row i gives accesses, they are those of a row below n
 abbrev pub Given : Plan → ℕ → ℕ → Type 0

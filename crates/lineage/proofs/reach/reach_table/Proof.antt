@@ -19,7 +19,7 @@ abbrev μ-loop : tie.MeasureT-loop
 loop-holds : tie.Need-loop-holds Inv-loop μ-loop
 loop-holds c =
     let a = c .before .before .before .args in
-    (search needs, search needs, λ sound few. reached-none (a .head .now) (a .plan .now) 1024)
+    (search needs, search needs, λ sound few. reached-none (a .head .now) (a .plan .now))
 
 loop-again : tie.Need-loop-again Inv-loop μ-loop
 loop-again c =
