@@ -1,5 +1,5 @@
-// Flows. A case has the number of words and the plan's length in bytes, where they are not 32 and
-// four a row. The words are all ones before the call.
+// Flows. A case has the number of words where that is not 32, and the length in bytes at which the
+// plan is cut, where it is. The words are all ones before the call.
 use crate::answers::Answer;
 use crate::answers::malformed;
 use crate::answers::refused;

@@ -1,5 +1,6 @@
 // Judge. A case has the user, the book's length in bytes where that is not seven blocks, and the
-// plan's where that is not four a row. An answer is a refusal, or the mask of the broken rules.
+// length at which the plan is cut, where it is. An answer is a refusal, or the mask of the broken
+// rules.
 use crate::answers::Answer;
 use crate::answers::refused;
 use crate::answers::say;

@@ -1,7 +1,10 @@
-// Decimal numbers in a text: at most four, with spaces between them.
+// Decimal numbers in a text: at most four, with spaces or line ends between them.
+// More than four, or something else than numbers.
+const MALFORMED: usize = 5;
+
 pub struct Numbers {
     values: [u32; 4],
-    // How many there are; 5 where something else stands there.
+    // How many there are, or MALFORMED.
     count: usize,
     // Whether one more is being read.
     open: bool,
@@ -24,11 +27,11 @@ impl Numbers {
     fn with_digit(mut self, digit: u8) -> Numbers {
         let at = self.count;
         if 3 < at {
-            return zeros(5);
+            return zeros(MALFORMED);
         }
         let value = longer(self.values[at], digit);
         if 4294967295 < value {
-            return zeros(5);
+            return zeros(MALFORMED);
         }
         self.values[at] = value as u32;
         self.open = true;
@@ -48,14 +51,14 @@ impl Numbers {
     }
 
     fn with_byte(self, byte: u8) -> Numbers {
-        if byte == b' ' {
+        if byte <= b' ' {
             return self.closed();
         }
         if byte < b'0' {
-            return zeros(5);
+            return zeros(MALFORMED);
         }
         if b'9' < byte {
-            return zeros(5);
+            return zeros(MALFORMED);
         }
         self.with_digit(byte - b'0')
     }

@@ -31,10 +31,12 @@ fn value(reader: u32, asked: u32, head: &[u8], rule: &[u8]) -> u64 {
 pub fn answered(asked: Numbers, blocks: &[u8]) -> Answer {
     let book = part(blocks, 0, asked.or(3, 3584) as usize);
     let rule = 512 * (asked.number(2) as usize);
-    say(b" ").number(value(
-        asked.number(0),
+    let reader = asked.number(0);
+    let read = value(
+        reader,
         asked.number(1),
         part(book, 0, 2048),
         part(book, rule, 512),
-    ))
+    );
+    say(b" ").number(read).if_sound((0 < reader) & (reader < 7))
 }

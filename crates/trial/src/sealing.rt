@@ -89,5 +89,6 @@ fn sealed_twice(first: [u8; 18944], length: usize) -> Answer {
 pub fn answered(asked: Numbers, edits: &[u8]) -> Answer {
     let space = edited(zeros(), edits);
     let bytes = space.bytes;
-    sealed_twice(bytes, asked.number(0) as usize).if_sound(space.sound)
+    let length = asked.number(0) as usize;
+    sealed_twice(bytes, length).if_sound(space.sound & (length <= 18944))
 }

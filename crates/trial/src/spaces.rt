@@ -20,11 +20,16 @@ pub fn zeros() -> Space {
 }
 
 impl Space {
+    // What is no byte, or past the end, is malformed.
     fn put(mut self, i: usize, value: u32) -> Space {
-        if i < 18944 {
-            self.bytes[i] = (value % 256) as u8;
+        if 255 < value {
+            return self.malformed();
         }
-        self
+        if i < 18944 {
+            self.bytes[i] = value as u8;
+            return self;
+        }
+        self.malformed()
     }
 
     // Writes a value at start, and so many times in all, each a stride further and a step higher.
