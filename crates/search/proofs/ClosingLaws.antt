@@ -1,6 +1,6 @@
 -- Laws of the tables: the operations that some restriction takes beside two places, those that break a rule, and sets
 -- less the places that do. Assumes nothing.
-use Prim.Native.Nat.{ℕ, _+_, _*_, _-_, _/_, _%_, _^_, _<_}
+use Prim.Native.Nat.{ℕ, _+_, _*_, _-_, _/_, _%_, _^_, _≤_, _<_}
 use native.Mathlib.Omega.{arith}
 use native.Mathlib.Nat.{lt-of-le-of-lt}
 use mathlib.Core.Path.{_≡_, refl, ap}
@@ -8,16 +8,25 @@ use mathlib.Core.Bool.{Bool, true, false, _&&_, _||_, not, cond}
 use mathlib.Core.List.{List}
 use lib.ListN.{getD}
 use lib.Bits.{bitAnd, bitOr, and-le-r, or-lt}
-use borrow.Author.Tests.{lt-ltb}
+use lib.Dec.{ltb}
+use borrow.Author.Tests.{lt-ltb, ltb-false}
 use Rattle.book.specs.Lists.{any, upTo}
 use Rattle.book.specs.Sets.{has}
-use Rattle.book.proofs.Lists.{any-none, any-more, or-assoc, and-assoc}
+use Rattle.book.proofs.Lists.{any-none, any-more, or-neither, or-assoc, and-assoc}
 use Rattle.book.proofs.Members.{has-zero, has-or, has-and, has-not, has-minus}
 use Rattle.lineage.proofs.Tables.{Filled}
 use Rattle.verdicts.proofs.Marks.{has-if}
 use Rattle.search.specs.Inner.Places.{inPlaces}
 use Rattle.search.specs.Inner.Table.{meets, takesAt}
 use Rattle.search.specs.Inner.Closing.{acceptedAt, closesAt, closesBy, meetsWith}
+
+-- the code's test of the length
+pub room-for :
+    (n x y z : ℕ) → (ltb n x || (ltb n y || ltb n z)) ≡ false → (x ≤ n) × (y ≤ n) × (z ≤ n)
+room-for n x y z e =
+    let one = or-neither (ltb n x) (ltb n y || ltb n z) e in
+    let two = or-neither (ltb n y) (ltb n z) (one .1) in
+    (ltb-false n x (one .0), ltb-false n y (two .0), ltb-false n z (two .1))
 
 module _ (t : List ℕ) (q i k l b c : ℕ) where
   -- The restrictions

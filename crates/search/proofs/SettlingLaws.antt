@@ -9,10 +9,11 @@ use mathlib.Core.List.{List}
 use lib.ListN.{getD}
 use lib.Dec.{eqb, ltb}
 use lib.Bits.{bitAnd, bitOr, and-le-r, or-lt}
+use borrow.Author.Count.{below-more}
 use borrow.Author.Tests.{not-true, eqb-true, eq-eqb, lt-ltb}
 use Rattle.book.specs.Lists.{any, upTo}
 use Rattle.book.specs.Sets.{has, WordOf}
-use Rattle.book.proofs.Lists.{and-true, and-left, and-right, and-both, or-left, or-right, or-rest, or-true, any-same}
+use Rattle.book.proofs.Lists.{and-true, and-left, and-right, and-both, or-left, or-neither, or-right, or-rest, or-true, any-same}
 use Rattle.book.proofs.Members.{has-zero, has-or, has-and, has-not}
 use Rattle.lineage.proofs.Tables.{Filled}
 use Rattle.verdicts.proofs.Marks.{has-if}
@@ -55,21 +56,31 @@ module _ (t : List ℕ) (q i : ℕ) (thirds : List ℕ) (own other : ℕ) where
       bitAnd (getD thirds w 0) ((2 ^ 64 - 1)
       - bitOr own (bitAnd (getD t (128 * q + 33 * i + w) 0) ((2 ^ 64 - 1) - other)))
 
+  -- what the rule leaves of the first w words is in the rest
+  abbrev pub Leaving : ℕ → ℕ → Type 0
+  Leaving w rest = (k : ℕ) → k < w → (j : ℕ) → has rest j ≡ false → has (wordLeft k) j ≡ false
+
+  pub leaving-more : (w rest : ℕ) → Leaving w rest → Leaving (w + 1) (bitOr rest (wordLeft w))
+  leaving-more w rest old =
+      below-more _ _ (λ k l j h. old k l j (or-neither (has rest j) (has (wordLeft w) j) (sym (has-or rest (wordLeft w) j) ∙ h) .0))
+      (λ j h. or-neither (has rest j) (has (wordLeft w) j) (sym (has-or rest (wordLeft w) j) ∙ h) .1)
+
   pub takes-all :
-      (w : ℕ)
+      (w rest : ℕ)
       → own < 2 ^ 64
       → other < 2 ^ 64
       → 33 ≤ w
-      → ((k : ℕ) → k < w → wordLeft k ≡ 0)
+      → rest ≡ 0
+      → Leaving w rest
       → TakesAll t q i thirds own other
   unfolding inPlaces meets
-  takes-all w fits small past none x l inside free =
+  takes-all w rest fits small past empty leaving x l inside free =
       let met = getD t (128 * q + 33 * i + x / 64) 0 in
       let room : bitOr own (bitAnd met ((2 ^ 64 - 1) - other)) < 2 ^ 64 =
       or-lt 64 own (bitAnd met ((2 ^ 64 - 1) - other)) fits
       (lt-of-le-of-lt (and-le-r met ((2 ^ 64 - 1) - other)) (omega arith)) in
       let gone : has (wordLeft (x / 64)) (x % 64) ≡ false =
-      ap (λ (k : ℕ). has k (x % 64)) (none (x / 64) (omega arith)) ∙ has-zero (x % 64) in
+      leaving (x / 64) (omega arith) (x % 64) (ap (λ (k : ℕ). has k (x % 64)) empty ∙ has-zero (x % 64)) in
       not-holds (has met (x % 64) && not (has other (x % 64)))
       (rw (
         minus-at (getD thirds (x / 64) 0) (bitOr own (bitAnd met ((2 ^ 64 - 1) - other))) x room,

@@ -31,7 +31,8 @@ fn taken_word(t: &[u64], q: u8, i: u8, j: u8) -> u64
 }
 
 // The operations that some restriction takes at reference i beside place b at k and place c at l.
-pub fn accepted_beside(t: &[u64], q: u8, i: u8, k: u8, l: u8, b: usize, c: usize) -> u64
+// The tables may end before them.
+fn accepted_by_words(t: &[u64], q: u8, i: u8, k: u8, l: u8, b: usize, c: usize) -> u64
     ensures { λ r. ⌜ ((p : ℕ) → has r (p % 64) ≡ acceptedAt (now (t .entry)) q i k l b c p) ⌝ }
 {
     let mut found = 0u64;
@@ -39,6 +40,25 @@ pub fn accepted_beside(t: &[u64], q: u8, i: u8, k: u8, l: u8, b: usize, c: usize
         let first = contains(taken_word(t, q, k, j), b % 64);
         let second = contains(taken_word(t, q, l, j), c % 64);
         found = found | word_if(first & second, taken_word(t, q, i, j));
+    }
+    found
+}
+
+// The same, with one test of the length: this is what the search does most.
+pub fn accepted_beside(t: &[u64], q: u8, i: u8, k: u8, l: u8, b: usize, c: usize) -> u64
+    ensures { λ r. ⌜ ((p : ℕ) → has r (p % 64) ≡ acceptedAt (now (t .entry)) q i k l b c p) ⌝ }
+{
+    let at = 128 * (q as usize) + 99;
+    let x = at + 8 * (k as usize);
+    let y = at + 8 * (l as usize);
+    let z = at + 8 * (i as usize);
+    if (t.len() < x + 8) | ((t.len() < y + 8) | (t.len() < z + 8)) {
+        return accepted_by_words(t, q, i, k, l, b, c);
+    }
+    let mut found = 0u64;
+    for j in 0..8usize {
+        let both = contains(t[x + j], b % 64) & contains(t[y + j], c % 64);
+        found = found | word_if(both, t[z + j]);
     }
     found
 }

@@ -24,13 +24,14 @@ fn takes_all(t: &[u64], q: u8, i: u8, thirds: [u64; 33], own: u64, other: u64) -
     ensures { λ r. ⌜ (r ≡ true → TakesAll (now (t .entry)) q i thirds own other) ⌝ }
 {
     let at = 128 * (q as usize) + 33 * (i as usize);
-    for w in 0..33usize {
-        let met = word_at(t, at + w);
-        if thirds[w] & !(own | met & !other) != 0 {
-            return false;
-        }
+    if t.len() < at + 33 {
+        return false;
     }
-    true
+    let mut rest = 0u64;
+    for w in 0..33usize {
+        rest = rest | thirds[w] & !(own | t[at + w] & !other);
+    }
+    rest == 0
 }
 
 // The operations of a second place at l, with a at k, beside which rule q takes at i every third
