@@ -1,11 +1,12 @@
--- Both hierarchies of a book under one name, for the functions that serve both, and the words that the crates above
--- keep. No call's promise leans on this file. Assumes nothing.
-use Prim.Native.Nat.{ℕ, _<_}
+-- Both hierarchies of a book under one name, for the functions that serve both, the bytes that a check sums, and the
+-- words that the crates above keep. No call's promise leans on this file. Assumes nothing.
+use Prim.Native.Nat.{ℕ, _≤_, _<_}
+use mathlib.Core.Path.{_≡_}
 use mathlib.Core.Bool.{_&&_}
 use mathlib.Core.List.{List}
-use lib.ListN.{getD}
+use lib.ListN.{getD, take}
 use Rattle.book.specs.Sets.{WordOf}
-use Rattle.book.specs.Blocks.{Head}
+use Rattle.book.specs.Blocks.{Block, Head, weighted}
 use Rattle.book.specs.Head.{userCount, userParent, dataCount, dataParent, isDataLeaf, supports}
 use Rattle.book.specs.declared.Hierarchy.{Hierarchy}
 use Rattle.book.specs.declared.Hierarchy.the-variants.{Users, Data}
@@ -17,6 +18,11 @@ countIn Data head = dataCount head
 abbrev pub parentIn : Hierarchy → Head → ℕ → ℕ
 parentIn Users head i = userParent head i
 parentIn Data head i = dataParent head i
+
+-- the first n bytes of a block give the sum of its check
+pub record SumsTo (block : Block) (n : ℕ) : Type 0 where
+  pub within : n ≤ 510
+  pub same : weighted 1 (take n block) ≡ weighted 1 (take 510 block)
 
 -- for each operation the leaves that support it
 abbrev pub Supporting : Head → List ℕ → Type 0
