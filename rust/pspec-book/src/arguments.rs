@@ -75,6 +75,12 @@ pub const COMMANDS: &[Command] = &[
         about: "make a book of a policy, and BOOK.names beside it",
     },
     Command {
+        name: "check",
+        operands: &["POLICY"],
+        options: &[],
+        about: "find the mistakes of a policy, and write nothing",
+    },
+    Command {
         name: "show",
         operands: &["BOOK"],
         options: &[],
@@ -84,13 +90,25 @@ pub const COMMANDS: &[Command] = &[
         name: "report",
         operands: &["BOOK"],
         options: &[],
-        about: "which rules are idle, and what breaks each other one alone",
+        about: "which rules are idle and why, and what breaks each other one alone",
+    },
+    Command {
+        name: "labels",
+        operands: &["BOOK"],
+        options: &[],
+        about: "what no column or function gives, and which rules nothing can break for it",
     },
     Command {
         name: "judge",
         operands: &["BOOK", "USER", "PLAN"],
         options: &[],
-        about: "which rules a user and a plan break",
+        about: "which rules a user and a plan break, and by what",
+    },
+    Command {
+        name: "flows",
+        operands: &["BOOK", "PLAN"],
+        options: &[],
+        about: "what a plan gives away",
     },
 ];
 

@@ -5,9 +5,11 @@ use crate::fault::Fault;
 use crate::files::{self, open, read_text};
 use crate::help::HELP;
 use crate::judge::{self, NotJudged};
+use crate::lineage::{self, Traced};
 use crate::named::NamedBook;
-use crate::text::counted;
-use crate::{build, policy, report, show};
+use crate::plan::{self, PlanText};
+use crate::text::{counted, Mistakes};
+use crate::{build, explain, labels, policy, report, show};
 use std::io::{self, Write};
 
 /// How a command ends that gives its answer.
@@ -33,6 +35,11 @@ fn carry_out(arguments: &Arguments, out: &mut dyn Write) -> Result<Outcome, Faul
     let operands: Vec<&str> = arguments.operands.iter().map(String::as_str).collect();
     match (arguments.command.name, operands.as_slice()) {
         ("build", [policy]) => build(policy, arguments.option("-o").unwrap_or_default(), out),
+        ("check", [policy]) => {
+            let rules = made(policy)?.book.rule_count() as usize;
+            let rules = counted(rules, "rule");
+            said(writeln!(out, "{policy}: {rules}, no mistake"))
+        }
         ("show", [book]) => {
             let NamedBook {
                 contents, names, ..
@@ -40,6 +47,8 @@ fn carry_out(arguments: &Arguments, out: &mut dyn Write) -> Result<Outcome, Faul
             said(write!(out, "{}", show::text(&contents, &names)))
         }
         ("report", [book]) => said(report::write(&open(book)?, out).map(|_| ())),
+        ("labels", [book]) => labels(book, out),
+        ("flows", [book, plan]) => flows(book, plan, out),
         ("judge", [book, user, plan]) => judge(book, user, plan, out),
         (name, _) => Err(Fault::Usage(format!("found '{name}'"))),
     }
@@ -66,6 +75,33 @@ fn build(policy: &str, book: &str, out: &mut dyn Write) -> Result<Outcome, Fault
         counted(rules, "rule"),
         names.display()
     ))
+}
+
+fn labels(book: &str, out: &mut dyn Write) -> Result<Outcome, Fault> {
+    let labels = labels::labels(&open(book)?);
+    let labels = labels.map_err(|refusal| Fault::Refused(format!("{book}: {refusal}")))?;
+    said(write!(out, "{}", labels.text()))
+}
+
+/// The plan of a text, and what it gives away.
+fn traced(named: &NamedBook, plan: &str) -> Result<(PlanText, Vec<Traced>), Fault> {
+    let refused = |mistakes: Mistakes| Fault::Refused(mistakes.in_file(plan));
+    let read = plan::read(&read_text(plan)?, named).map_err(refused)?;
+    let traced = lineage::traced(&read, named);
+    let traced = traced.map_err(|refusal| refused(explain::plan(refusal, &read).into()))?;
+    Ok((read, traced))
+}
+
+fn flows(book: &str, plan: &str, out: &mut dyn Write) -> Result<Outcome, Fault> {
+    let named = open(book)?;
+    let (_, accesses) = traced(&named, plan)?;
+    if accesses.is_empty() {
+        return said(writeln!(out, "The plan gives nothing away."));
+    }
+    for access in accesses {
+        said(writeln!(out, "{}", access.text(&named.names)))?;
+    }
+    Ok(Outcome::Fine)
 }
 
 fn judge(book: &str, user: &str, plan: &str, out: &mut dyn Write) -> Result<Outcome, Fault> {

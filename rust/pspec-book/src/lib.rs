@@ -41,6 +41,7 @@ pub mod files;
 pub mod help;
 pub mod hierarchy;
 pub mod judge;
+pub mod labels;
 pub mod lineage;
 pub mod named;
 pub mod names;

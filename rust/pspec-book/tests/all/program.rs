@@ -271,7 +271,7 @@ fn wrong_arguments_and_files() {
     complains(&[], "found no command\n\npspec-book build ");
     complains(
         &["look"],
-        "found 'look'; expected build, show, report, judge or help\n\n",
+        "found 'look'; expected build, check, show, report, labels, judge, flows",
     );
     complains(
         &["build", "x"],
@@ -373,4 +373,69 @@ fn a_policy_is_not_written_over() {
         text_of(&folder, "shop.pspec"),
         text("examples/small-shop.pspec")
     );
+}
+
+#[test]
+fn checking_writes_nothing() {
+    let folder = folder("check");
+    let policy = text("examples/small-shop.pspec");
+    fs::write(folder.join("shop.pspec"), &policy).expect("it is written");
+    let said = "shop.pspec: 3 rules, no mistake\n".to_string();
+    let checked = run(&folder, &["check", "shop.pspec"]);
+    assert_eq!(checked, (0, said, String::new()));
+    let wrong = policy.replace("city: City", "city: Town");
+    fs::write(folder.join("shop.pspec"), wrong).expect("it is written");
+    let complaint = "shop.pspec:17: found 'Town'; expected a data category or '-'\n".to_string();
+    let checked = run(&folder, &["check", "shop.pspec"]);
+    assert_eq!(checked, (1, String::new(), complaint));
+    let files = fs::read_dir(&folder).expect("it is there").count();
+    assert_eq!(files, 1);
+}
+
+/// What a plan on the small shop gives away.
+fn flows(plan: &str) -> (i32, String, String) {
+    let folder = shop(&format!("flows-{:x}", plan.len()));
+    fs::write(folder.join("p.txt"), plan).expect("it is written");
+    run(&folder, &["flows", "shop.book", "p.txt"])
+}
+
+#[test]
+fn what_a_plan_gives_away() {
+    let plan = "0 = column price\n1 = avg(0)\n2 = state\n3 = choose 0 ? 1 : 2\n\n\
+                output 3\noutput 3\nwhere 2\nnote\noutput 7\n";
+    let accesses = "output State, line 6 from line 3, line 7 from line 3\n\
+                    output avg(Price), line 6 from line 1, line 7 from line 1\n\
+                    condition State, line 8 from line 3\n\
+                    condition Price, line 4 from line 1\n";
+    assert_eq!(flows(plan), (0, accesses.to_string(), String::new()));
+    let nothing = "The plan gives nothing away.\n".to_string();
+    assert_eq!(flows("price\n"), (0, nothing, String::new()));
+    let complaint = "p.txt:1: refused 22: found row 0 named by row 0; expected a row above it\n";
+    assert_eq!(flows("output 0"), (1, String::new(), complaint.to_string()));
+}
+
+#[test]
+fn what_is_not_labelled() {
+    let folder = shop("labels");
+    let nothing = "Columns without a label: note\nLeaves that no column has: none\n\
+                   Operations that no function has: none\n\
+                   Rules that nothing can break for want of a column: none\n";
+    let said = run(&folder, &["labels", "shop.book"]);
+    assert_eq!(said, (0, nothing.to_string(), String::new()));
+    let policy = text("examples/small-shop.pspec")
+        .replace("price: Price", "price: -")
+        .replace("  sum: sum\n", "")
+        .replace("rules\n", "rules\n  Report, [access City] => [{}]\n");
+    fs::write(folder.join("bare.pspec"), policy).expect("it is written");
+    run(&folder, &["build", "bare.pspec", "-o", "bare.book"]);
+    let lacking = "Columns without a label: price, note\nLeaves that no column has: Price\n\
+                   Operations that no function has: sum\n\
+                   Rules that nothing can break for want of a column:\n  \
+                   rule 1 (Analyst, [projection Address, projection Price] => [{}, {avg, sum}]): \
+                   none for projection Price\n  \
+                   rule 2 (Analyst, [access Price] => [{avg}]): none for access Price\n  \
+                   rule 3 (Report, [projection Address, projection Price] => [{}, {avg}]): \
+                   none for projection Price\n";
+    let said = run(&folder, &["labels", "bare.book"]);
+    assert_eq!(said, (0, lacking.to_string(), String::new()));
 }
