@@ -110,6 +110,24 @@ pub const COMMANDS: &[Command] = &[
         options: &[],
         about: "what a plan gives away",
     },
+    Command {
+        name: "encode",
+        operands: &["BOOK", "PLAN"],
+        options: &[Flag::with(
+            "FILE",
+            Flag::new(
+                "-o",
+                "write the plan's bytes, as a gateway takes them, to FILE",
+            ),
+        )],
+        about: "make a plan's rows of its text, eight hexadecimal digits each",
+    },
+    Command {
+        name: "decode",
+        operands: &["BOOK", "ROW..."],
+        options: &[],
+        about: "make a plan's text of its rows",
+    },
 ];
 
 impl Command {

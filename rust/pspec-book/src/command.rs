@@ -8,9 +8,10 @@ use crate::judge::{self, NotJudged};
 use crate::lineage::{self, Traced};
 use crate::named::NamedBook;
 use crate::plan::{self, PlanText};
-use crate::text::{counted, Mistakes};
+use crate::text::{counted, shown, Mistakes};
 use crate::{build, explain, labels, policy, report, show};
 use std::io::{self, Write};
+use std::path::Path;
 
 /// How a command ends that gives its answer.
 #[derive(Clone, Copy, Debug, PartialEq, Eq)]
@@ -49,6 +50,8 @@ fn carry_out(arguments: &Arguments, out: &mut dyn Write) -> Result<Outcome, Faul
         ("report", [book]) => said(report::write(&open(book)?, out).map(|_| ())),
         ("labels", [book]) => labels(book, out),
         ("flows", [book, plan]) => flows(book, plan, out),
+        ("encode", [book, plan]) => encode(book, plan, arguments.option("-o"), out),
+        ("decode", [book, rows @ ..]) => decode(book, &rows.join(" "), out),
         ("judge", [book, user, plan]) => judge(book, user, plan, out),
         (name, _) => Err(Fault::Usage(format!("found '{name}'"))),
     }
@@ -88,7 +91,8 @@ fn traced(named: &NamedBook, plan: &str) -> Result<(PlanText, Vec<Traced>), Faul
     let refused = |mistakes: Mistakes| Fault::Refused(mistakes.in_file(plan));
     let read = plan::read(&read_text(plan)?, named).map_err(refused)?;
     let traced = lineage::traced(&read, named);
-    let traced = traced.map_err(|refusal| refused(explain::plan(refusal, &read).into()))?;
+    let traced =
+        traced.map_err(|refusal| refused(explain::plan(refusal, &read, &named.contents).into()))?;
     Ok((read, traced))
 }
 
@@ -102,6 +106,36 @@ fn flows(book: &str, plan: &str, out: &mut dyn Write) -> Result<Outcome, Fault> 
         said(writeln!(out, "{}", access.text(&named.names)))?;
     }
     Ok(Outcome::Fine)
+}
+
+fn encode(
+    book: &str,
+    plan: &str,
+    file: Option<&str>,
+    out: &mut dyn Write,
+) -> Result<Outcome, Fault> {
+    let (PlanText { plan, lines }, _) = traced(&open(book)?, plan)?;
+    let Some(file) = file else {
+        return said(writeln!(out, "{plan}"));
+    };
+    files::write(Path::new(file), plan.bytes())?;
+    said(writeln!(out, "{file}: {}", counted(lines.len(), "row")))
+}
+
+fn decode(book: &str, rows: &str, out: &mut dyn Write) -> Result<Outcome, Fault> {
+    let named = open(book)?;
+    let plan = plan::from_digits(rows).map_err(|word| {
+        let word = shown(&word);
+        Fault::Refused(format!(
+            "found '{word}'; expected rows of eight hexadecimal digits"
+        ))
+    })?;
+    if let Err(refusal) = named.book.flows(&plan) {
+        let lines = (0..plan.rows().count()).collect();
+        let mistake = explain::plan(refusal, &PlanText { plan, lines }, &named.contents);
+        return Err(Fault::Refused(format!("row {mistake}")));
+    }
+    said(write!(out, "{}", plan::text(&plan, &named.names)))
 }
 
 fn judge(book: &str, user: &str, plan: &str, out: &mut dyn Write) -> Result<Outcome, Fault> {

@@ -50,7 +50,7 @@ pub fn broken(named: &NamedBook, user: &str, text: &str) -> Result<Vec<BrokenRul
     let plan = plan::read(text, named).map_err(NotJudged::Plan)?;
     let refused = |refusal| match refusal {
         Refusal::NoUser => NotJudged::User(explain::no_user(number, &contents.users, names)),
-        _ => NotJudged::Plan(explain::plan(refusal, &plan).into()),
+        _ => NotJudged::Plan(explain::plan(refusal, &plan, contents).into()),
     };
     let broken = book.judge(number.into(), &plan.plan).broken();
     let broken = broken.map_err(refused)?;

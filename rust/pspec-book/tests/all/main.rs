@@ -1,5 +1,6 @@
 //! The examples, every mistake, the program, random books there and back, and texts of any kind.
 
+mod any_rows;
 mod any_text;
 mod common;
 mod examples;

@@ -271,7 +271,7 @@ fn wrong_arguments_and_files() {
     complains(&[], "found no command\n\npspec-book build ");
     complains(
         &["look"],
-        "found 'look'; expected build, check, show, report, labels, judge, flows",
+        "found 'look'; expected build, check, show, report, labels, judge, flows, encode, decode or help\n\n",
     );
     complains(
         &["build", "x"],
@@ -438,4 +438,62 @@ fn what_is_not_labelled() {
                    none for projection Price\n";
     let said = run(&folder, &["labels", "bare.book"]);
     assert_eq!(said, (0, lacking.to_string(), String::new()));
+}
+
+#[test]
+fn plans_both_ways() {
+    let folder = shop("both-ways");
+    let plan = "0 = column price\n1 = avg(0)\n2 = column state\n3 = concat(1, 2)\n\
+                4 = choose 0 ? 3 : 1\noutput 4\nwhere 2\n";
+    fs::write(folder.join("p.txt"), plan).expect("it is written");
+    let rows = "01020000 020100ff 01000000 02000102 03000301 04040000 05020000";
+    let encoded = run(&folder, &["encode", "shop.book", "p.txt"]);
+    assert_eq!(encoded, (0, format!("{rows}\n"), String::new()));
+    let mut arguments = vec!["decode", "shop.book"];
+    arguments.extend(rows.split(' '));
+    assert_eq!(
+        run(&folder, &arguments),
+        (0, plan.to_string(), String::new())
+    );
+    let decoded = run(&folder, &["decode", "shop.book", &rows.to_uppercase()]);
+    assert_eq!(decoded, (0, plan.to_string(), String::new()));
+
+    let written = run(&folder, &["encode", "shop.book", "p.txt", "-o", "p.plan"]);
+    assert_eq!(written, (0, "p.plan: 7 rows\n".to_string(), String::new()));
+    let bytes = fs::read(folder.join("p.plan")).expect("it is there");
+    assert_eq!((bytes.len(), &bytes[4..8]), (28, &[2, 1, 0, 255][..]));
+}
+
+#[test]
+fn rows_that_are_no_plan() {
+    let folder = shop("no-plan");
+    let complains = |rows: &str, complaint: &str| {
+        let decoded = run(&folder, &["decode", "shop.book", rows]);
+        assert_eq!(decoded, (1, String::new(), format!("{complaint}\n")));
+    };
+    complains(
+        "01020000 0402",
+        "found '0402'; expected rows of eight hexadecimal digits",
+    );
+    complains(
+        "+1020000",
+        "found '+1020000'; expected rows of eight hexadecimal digits",
+    );
+    complains(
+        "01020000 04070000",
+        "row 1: refused 22: found row 7 named by row 1; expected a row above it",
+    );
+    let first = |row: &str, found: &str| complains(row, &format!("row 0: refused 22: {found}"));
+    first("09000000", "found the kind 9; expected 1 to 5");
+    first("01040000", "found column 4; the book has 4");
+    first("02030000", "found function 3; the book has 3");
+    first("01020007", "found 0 and 7 at its end; expected 0 and 0");
+    first(
+        "04ff0000",
+        "found row 255 named by row 0; expected a row above it",
+    );
+    complains(
+        &"01020000 ".repeat(65),
+        "row 64: refused 21: found 65 rows; expected at most 64",
+    );
 }
