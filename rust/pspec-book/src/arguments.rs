@@ -63,6 +63,8 @@ impl Flag {
     }
 }
 
+const JSON: Flag = Flag::new("--json", "answer in JSON, for scripts");
+
 /// All commands.
 pub const COMMANDS: &[Command] = &[
     Command {
@@ -89,25 +91,28 @@ pub const COMMANDS: &[Command] = &[
     Command {
         name: "report",
         operands: &["BOOK"],
-        options: &[],
+        options: &[
+            JSON,
+            Flag::new("--exit-code", "end with status 3 where some rule is idle"),
+        ],
         about: "which rules are idle and why, and what breaks each other one alone",
     },
     Command {
         name: "labels",
         operands: &["BOOK"],
-        options: &[],
+        options: &[JSON],
         about: "what no column or function gives, and which rules nothing can break for it",
     },
     Command {
         name: "judge",
         operands: &["BOOK", "USER", "PLAN"],
-        options: &[],
+        options: &[JSON],
         about: "which rules a user and a plan break, and by what",
     },
     Command {
         name: "flows",
         operands: &["BOOK", "PLAN"],
-        options: &[],
+        options: &[JSON],
         about: "what a plan gives away",
     },
     Command {
@@ -194,6 +199,11 @@ pub struct Arguments {
 }
 
 impl Arguments {
+    /// Is JSON asked for?
+    pub fn json(&self) -> bool {
+        self.option(JSON.word).is_some()
+    }
+
     /// The value of an option that is given; empty for one without a value.
     pub fn option(&self, word: &str) -> Option<&str> {
         let option = self.options.iter().find(|(given, _)| *given == word);

@@ -8,8 +8,9 @@ use crate::judge::{self, NotJudged};
 use crate::lineage::{self, Traced};
 use crate::named::NamedBook;
 use crate::plan::{self, PlanText};
+use crate::report::{self, RuleReport};
 use crate::text::{counted, shown, Mistakes};
-use crate::{build, explain, labels, policy, report, show};
+use crate::{build, explain, labels, policy, show};
 use std::io::{self, Write};
 use std::path::Path;
 
@@ -20,6 +21,8 @@ pub enum Outcome {
     Fine,
     /// A rule is broken.
     Broken,
+    /// A rule is idle, and the status was to say so.
+    Idle,
 }
 
 /// Carries out what the words ask for, and writes the answer.
@@ -36,25 +39,46 @@ fn carry_out(arguments: &Arguments, out: &mut dyn Write) -> Result<Outcome, Faul
     let operands: Vec<&str> = arguments.operands.iter().map(String::as_str).collect();
     match (arguments.command.name, operands.as_slice()) {
         ("build", [policy]) => build(policy, arguments.option("-o").unwrap_or_default(), out),
-        ("check", [policy]) => {
-            let rules = made(policy)?.book.rule_count() as usize;
-            let rules = counted(rules, "rule");
-            said(writeln!(out, "{policy}: {rules}, no mistake"))
-        }
-        ("show", [book]) => {
-            let NamedBook {
-                contents, names, ..
-            } = open(book)?;
-            said(write!(out, "{}", show::text(&contents, &names)))
-        }
-        ("report", [book]) => said(report::write(&open(book)?, out).map(|_| ())),
-        ("labels", [book]) => labels(book, out),
-        ("flows", [book, plan]) => flows(book, plan, out),
+        ("check", [policy]) => check(policy, out),
+        ("show", [book]) => show(book, out),
+        ("report", [book]) => report(book, arguments, out),
+        ("labels", [book]) => labels(book, arguments.json(), out),
+        ("judge", [book, user, plan]) => judge(book, user, plan, arguments.json(), out),
+        ("flows", [book, plan]) => flows(book, plan, arguments.json(), out),
         ("encode", [book, plan]) => encode(book, plan, arguments.option("-o"), out),
         ("decode", [book, rows @ ..]) => decode(book, &rows.join(" "), out),
-        ("judge", [book, user, plan]) => judge(book, user, plan, out),
         (name, _) => Err(Fault::Usage(format!("found '{name}'"))),
     }
+}
+
+fn check(policy: &str, out: &mut dyn Write) -> Result<Outcome, Fault> {
+    let rules = made(policy)?.book.rule_count() as usize;
+    let rules = counted(rules, "rule");
+    said(writeln!(out, "{policy}: {rules}, no mistake"))
+}
+
+fn show(book: &str, out: &mut dyn Write) -> Result<Outcome, Fault> {
+    let NamedBook {
+        contents, names, ..
+    } = open(book)?;
+    said(write!(out, "{}", show::text(&contents, &names)))
+}
+
+fn report(book: &str, arguments: &Arguments, out: &mut dyn Write) -> Result<Outcome, Fault> {
+    let named = open(book)?;
+    let reports = match arguments.json() {
+        true => report::each(&named, |_| Ok(())),
+        false => report::write(&named, out),
+    };
+    let reports = reports.map_err(unsaid)?;
+    if arguments.json() {
+        said(writeln!(out, "{}", report::json(&reports)))?;
+    }
+    let idle = reports.iter().any(RuleReport::is_idle);
+    Ok(match idle && arguments.option("--exit-code").is_some() {
+        true => Outcome::Idle,
+        false => Outcome::Fine,
+    })
 }
 
 /// The book of a policy's file.
@@ -80,10 +104,13 @@ fn build(policy: &str, book: &str, out: &mut dyn Write) -> Result<Outcome, Fault
     ))
 }
 
-fn labels(book: &str, out: &mut dyn Write) -> Result<Outcome, Fault> {
+fn labels(book: &str, json: bool, out: &mut dyn Write) -> Result<Outcome, Fault> {
     let labels = labels::labels(&open(book)?);
     let labels = labels.map_err(|refusal| Fault::Refused(format!("{book}: {refusal}")))?;
-    said(write!(out, "{}", labels.text()))
+    match json {
+        true => said(writeln!(out, "{}", labels.json())),
+        false => said(write!(out, "{}", labels.text())),
+    }
 }
 
 /// The plan of a text, and what it gives away.
@@ -96,9 +123,12 @@ fn traced(named: &NamedBook, plan: &str) -> Result<(PlanText, Vec<Traced>), Faul
     Ok((read, traced))
 }
 
-fn flows(book: &str, plan: &str, out: &mut dyn Write) -> Result<Outcome, Fault> {
+fn flows(book: &str, plan: &str, json: bool, out: &mut dyn Write) -> Result<Outcome, Fault> {
     let named = open(book)?;
     let (_, accesses) = traced(&named, plan)?;
+    if json {
+        return said(writeln!(out, "{}", lineage::json(&accesses, &named.names)));
+    }
     if accesses.is_empty() {
         return said(writeln!(out, "The plan gives nothing away."));
     }
@@ -138,14 +168,27 @@ fn decode(book: &str, rows: &str, out: &mut dyn Write) -> Result<Outcome, Fault>
     said(write!(out, "{}", plan::text(&plan, &named.names)))
 }
 
-fn judge(book: &str, user: &str, plan: &str, out: &mut dyn Write) -> Result<Outcome, Fault> {
+fn judge(
+    book: &str,
+    user: &str,
+    plan: &str,
+    json: bool,
+    out: &mut dyn Write,
+) -> Result<Outcome, Fault> {
     let named = open(book)?;
     let text = read_text(plan)?;
     let broken = judge::broken(&named, user, &text).map_err(|why| match why {
         NotJudged::User(why) => Fault::Refused(why),
         NotJudged::Plan(mistakes) => Fault::Refused(mistakes.in_file(plan)),
     })?;
-    said(write!(out, "{}", judge::text(user, &broken, &named)))?;
+    match json {
+        true => said(writeln!(
+            out,
+            "{}",
+            judge::json(user, &broken, &named.names)
+        ))?,
+        false => said(write!(out, "{}", judge::text(user, &broken, &named.names)))?,
+    };
     Ok(match broken.is_empty() {
         true => Outcome::Fine,
         false => Outcome::Broken,
@@ -153,8 +196,9 @@ fn judge(book: &str, user: &str, plan: &str, out: &mut dyn Write) -> Result<Outc
 }
 
 fn said(written: io::Result<()>) -> Result<Outcome, Fault> {
-    match written {
-        Ok(()) => Ok(Outcome::Fine),
-        Err(why) => Err(Fault::File(format!("the answer can't be written: {why}"))),
-    }
+    written.map(|()| Outcome::Fine).map_err(unsaid)
+}
+
+fn unsaid(why: io::Error) -> Fault {
+    Fault::File(format!("the answer can't be written: {why}"))
 }

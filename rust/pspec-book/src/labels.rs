@@ -3,6 +3,7 @@
 use crate::contents::{Contents, UNLABELLED};
 use crate::covering::idle_beside;
 use crate::hierarchy::leaves;
+use crate::json::Json;
 use crate::named::NamedBook;
 use crate::rule;
 use pspec::Refusal;
@@ -88,6 +89,23 @@ fn unbreakable(named: &NamedBook, r: usize) -> Unbreakable {
 }
 
 impl Labels {
+    /// For scripts.
+    pub fn json(&self) -> Json {
+        let rule = |rule: &Unbreakable| {
+            Json::Object(vec![
+                ("number", Json::Number(rule.number)),
+                ("rule", Json::Text(rule.rule.clone())),
+                ("missing", Json::texts(&rule.missing)),
+            ])
+        };
+        Json::Object(vec![
+            ("columns", Json::texts(&self.columns)),
+            ("leaves", Json::texts(&self.leaves)),
+            ("operations", Json::texts(&self.operations)),
+            ("rules", Json::list(&self.rules, rule)),
+        ])
+    }
+
     /// One line a list, and one a rule.
     pub fn text(&self) -> String {
         let lists = [

@@ -40,6 +40,7 @@ pub mod fault;
 pub mod files;
 pub mod help;
 pub mod hierarchy;
+pub mod json;
 pub mod judge;
 pub mod labels;
 pub mod lineage;

@@ -1,6 +1,7 @@
 //! Which rules are idle and why, and what breaks each other one alone, in the policy's names.
 
 use crate::covering::{why_idle, WhyIdle};
+use crate::json::Json;
 use crate::named::NamedBook;
 use crate::plan::accesses;
 use crate::rule;
@@ -65,6 +66,41 @@ impl RuleReport {
         };
         format!("rule {} ({}): {found}", self.number, self.rule)
     }
+}
+
+impl RuleReport {
+    fn json(&self) -> Json {
+        let mut fields = vec![
+            ("number", Json::Number(self.number)),
+            ("rule", Json::Text(self.rule.clone())),
+            ("idle", Json::Bool(self.is_idle())),
+        ];
+        fields.extend(match &self.found {
+            Found::Idle(WhyIdle::Unbreakable) => vec![("unbreakable", Json::Bool(true))],
+            Found::Idle(WhyIdle::Covered(by)) => vec![
+                ("unbreakable", Json::Bool(false)),
+                ("covered_by", Json::numbers(by)),
+            ],
+            Found::Needed {
+                user,
+                accesses,
+                plan,
+            } => vec![
+                ("user", Json::Text(user.clone())),
+                ("accesses", Json::texts(accesses)),
+                ("plan", Json::Text(plan.to_string())),
+            ],
+        });
+        Json::Object(fields)
+    }
+}
+
+/// What is found of each rule, for scripts.
+pub fn json(reports: &[RuleReport]) -> Json {
+    let idle = reports.iter().filter(|report| report.is_idle());
+    let idle = Json::list(idle, |report| Json::Number(report.number));
+    let rules = Json::list(reports, RuleReport::json);
+    Json::Object(vec![("rules", rules), ("idle", idle)])
 }
 
 /// What is found of one rule.

@@ -497,3 +497,57 @@ fn rows_that_are_no_plan() {
         "row 64: refused 21: found 65 rows; expected at most 64",
     );
 }
+
+#[test]
+fn answers_for_scripts() {
+    let folder = shop("json");
+    fs::write(
+        folder.join("p.txt"),
+        "price\nsum(0)\noutput 1\nstate\nwhere 3\n",
+    )
+    .expect("written");
+    let answers = |arguments: &[&str], status: i32, json: &str| {
+        let said = run(&folder, arguments);
+        assert_eq!(said, (status, format!("{json}\n"), String::new()));
+    };
+    let sum = r#"{"action":"projection","leaf":"Price","operation":"sum","lines":[{"line":3,"columns":[1]}]}"#;
+    let state = r#"{"action":"condition","leaf":"State","operation":"","lines":[{"line":5,"columns":[4]}]}"#;
+    answers(
+        &["flows", "shop.book", "p.txt", "--json"],
+        0,
+        &format!(r#"{{"accesses":[{sum},{state}]}}"#),
+    );
+    answers(
+        &["judge", "--json", "shop.book", "Report", "p.txt"],
+        1,
+        &format!(
+            r#"{{"user":"Report","opens":false,"broken":[{{"number":1,"rule":"Analyst, [access Price] => [{{avg}}]","by":[{{"reference":"access Price","accesses":[{sum}]}}]}}]}}"#
+        ),
+    );
+    answers(
+        &["labels", "shop.book", "--json"],
+        0,
+        r#"{"columns":["note"],"leaves":[],"operations":[],"rules":[]}"#,
+    );
+    let (status, report, _) = run(&folder, &["report", "shop.book", "--json"]);
+    assert_eq!(status, 0);
+    let needed = r#"{"number":1,"rule":"Analyst, [access Price] => [{avg}]","idle":false,"user":"Report","accesses":["output Price"],"plan":"01020000 04000000"}"#;
+    assert!(report.contains(needed), "{report}");
+    let idle = r#""idle":true,"unbreakable":false,"covered_by":[1]}],"idle":[0,2]}"#;
+    assert!(report.ends_with(&format!("{idle}\n")), "{report}");
+}
+
+#[test]
+fn a_status_for_idle_rules() {
+    let folder = shop("exit-code");
+    let report = text("examples/small-shop.report");
+    let said = run(&folder, &["report", "shop.book", "--exit-code"]);
+    assert_eq!(said, (3, report, String::new()));
+    let (status, _, _) = run(&folder, &["report", "shop.book", "--json", "--exit-code"]);
+    assert_eq!(status, 3);
+    let policy = text("examples/tpc-ds.pspec");
+    fs::write(folder.join("tpc.pspec"), policy).expect("it is written");
+    run(&folder, &["build", "tpc.pspec", "-o", "tpc.book"]);
+    let (status, _, _) = run(&folder, &["report", "tpc.book", "--exit-code"]);
+    assert_eq!(status, 0);
+}
