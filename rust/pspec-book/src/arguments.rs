@@ -93,6 +93,13 @@ pub const COMMANDS: &[Command] = &[
         operands: &["BOOK"],
         options: &[
             JSON,
+            Flag::with(
+                "FILE",
+                Flag::new(
+                    "--html",
+                    "write the report to FILE as a page to read and print",
+                ),
+            ),
             Flag::new("--exit-code", "end with status 3 where some rule is idle"),
         ],
         about: "which rules are idle and why, and what breaks each other one alone",

@@ -10,9 +10,8 @@ use crate::named::NamedBook;
 use crate::plan::{self, PlanText};
 use crate::report::{self, RuleReport};
 use crate::text::{counted, shown, Mistakes};
-use crate::{build, explain, labels, policy, show};
+use crate::{build, explain, html, labels, policy, show};
 use std::io::{self, Write};
-use std::path::Path;
 
 /// How a command ends that gives its answer.
 #[derive(Clone, Copy, Debug, PartialEq, Eq)]
@@ -66,14 +65,21 @@ fn show(book: &str, out: &mut dyn Write) -> Result<Outcome, Fault> {
 
 fn report(book: &str, arguments: &Arguments, out: &mut dyn Write) -> Result<Outcome, Fault> {
     let named = open(book)?;
-    let reports = match arguments.json() {
+    let page = arguments.option("--html");
+    let reports = match arguments.json() || page.is_some() {
         true => report::each(&named, |_| Ok(())),
         false => report::write(&named, out),
     };
     let reports = reports.map_err(unsaid)?;
-    if arguments.json() {
-        said(writeln!(out, "{}", report::json(&reports)))?;
+    if let Some(file) = page {
+        let page = html::page(book, &named, &reports);
+        files::answer(file, page.as_bytes(), &[book])?;
     }
+    match (arguments.json(), page) {
+        (true, _) => said(writeln!(out, "{}", report::json(&reports)))?,
+        (false, Some(file)) => said(writeln!(out, "{file}: the report on {book}"))?,
+        (false, None) => Outcome::Fine,
+    };
     let idle = reports.iter().any(RuleReport::is_idle);
     Ok(match idle && arguments.option("--exit-code").is_some() {
         true => Outcome::Idle,
@@ -144,12 +150,13 @@ fn encode(
     file: Option<&str>,
     out: &mut dyn Write,
 ) -> Result<Outcome, Fault> {
-    let (PlanText { plan, lines }, _) = traced(&open(book)?, plan)?;
+    let (read, _) = traced(&open(book)?, plan)?;
     let Some(file) = file else {
-        return said(writeln!(out, "{plan}"));
+        return said(writeln!(out, "{}", read.plan));
     };
-    files::write(Path::new(file), plan.bytes())?;
-    said(writeln!(out, "{file}: {}", counted(lines.len(), "row")))
+    files::answer(file, read.plan.bytes(), &[book, plan])?;
+    let rows = counted(read.lines.len(), "row");
+    said(writeln!(out, "{file}: {rows}"))
 }
 
 fn decode(book: &str, rows: &str, out: &mut dyn Write) -> Result<Outcome, Fault> {

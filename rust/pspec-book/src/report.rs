@@ -6,7 +6,7 @@ use crate::named::NamedBook;
 use crate::plan::accesses;
 use crate::rule;
 use crate::text::counted_list;
-use pspec::{Idleness, Plan, Refusal};
+use pspec::{Access, Idleness, Plan, Refusal};
 use std::io::{self, IsTerminal, Write};
 
 /// What is said after a list of idle rules.
@@ -38,8 +38,10 @@ pub enum Found {
     Needed {
         /// The user's name.
         user: String,
-        /// The plan's accesses, in words.
-        accesses: Vec<String>,
+        /// The plan's accesses.
+        accesses: Vec<Access>,
+        /// The same in words, reference by reference.
+        words: Vec<String>,
         /// The plan.
         plan: Plan,
     },
@@ -59,9 +61,9 @@ impl RuleReport {
     pub fn text(&self) -> String {
         let found = match &self.found {
             Found::Idle(why) => format!("idle, {}", why.text()),
-            Found::Needed { user, accesses, .. } => {
-                let accesses = accesses.join(", ");
-                format!("needed. {user} breaks it alone with: {accesses}")
+            Found::Needed { user, words, .. } => {
+                let words = words.join(", ");
+                format!("needed. {user} breaks it alone with: {words}")
             }
         };
         format!("rule {} ({}): {found}", self.number, self.rule)
@@ -82,12 +84,10 @@ impl RuleReport {
                 ("covered_by", Json::numbers(by)),
             ],
             Found::Needed {
-                user,
-                accesses,
-                plan,
+                user, words, plan, ..
             } => vec![
                 ("user", Json::Text(user.clone())),
-                ("accesses", Json::texts(accesses)),
+                ("accesses", Json::texts(words)),
                 ("plan", Json::Text(plan.to_string())),
             ],
         });
@@ -109,7 +109,8 @@ pub fn of_rule(named: &NamedBook, r: usize) -> Result<RuleReport, Refusal> {
         Idleness::Idle => Found::Idle(why_idle(&named.book, r)?),
         Idleness::Needed { user, plan } => Found::Needed {
             user: named.names.users[user as usize].clone(),
-            accesses: accesses(&plan, named),
+            accesses: named.book.flows(&plan)?.iter().collect(),
+            words: accesses(&plan, named),
             plan,
         },
     };

@@ -8,6 +8,7 @@ mod format;
 mod idle;
 mod imports;
 mod mistakes;
+mod page;
 mod program;
 mod round_trip;
 mod scripts;

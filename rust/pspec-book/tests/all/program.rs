@@ -364,15 +364,24 @@ fn a_mistake_has_its_file_and_line() {
 }
 
 #[test]
-fn a_policy_is_not_written_over() {
+fn what_was_read_is_not_written_over() {
     let folder = shop("over");
-    let complaint = "found the policy after -o; expected another file\n";
+    let complaint = "this was read; expected another file for the answer\n";
     let (status, _, said) = run(&folder, &["build", "shop.pspec", "-o", "./shop.pspec"]);
     assert!(status == 2 && said.ends_with(complaint), "{said}");
     assert_eq!(
         text_of(&folder, "shop.pspec"),
         text("examples/small-shop.pspec")
     );
+    fs::write(folder.join("p.txt"), "price\n").expect("it is written");
+    for wrong in [
+        &["report", "shop.book", "--html", "shop.book"][..],
+        &["report", "shop.book", "--html", "./shop.book.names"],
+        &["encode", "shop.book", "p.txt", "-o", "p.txt"],
+    ] {
+        let (status, _, said) = run(&folder, wrong);
+        assert!(status == 2 && said.ends_with(complaint), "{said}");
+    }
 }
 
 #[test]
@@ -550,4 +559,26 @@ fn a_status_for_idle_rules() {
     run(&folder, &["build", "tpc.pspec", "-o", "tpc.book"]);
     let (status, _, _) = run(&folder, &["report", "tpc.book", "--exit-code"]);
     assert_eq!(status, 0);
+}
+
+#[test]
+fn a_page_is_written() {
+    let folder = shop("page");
+    let said = run(&folder, &["report", "shop.book", "--html", "shop.html"]);
+    let answer = "shop.html: the report on shop.book\n".to_string();
+    assert_eq!(said, (0, answer, String::new()));
+    assert!(text_of(&folder, "shop.html").starts_with("<!DOCTYPE html>\n"));
+    let both = [
+        "report",
+        "shop.book",
+        "--html",
+        "x.html",
+        "--json",
+        "--exit-code",
+    ];
+    let (status, json, _) = run(&folder, &both);
+    assert!(status == 3 && json.starts_with("{\"rules\":["));
+    assert_eq!(text_of(&folder, "x.html"), text_of(&folder, "shop.html"));
+    let (status, _, complaint) = run(&folder, &["report", "shop.book", "--html", "no/x.html"]);
+    assert!(status == 2 && complaint.starts_with("no/x.html: can't be written: "));
 }
