@@ -63,6 +63,8 @@ impl Flag {
     }
 }
 
+const JSON: Flag = Flag::new("--json", "answer in JSON, for scripts");
+
 /// All commands.
 pub const COMMANDS: &[Command] = &[
     Command {
@@ -75,6 +77,12 @@ pub const COMMANDS: &[Command] = &[
         about: "make a book of a policy, and BOOK.names beside it",
     },
     Command {
+        name: "check",
+        operands: &["POLICY"],
+        options: &[],
+        about: "find the mistakes of a policy, and write nothing",
+    },
+    Command {
         name: "show",
         operands: &["BOOK"],
         options: &[],
@@ -83,14 +91,54 @@ pub const COMMANDS: &[Command] = &[
     Command {
         name: "report",
         operands: &["BOOK"],
-        options: &[],
-        about: "which rules are idle, and what breaks each other one alone",
+        options: &[
+            JSON,
+            Flag::with(
+                "FILE",
+                Flag::new(
+                    "--html",
+                    "write the report to FILE as a page to read and print",
+                ),
+            ),
+            Flag::new("--exit-code", "end with status 3 where some rule is idle"),
+        ],
+        about: "which rules are idle and why, and what breaks each other one alone",
+    },
+    Command {
+        name: "labels",
+        operands: &["BOOK"],
+        options: &[JSON],
+        about: "what no column or function gives, and which rules nothing can break for it",
     },
     Command {
         name: "judge",
         operands: &["BOOK", "USER", "PLAN"],
+        options: &[JSON],
+        about: "which rules a user and a plan break, and by what",
+    },
+    Command {
+        name: "flows",
+        operands: &["BOOK", "PLAN"],
+        options: &[JSON],
+        about: "what a plan gives away",
+    },
+    Command {
+        name: "encode",
+        operands: &["BOOK", "PLAN"],
+        options: &[Flag::with(
+            "FILE",
+            Flag::new(
+                "-o",
+                "write the plan's bytes, as a gateway takes them, to FILE",
+            ),
+        )],
+        about: "make a plan's rows of its text, eight hexadecimal digits each",
+    },
+    Command {
+        name: "decode",
+        operands: &["BOOK", "ROW..."],
         options: &[],
-        about: "which rules a user and a plan break",
+        about: "make a plan's text of its rows",
     },
 ];
 
@@ -158,6 +206,11 @@ pub struct Arguments {
 }
 
 impl Arguments {
+    /// Is JSON asked for?
+    pub fn json(&self) -> bool {
+        self.option(JSON.word).is_some()
+    }
+
     /// The value of an option that is given; empty for one without a value.
     pub fn option(&self, word: &str) -> Option<&str> {
         let option = self.options.iter().find(|(given, _)| *given == word);

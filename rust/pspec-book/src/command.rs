@@ -5,9 +5,12 @@ use crate::fault::Fault;
 use crate::files::{self, open, read_text};
 use crate::help::HELP;
 use crate::judge::{self, NotJudged};
+use crate::lineage::{self, Traced};
 use crate::named::NamedBook;
-use crate::text::counted;
-use crate::{build, policy, report, show};
+use crate::plan::{self, PlanText};
+use crate::report::{self, RuleReport};
+use crate::text::{counted, shown, Mistakes};
+use crate::{build, explain, html, labels, policy, show};
 use std::io::{self, Write};
 
 /// How a command ends that gives its answer.
@@ -17,6 +20,8 @@ pub enum Outcome {
     Fine,
     /// A rule is broken.
     Broken,
+    /// A rule is idle, and the status was to say so.
+    Idle,
 }
 
 /// Carries out what the words ask for, and writes the answer.
@@ -33,16 +38,53 @@ fn carry_out(arguments: &Arguments, out: &mut dyn Write) -> Result<Outcome, Faul
     let operands: Vec<&str> = arguments.operands.iter().map(String::as_str).collect();
     match (arguments.command.name, operands.as_slice()) {
         ("build", [policy]) => build(policy, arguments.option("-o").unwrap_or_default(), out),
-        ("show", [book]) => {
-            let NamedBook {
-                contents, names, ..
-            } = open(book)?;
-            said(write!(out, "{}", show::text(&contents, &names)))
-        }
-        ("report", [book]) => said(report::write(&open(book)?, out).map(|_| ())),
-        ("judge", [book, user, plan]) => judge(book, user, plan, out),
+        ("check", [policy]) => check(policy, out),
+        ("show", [book]) => show(book, out),
+        ("report", [book]) => report(book, arguments, out),
+        ("labels", [book]) => labels(book, arguments.json(), out),
+        ("judge", [book, user, plan]) => judge(book, user, plan, arguments.json(), out),
+        ("flows", [book, plan]) => flows(book, plan, arguments.json(), out),
+        ("encode", [book, plan]) => encode(book, plan, arguments.option("-o"), out),
+        ("decode", [book, rows @ ..]) => decode(book, &rows.join(" "), out),
         (name, _) => Err(Fault::Usage(format!("found '{name}'"))),
     }
+}
+
+fn check(policy: &str, out: &mut dyn Write) -> Result<Outcome, Fault> {
+    let rules = made(policy)?.book.rule_count() as usize;
+    let rules = counted(rules, "rule");
+    said(writeln!(out, "{policy}: {rules}, no mistake"))
+}
+
+fn show(book: &str, out: &mut dyn Write) -> Result<Outcome, Fault> {
+    let NamedBook {
+        contents, names, ..
+    } = open(book)?;
+    said(write!(out, "{}", show::text(&contents, &names)))
+}
+
+fn report(book: &str, arguments: &Arguments, out: &mut dyn Write) -> Result<Outcome, Fault> {
+    let named = open(book)?;
+    let page = arguments.option("--html");
+    let reports = match arguments.json() || page.is_some() {
+        true => report::each(&named, |_| Ok(())),
+        false => report::write(&named, out),
+    };
+    let reports = reports.map_err(unsaid)?;
+    if let Some(file) = page {
+        let page = html::page(book, &named, &reports);
+        files::answer(file, page.as_bytes(), &[book])?;
+    }
+    match (arguments.json(), page) {
+        (true, _) => said(writeln!(out, "{}", report::json(&reports)))?,
+        (false, Some(file)) => said(writeln!(out, "{file}: the report on {book}"))?,
+        (false, None) => Outcome::Fine,
+    };
+    let idle = reports.iter().any(RuleReport::is_idle);
+    Ok(match idle && arguments.option("--exit-code").is_some() {
+        true => Outcome::Idle,
+        false => Outcome::Fine,
+    })
 }
 
 /// The book of a policy's file.
@@ -68,14 +110,92 @@ fn build(policy: &str, book: &str, out: &mut dyn Write) -> Result<Outcome, Fault
     ))
 }
 
-fn judge(book: &str, user: &str, plan: &str, out: &mut dyn Write) -> Result<Outcome, Fault> {
+fn labels(book: &str, json: bool, out: &mut dyn Write) -> Result<Outcome, Fault> {
+    let labels = labels::labels(&open(book)?);
+    let labels = labels.map_err(|refusal| Fault::Refused(format!("{book}: {refusal}")))?;
+    match json {
+        true => said(writeln!(out, "{}", labels.json())),
+        false => said(write!(out, "{}", labels.text())),
+    }
+}
+
+/// The plan of a text, and what it gives away.
+fn traced(named: &NamedBook, plan: &str) -> Result<(PlanText, Vec<Traced>), Fault> {
+    let refused = |mistakes: Mistakes| Fault::Refused(mistakes.in_file(plan));
+    let read = plan::read(&read_text(plan)?, named).map_err(refused)?;
+    let traced = lineage::traced(&read, named);
+    let traced =
+        traced.map_err(|refusal| refused(explain::plan(refusal, &read, &named.contents).into()))?;
+    Ok((read, traced))
+}
+
+fn flows(book: &str, plan: &str, json: bool, out: &mut dyn Write) -> Result<Outcome, Fault> {
+    let named = open(book)?;
+    let (_, accesses) = traced(&named, plan)?;
+    if json {
+        return said(writeln!(out, "{}", lineage::json(&accesses, &named.names)));
+    }
+    if accesses.is_empty() {
+        return said(writeln!(out, "The plan gives nothing away."));
+    }
+    for access in accesses {
+        said(writeln!(out, "{}", access.text(&named.names)))?;
+    }
+    Ok(Outcome::Fine)
+}
+
+fn encode(
+    book: &str,
+    plan: &str,
+    file: Option<&str>,
+    out: &mut dyn Write,
+) -> Result<Outcome, Fault> {
+    let (read, _) = traced(&open(book)?, plan)?;
+    let Some(file) = file else {
+        return said(writeln!(out, "{}", read.plan));
+    };
+    files::answer(file, read.plan.bytes(), &[book, plan])?;
+    let rows = counted(read.lines.len(), "row");
+    said(writeln!(out, "{file}: {rows}"))
+}
+
+fn decode(book: &str, rows: &str, out: &mut dyn Write) -> Result<Outcome, Fault> {
+    let named = open(book)?;
+    let plan = plan::from_digits(rows).map_err(|word| {
+        let word = shown(&word);
+        Fault::Refused(format!(
+            "found '{word}'; expected rows of eight hexadecimal digits"
+        ))
+    })?;
+    if let Err(refusal) = named.book.flows(&plan) {
+        let lines = (0..plan.rows().count()).collect();
+        let mistake = explain::plan(refusal, &PlanText { plan, lines }, &named.contents);
+        return Err(Fault::Refused(format!("row {mistake}")));
+    }
+    said(write!(out, "{}", plan::text(&plan, &named.names)))
+}
+
+fn judge(
+    book: &str,
+    user: &str,
+    plan: &str,
+    json: bool,
+    out: &mut dyn Write,
+) -> Result<Outcome, Fault> {
     let named = open(book)?;
     let text = read_text(plan)?;
     let broken = judge::broken(&named, user, &text).map_err(|why| match why {
         NotJudged::User(why) => Fault::Refused(why),
         NotJudged::Plan(mistakes) => Fault::Refused(mistakes.in_file(plan)),
     })?;
-    said(write!(out, "{}", judge::text(user, &broken, &named)))?;
+    match json {
+        true => said(writeln!(
+            out,
+            "{}",
+            judge::json(user, &broken, &named.names)
+        ))?,
+        false => said(write!(out, "{}", judge::text(user, &broken, &named.names)))?,
+    };
     Ok(match broken.is_empty() {
         true => Outcome::Fine,
         false => Outcome::Broken,
@@ -83,8 +203,9 @@ fn judge(book: &str, user: &str, plan: &str, out: &mut dyn Write) -> Result<Outc
 }
 
 fn said(written: io::Result<()>) -> Result<Outcome, Fault> {
-    match written {
-        Ok(()) => Ok(Outcome::Fine),
-        Err(why) => Err(Fault::File(format!("the answer can't be written: {why}"))),
-    }
+    written.map(|()| Outcome::Fine).map_err(unsaid)
+}
+
+fn unsaid(why: io::Error) -> Fault {
+    Fault::File(format!("the answer can't be written: {why}"))
 }

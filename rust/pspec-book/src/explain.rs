@@ -152,7 +152,7 @@ fn unsupported(rule: &Rule, policy: &Policy) -> Option<String> {
 }
 
 /// Why the engine refuses a plan, with the line at fault.
-pub fn plan(refusal: Refusal, plan: &PlanText) -> Mistake {
+pub fn plan(refusal: Refusal, plan: &PlanText, contents: &Contents) -> Mistake {
     let count = plan.lines.len();
     let row = match refusal {
         Refusal::PlanLength => 64,
@@ -160,43 +160,59 @@ pub fn plan(refusal: Refusal, plan: &PlanText) -> Mistake {
     };
     let found = match refusal {
         Refusal::PlanLength => Some(format!("found {count} rows; expected at most 64")),
-        Refusal::FaultyRow { .. } => wrong_row(plan, row),
+        Refusal::FaultyRow { .. } => wrong_row(plan, row, contents),
         _ => None,
     };
-    let sentence = refusal.sentence().to_string();
-    let what = format!(
-        "refused {}: {}",
-        refusal.number(),
-        found.unwrap_or(sentence)
-    );
     let line = plan.lines.get(row).or(plan.lines.last());
-    mistake(line.copied().unwrap_or(1), what)
+    refused(line.copied().unwrap_or(1), refusal, found)
 }
 
-/// The first row named by this one that may not be.
-fn wrong_row(plan: &PlanText, row: usize) -> Option<String> {
+/// What is wrong with a row: its kind, its column or function, its zeros, or a row that it names.
+fn wrong_row(plan: &PlanText, row: usize, contents: &Contents) -> Option<String> {
     let rows: Vec<[u8; 4]> = plan.plan.rows().collect();
-    let named: &[u8] = match rows.get(row)? {
-        [2, _, b, 255] => &[*b],
-        [2, _, b, c] => &[*b, *c],
-        [3, a, b, c] => &[*a, *b, *c],
-        [_, a, ..] => &[*a],
+    let past = |what: &str, number: u8, count: usize| {
+        let past = usize::from(number) >= count;
+        past.then(|| format!("found {what} {number}; the book has {count}"))
     };
-    for &other in named {
-        let other = usize::from(other);
-        if other >= row {
-            return Some(format!(
-                "found row {other} named by row {row}; expected a row above it"
-            ));
-        }
-        if rows[other][0] > 3 {
-            return Some(format!(
-                "found row {other} named by row {row}, which gives no value; \
-                 expected a column, a function or a choice"
-            ));
-        }
+    let zeros = |bytes: [u8; 2]| {
+        let set = bytes != [0; 2];
+        set.then(|| {
+            format!(
+                "found {} and {} at its end; expected 0 and 0",
+                bytes[0], bytes[1]
+            )
+        })
+    };
+    let named = |named: &[u8]| {
+        named
+            .iter()
+            .find_map(|&other| wrongly_named(other, row, &rows))
+    };
+    match *rows.get(row)? {
+        [1, a, b, c] => past("column", a, contents.columns.len()).or_else(|| zeros([b, c])),
+        [2, a, b, 255] => past("function", a, contents.functions.len()).or_else(|| named(&[b])),
+        [2, a, b, c] => past("function", a, contents.functions.len()).or_else(|| named(&[b, c])),
+        [3, a, b, c] => named(&[a, b, c]),
+        [4 | 5, a, b, c] => named(&[a]).or_else(|| zeros([b, c])),
+        [kind, ..] => Some(format!("found the kind {kind}; expected 1 to 5")),
     }
-    None
+}
+
+/// Why a row may not name another.
+fn wrongly_named(other: u8, row: usize, rows: &[[u8; 4]]) -> Option<String> {
+    let other = usize::from(other);
+    if other >= row {
+        return Some(format!(
+            "found row {other} named by row {row}; expected a row above it"
+        ));
+    }
+    let no_value = rows[other][0] > 3;
+    no_value.then(|| {
+        format!(
+            "found row {other} named by row {row}, which gives no value; \
+             expected a column, a function or a choice"
+        )
+    })
 }
 
 /// That the book names no such user.

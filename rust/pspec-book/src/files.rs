@@ -47,13 +47,13 @@ fn names_file(book: &str) -> PathBuf {
     PathBuf::from(name)
 }
 
-/// Refuses to write over the policy.
-fn spared(policy: &str, target: &Path) -> Result<(), Fault> {
-    match (fs::canonicalize(policy), fs::canonicalize(target)) {
-        (Ok(policy), Ok(target)) if policy == target => {
-            let path = policy.display();
+/// Refuses to write over what was read.
+fn spared(read: &str, target: &Path) -> Result<(), Fault> {
+    match (fs::canonicalize(read), fs::canonicalize(target)) {
+        (Ok(read), Ok(target)) if read == target => {
+            let path = read.display();
             Err(Fault::File(format!(
-                "{path}: found the policy after -o; expected another file"
+                "{path}: this was read; expected another file for the answer"
             )))
         }
         _ => Ok(()),
@@ -69,8 +69,17 @@ fn unreadable(path: &str, why: &io::Error) -> Fault {
     Fault::File(format!("{path}: can't be read: {why}"))
 }
 
-/// Writes a file.
-pub fn write(path: &Path, bytes: &[u8]) -> Result<(), Fault> {
+/// Writes an answer to a file, but not over what was read for it.
+pub fn answer(path: &str, bytes: &[u8], read: &[&str]) -> Result<(), Fault> {
+    let path = Path::new(path);
+    for file in read {
+        spared(file, path)?;
+        spared(&names_file(file).to_string_lossy(), path)?;
+    }
+    write(path, bytes)
+}
+
+fn write(path: &Path, bytes: &[u8]) -> Result<(), Fault> {
     let unwritable = |why| Fault::File(format!("{}: can't be written: {why}", path.display()));
     fs::write(path, bytes).map_err(unwritable)
 }

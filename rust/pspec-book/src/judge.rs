@@ -2,8 +2,10 @@
 
 use crate::breaking::breaking;
 use crate::explain;
+use crate::json::Json;
 use crate::lineage::{self, Traced};
 use crate::named::NamedBook;
+use crate::names::Names;
 use crate::plan;
 use crate::rule;
 use crate::text::{place, Mistakes};
@@ -50,7 +52,7 @@ pub fn broken(named: &NamedBook, user: &str, text: &str) -> Result<Vec<BrokenRul
     let plan = plan::read(text, named).map_err(NotJudged::Plan)?;
     let refused = |refusal| match refusal {
         Refusal::NoUser => NotJudged::User(explain::no_user(number, &contents.users, names)),
-        _ => NotJudged::Plan(explain::plan(refusal, &plan).into()),
+        _ => NotJudged::Plan(explain::plan(refusal, &plan, contents).into()),
     };
     let broken = book.judge(number.into(), &plan.plan).broken();
     let broken = broken.map_err(refused)?;
@@ -76,8 +78,32 @@ fn one(r: u32, named: &NamedBook, traced: &[Traced]) -> BrokenRule {
     }
 }
 
+impl BrokenRule {
+    fn json(&self, names: &Names) -> Json {
+        let part = |part: &Part| {
+            let accesses = Json::list(&part.accesses, |access| access.json(names));
+            let reference = Json::Text(part.reference.clone());
+            Json::Object(vec![("reference", reference), ("accesses", accesses)])
+        };
+        Json::Object(vec![
+            ("number", Json::Number(self.number as usize)),
+            ("rule", Json::Text(self.rule.clone())),
+            ("by", Json::list(&self.parts, part)),
+        ])
+    }
+}
+
+/// The broken rules for scripts.
+pub fn json(user: &str, broken: &[BrokenRule], names: &Names) -> Json {
+    Json::Object(vec![
+        ("user", Json::Text(user.to_string())),
+        ("opens", Json::Bool(broken.is_empty())),
+        ("broken", Json::list(broken, |rule| rule.json(names))),
+    ])
+}
+
 /// The broken rules in words, one after the other.
-pub fn text(user: &str, broken: &[BrokenRule], named: &NamedBook) -> String {
+pub fn text(user: &str, broken: &[BrokenRule], names: &Names) -> String {
     if broken.is_empty() {
         return format!("{user} breaks no rule.\n");
     }
@@ -90,7 +116,7 @@ pub fn text(user: &str, broken: &[BrokenRule], named: &NamedBook) -> String {
     {
         text += &format!("{user} breaks rule {number} ({rule})\n");
         for part in parts.iter().filter(|part| !part.accesses.is_empty()) {
-            let accesses = part.accesses.iter().map(|of| of.text(&named.names));
+            let accesses = part.accesses.iter().map(|of| of.text(names));
             let accesses: Vec<String> = accesses.collect();
             text += &format!("  {}: {}\n", part.reference, accesses.join("; "));
         }

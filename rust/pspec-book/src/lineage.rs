@@ -4,6 +4,7 @@
 //! an access that it does not find has no lines.
 
 use crate::contents::{Contents, UNLABELLED};
+use crate::json::Json;
 use crate::named::NamedBook;
 use crate::names::Names;
 use crate::plan::PlanText;
@@ -28,6 +29,29 @@ impl Traced {
             format!(", line {sink} from {}", counted_list("line", &columns))
         });
         format!("{}{}", text(self.access, names), each.collect::<String>())
+    }
+
+    /// The same for scripts.
+    pub fn json(&self, names: &Names) -> Json {
+        let action = match self.access.action {
+            Action::Projection => "projection",
+            Action::Condition => "condition",
+        };
+        let operation = match self.access.operation {
+            0 => "",
+            k => names.operation(k),
+        };
+        let line = |(&line, columns): (&usize, &BTreeSet<usize>)| {
+            let columns = Json::numbers(columns);
+            Json::Object(vec![("line", Json::Number(line)), ("columns", columns)])
+        };
+        let leaf = names.data[usize::from(self.access.leaf)].clone();
+        Json::Object(vec![
+            ("action", Json::Text(action.to_string())),
+            ("leaf", Json::Text(leaf)),
+            ("operation", Json::Text(operation.to_string())),
+            ("lines", Json::list(&self.lines, line)),
+        ])
     }
 }
 
@@ -61,6 +85,12 @@ pub fn traced(plan: &PlanText, named: &NamedBook) -> Result<Vec<Traced>, Refusal
         }
     }
     Ok(traced)
+}
+
+/// What a plan gives away, for scripts.
+pub fn json(accesses: &[Traced], names: &Names) -> Json {
+    let accesses = Json::list(accesses, |access| access.json(names));
+    Json::Object(vec![("accesses", accesses)])
 }
 
 /// One way from a column's row to a row that gives an access.

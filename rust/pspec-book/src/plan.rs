@@ -124,6 +124,30 @@ fn named_row(cursor: &mut Cursor) -> Result<u8, Mistake> {
     }
 }
 
+/// The text of a plan that the engine accepts.
+pub fn text(plan: &Plan, names: &Names) -> String {
+    let line = |(i, row): (usize, [u8; 4])| match row {
+        [1, a, ..] => format!("{i} = column {}\n", names.columns[usize::from(a)]),
+        [2, a, b, NONE] => format!("{i} = {}({b})\n", names.functions[usize::from(a)]),
+        [2, a, b, c] => format!("{i} = {}({b}, {c})\n", names.functions[usize::from(a)]),
+        [3, a, b, c] => format!("{i} = choose {a} ? {b} : {c}\n"),
+        [4, a, ..] => format!("output {a}\n"),
+        [_, a, ..] => format!("where {a}\n"),
+    };
+    plan.rows().enumerate().map(line).collect()
+}
+
+/// The plan of rows of eight hexadecimal digits each; else the first word that is none.
+pub fn from_digits(words: &str) -> Result<Plan, String> {
+    let mut bytes = Vec::new();
+    for word in words.split_whitespace() {
+        let is_row = word.len() == 8 && word.bytes().all(|digit| digit.is_ascii_hexdigit());
+        let row = u32::from_str_radix(word, 16).ok().filter(|_| is_row);
+        bytes.extend(row.ok_or_else(|| word.to_string())?.to_be_bytes());
+    }
+    Ok(Plan::new(bytes))
+}
+
 /// The accesses of a plan of the form that Idle shows, in words.
 pub fn accesses(plan: &Plan, named: &NamedBook) -> Vec<String> {
     let NamedBook {

@@ -1,11 +1,12 @@
 //! Which rules are idle and why, and what breaks each other one alone, in the policy's names.
 
 use crate::covering::{why_idle, WhyIdle};
+use crate::json::Json;
 use crate::named::NamedBook;
 use crate::plan::accesses;
 use crate::rule;
 use crate::text::counted_list;
-use pspec::{Idleness, Plan, Refusal};
+use pspec::{Access, Idleness, Plan, Refusal};
 use std::io::{self, IsTerminal, Write};
 
 /// What is said after a list of idle rules.
@@ -37,8 +38,10 @@ pub enum Found {
     Needed {
         /// The user's name.
         user: String,
-        /// The plan's accesses, in words.
-        accesses: Vec<String>,
+        /// The plan's accesses.
+        accesses: Vec<Access>,
+        /// The same in words, reference by reference.
+        words: Vec<String>,
         /// The plan.
         plan: Plan,
     },
@@ -58,13 +61,46 @@ impl RuleReport {
     pub fn text(&self) -> String {
         let found = match &self.found {
             Found::Idle(why) => format!("idle, {}", why.text()),
-            Found::Needed { user, accesses, .. } => {
-                let accesses = accesses.join(", ");
-                format!("needed. {user} breaks it alone with: {accesses}")
+            Found::Needed { user, words, .. } => {
+                let words = words.join(", ");
+                format!("needed. {user} breaks it alone with: {words}")
             }
         };
         format!("rule {} ({}): {found}", self.number, self.rule)
     }
+}
+
+impl RuleReport {
+    fn json(&self) -> Json {
+        let mut fields = vec![
+            ("number", Json::Number(self.number)),
+            ("rule", Json::Text(self.rule.clone())),
+            ("idle", Json::Bool(self.is_idle())),
+        ];
+        fields.extend(match &self.found {
+            Found::Idle(WhyIdle::Unbreakable) => vec![("unbreakable", Json::Bool(true))],
+            Found::Idle(WhyIdle::Covered(by)) => vec![
+                ("unbreakable", Json::Bool(false)),
+                ("covered_by", Json::numbers(by)),
+            ],
+            Found::Needed {
+                user, words, plan, ..
+            } => vec![
+                ("user", Json::Text(user.clone())),
+                ("accesses", Json::texts(words)),
+                ("plan", Json::Text(plan.to_string())),
+            ],
+        });
+        Json::Object(fields)
+    }
+}
+
+/// What is found of each rule, for scripts.
+pub fn json(reports: &[RuleReport]) -> Json {
+    let idle = reports.iter().filter(|report| report.is_idle());
+    let idle = Json::list(idle, |report| Json::Number(report.number));
+    let rules = Json::list(reports, RuleReport::json);
+    Json::Object(vec![("rules", rules), ("idle", idle)])
 }
 
 /// What is found of one rule.
@@ -73,7 +109,8 @@ pub fn of_rule(named: &NamedBook, r: usize) -> Result<RuleReport, Refusal> {
         Idleness::Idle => Found::Idle(why_idle(&named.book, r)?),
         Idleness::Needed { user, plan } => Found::Needed {
             user: named.names.users[user as usize].clone(),
-            accesses: accesses(&plan, named),
+            accesses: named.book.flows(&plan)?.iter().collect(),
+            words: accesses(&plan, named),
             plan,
         },
     };

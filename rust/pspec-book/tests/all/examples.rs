@@ -108,7 +108,7 @@ fn a_report_names_operations_and_conditions() {
 fn judged(plan: &str) -> String {
     let named = built(&text(TPC_DS));
     let broken = judge::broken(&named, "Analyst", &text(plan)).expect("the plan is judged");
-    judge::text("Analyst", &broken, &named)
+    judge::text("Analyst", &broken, &named.names)
 }
 
 /// The paper on the system says that such queries violate its rules 3 and 7, and that its own check

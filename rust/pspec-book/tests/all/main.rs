@@ -1,5 +1,6 @@
 //! The examples, every mistake, the program, random books there and back, and texts of any kind.
 
+mod any_rows;
 mod any_text;
 mod common;
 mod examples;
@@ -7,6 +8,7 @@ mod format;
 mod idle;
 mod imports;
 mod mistakes;
+mod page;
 mod program;
 mod round_trip;
 mod scripts;

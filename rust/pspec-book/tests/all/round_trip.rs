@@ -74,8 +74,11 @@ fn plans_are_read_as_they_are_written() {
         let named = numbered(draft.bytes());
         let bytes = plans::sound(&mut Random::new(seed as u64), &draft);
         let text = plan_text(&bytes);
-        let plan = plan::read(&text, &named).expect("it is a plan");
-        assert_eq!(plan.plan.bytes(), bytes);
+        let plan = plan::read(&text, &named).expect("it is a plan").plan;
+        assert_eq!(plan.bytes(), bytes);
+        let again = plan::read(&plan::text(&plan, &named.names), &named);
+        assert_eq!(again.expect("it is a plan").plan, plan);
+        assert_eq!(plan::from_digits(&plan.to_string()), Ok(plan));
     }
 }
 
