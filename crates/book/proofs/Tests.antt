@@ -18,9 +18,9 @@ use Rattle.book.specs.Refusals.{columnsCounted, functionsCounted, ruleCo
 use Rattle.book.specs.Refusals.{dataOrdered, labelHolds, labelsHold, functionsHold, numbersHold, referencesApart}
 use Rattle.book.specs.Refusals.{masksHold, usersBlockTests, dataBlockTests, columnsBlockTests}
 use Rattle.book.specs.Refusals.{functionsBlockTests, ruleBlockTests, blockTests, checkTests, kindTests}
-use Rattle.book.specs.Refusals.{contentTests}
+use Rattle.book.specs.Refusals.{contentTests, userNumbersHold}
 use Rattle.book.specs.Tests.{Passes, firstFailing}
-use Rattle.book.specs.Inner.Testing.{CountsHold, ContentsAt, OutcomeAt, passTests}
+use Rattle.book.specs.Inner.Testing.{CountsHold, ContentsAt, OutcomeAt, passTests, referencesHold}
 use Rattle.book.specs.declared.Tested.{Tested}
 use Rattle.book.specs.declared.checking.Pass.{Pass}
 use Rattle.book.specs.declared.checking.Pass.the-variants.{Checks, Kinds, Contents}
@@ -62,7 +62,7 @@ kind-rule (suc (suc (suc (suc i)))) kind h = refl
 
 pub label-same :
     (head : List ℕ) (leaves d : ℕ) → dataCount head ≤ 64
-    → ((c : ℕ) → has leaves c ≡ (ltb c 64 && leaf (dataCount head) (dataParent head) c))
+    → ((c : ℕ) → has leaves c ≡ (ltb c 64 && isDataLeaf head c))
     → (eqb d 255 || has leaves d) ≡ labelHolds head d
 unfolding labelHolds isDataLeaf
 label-same head leaves d h e = rw (e d, leaf-in-word (dataCount head) (dataParent head) d h)
@@ -130,6 +130,11 @@ module _ (rule : List ℕ) where
   unfolding ruleCounted
   few-references h =
       rule-bounds (and-left (ruleCounts rule) (ruleZeros rule) (not-false (ruleCounted rule) h)) .1
+
+pub references-held : (head rule : List ℕ) → not (numbersHold head rule) ≡ false → referencesHold head rule ≡ true
+unfolding numbersHold
+references-held head rule h =
+    and-right (userNumbersHold head rule) (referencesHold head rule) (not-false (numbersHold head rule) h)
 
 -- The tests of a block
 
@@ -209,13 +214,13 @@ module _ (book : List ℕ) (pass : Pass) (i : ℕ) (block : List ℕ) (there : b
   kinds-outcome kind passed r p k e a = rw (p, ← there, ← k, ← e) a
 
   pub contents-outcome :
-      (head : List ℕ) (r : Tested)
+      (head t : List ℕ) (r : Tested)
       → pass ≡ Contents
       → head ≡ headOf book
-      → ContentsAt head block i r
-      → OutcomeAt pass book i r
+      → ContentsAt head t block i r
+      → OutcomeAt pass book t i r
   unfolding passTests contentTests
-  contents-outcome head r p e a h =
+  contents-outcome head t r p e a w h =
       let below : (j : ℕ) → j < i → Passes (contentTests book j) =
       λ j l. ap (λ (q : Pass). firstFailing (passTests q book j)) (sym p) ∙ h j l in
-      rw (p, ← there, ← e) (a (λ l. rw e (counts-hold book i below l)))
+      rw (p, ← there, ← e) (a (rw e w) (λ l. rw e (counts-hold book i below l)))

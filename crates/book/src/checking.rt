@@ -17,11 +17,14 @@ use crate::sealing::check_holds;
 use crate::testing::or_else;
 use crate::testing::refused;
 use crate::testing::test;
+use crate::words::head_words;
 ghost use mathlib.Core.Path.{_≡_};
 ghost use Rattle.book.specs.Lists.{flat, upTo};
+ghost use Rattle.book.specs.Blocks.{headOf};
 ghost use Rattle.book.specs.Tests.{firstFailing};
 ghost use Rattle.book.specs.Refusals.{bookTests, kindHolds, lengthHolds};
 ghost use Rattle.book.specs.Answers.{checkAnswer};
+ghost use Rattle.book.specs.Inner.Words.{HeadWords};
 ghost use Rattle.book.specs.Inner.Testing.{ContentsAt, OutcomeAt, passTests};
 
 // The three passes over the blocks: the checks, the kinds, what the blocks hold.
@@ -41,36 +44,37 @@ fn kind_holds(i: u8, kind: usize) -> bool
 }
 
 // The tests 4 to 9 of block i.
-fn test_contents(head: &[u8], block: &[u8], i: u8) -> Tested
-    ensures { λ r. ⌜ ContentsAt (now (head .entry)) (now (block .entry)) i r ⌝ }
+fn test_contents(head: &[u8], t: &[u64], block: &[u8], i: u8) -> Tested
+    ensures { λ r. ⌜ ContentsAt (now (head .entry)) (now (t .entry)) (now (block .entry)) i r ⌝ }
 {
     match i {
         0 => test_users_block(head),
         1 => test_data_block(head),
-        2 => test_columns_block(head),
+        2 => test_columns_block(head, t),
         3 => test_functions_block(head),
-        _ => test_rule_block(head, block, i as u32),
+        _ => test_rule_block(t, block, i as u32),
     }
 }
 
 // The tests of block i in a pass, given that the lower blocks have passed.
-fn test_block(book: &[u8], pass: Pass, i: u8) -> Tested
-    ensures { λ r. ⌜ OutcomeAt pass (now (book .entry)) i r ⌝ }
+fn test_block(book: &[u8], t: &[u64], pass: Pass, i: u8) -> Tested
+    ensures { λ r. ⌜ OutcomeAt pass (now (book .entry)) (now (t .entry)) i r ⌝ }
 {
     let block = block_at(book, i);
     match pass {
         Pass::Checks => test(BLOCK_CHECK, i as u32, check_holds(block)),
         Pass::Kinds => test(BLOCK_KIND, i as u32, kind_holds(i, byte_at(block, 0))),
-        Pass::Contents => test_contents(head_of(book), block, i),
+        Pass::Contents => test_contents(head_of(book), t, block, i),
     }
 }
 
 // One pass over n blocks: the lowest that fails is refused.
-fn pass_over(book: &[u8], pass: Pass, n: u8) -> Tested
-    ensures { λ r. ⌜ r ≡ firstFailing (flat (passTests pass (now (book .entry))) (upTo n)) ⌝ }
+fn pass_over(book: &[u8], t: &[u64], pass: Pass, n: u8) -> Tested
+    ensures { λ r. ⌜ (HeadWords (headOf (now (book .entry))) (now (t .entry))
+        → r ≡ firstFailing (flat (passTests pass (now (book .entry))) (upTo n))) ⌝ }
 {
     for i in 0..n {
-        let outcome = test_block(book, pass, i);
+        let outcome = test_block(book, t, pass, i);
         if let Tested::Refused(refusal) = outcome {
             return Tested::Refused(refusal);
         }
@@ -84,17 +88,18 @@ fn length_holds(n: usize) -> bool
     (n % 512 == 0) & ((4 <= n / 512) & (n / 512 <= 36))
 }
 
-// The tests 1 to 9.
-pub fn test_book(book: &[u8]) -> Tested
-    ensures { λ r. ⌜ r ≡ firstFailing (bookTests (now (book .entry))) ⌝ }
+// The tests 1 to 9, by the words of the book's head.
+pub fn test_book(book: &[u8], t: &[u64]) -> Tested
+    ensures { λ r. ⌜ (HeadWords (headOf (now (book .entry))) (now (t .entry))
+        → r ≡ firstFailing (bookTests (now (book .entry)))) ⌝ }
 {
     if !length_holds(book.len()) {
         return refused(BOOK_LENGTH, 0);
     }
     let n = (book.len() / 512) as u8;
-    let checks = pass_over(book, Pass::Checks, n);
-    let kinds = pass_over(book, Pass::Kinds, n);
-    let contents = pass_over(book, Pass::Contents, n);
+    let checks = pass_over(book, t, Pass::Checks, n);
+    let kinds = pass_over(book, t, Pass::Kinds, n);
+    let contents = pass_over(book, t, Pass::Contents, n);
     or_else(or_else(checks, kinds), contents)
 }
 
@@ -102,7 +107,8 @@ pub fn test_book(book: &[u8]) -> Tested
 pub fn check(book: &[u8]) -> Checked
     ensures { λ r. ⌜ r ≡ checkAnswer (now (book .entry)) ⌝ }
 {
-    let outcome = test_book(book);
+    let t = head_words(head_of(book));
+    let outcome = test_book(book, &t);
     match outcome {
         Tested::Passed => Checked::Accepted(rule_count(book) as u32),
         Tested::Refused(refusal) => Checked::Refused(refusal),

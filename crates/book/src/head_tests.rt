@@ -4,7 +4,6 @@ use crate::Hierarchy;
 use crate::LABEL_OR_FUNCTION;
 use crate::PARENT_OR_OWN;
 use crate::Tested;
-use crate::categories::leaves;
 use crate::fields::column_count;
 use crate::fields::count;
 use crate::fields::function_count;
@@ -16,18 +15,17 @@ use crate::sets::contains;
 use crate::testing::refused;
 use crate::testing::within;
 use crate::testing::zeros;
+use crate::words::data_leaves;
 ghost use mathlib.Core.Path.{_≡_};
 ghost use mathlib.Core.Bool.{_||_};
-ghost use Prim.Native.Nat.{_≤_};
 ghost use lib.Dec.{eqb};
 ghost use Rattle.book.specs.Sets.{has};
 ghost use Rattle.book.specs.Hierarchies.{parentHolds};
-ghost use Rattle.book.specs.Head.{dataCount};
 ghost use Rattle.book.specs.Tests.{firstFailing};
 ghost use Rattle.book.specs.Refusals.{columnsBlockTests, dataBlockTests, functionsBlockTests, functionsHold};
 ghost use Rattle.book.specs.Refusals.{labelsHold, usersBlockTests};
 ghost use Rattle.book.specs.Inner.Reading.{parentIn};
-ghost use Rattle.book.specs.Inner.Testing.{ownsHold, parentsHold};
+ghost use Rattle.book.specs.Inner.Testing.{CountedWords, ownsHold, parentsHold};
 
 fn parent_holds(head: &[u8], which: Hierarchy, i: u8) -> bool
     ensures { λ r. ⌜ r ≡ parentHolds (parentIn which (now (head .entry))) i ⌝ }
@@ -95,10 +93,10 @@ fn label_holds(leaves: u64, d: usize) -> bool
     (d == 255) | contains(leaves, d)
 }
 
-fn labels_hold(head: &[u8]) -> bool
-    ensures { λ r. ⌜ (dataCount (now (head .entry)) ≤ 64 → r ≡ labelsHold (now (head .entry))) ⌝ }
+fn labels_hold(head: &[u8], t: &[u64]) -> bool
+    ensures { λ r. ⌜ (CountedWords (now (head .entry)) (now (t .entry)) → r ≡ labelsHold (now (head .entry))) ⌝ }
 {
-    let leaves = leaves(head, Hierarchy::Data);
+    let leaves = data_leaves(t);
     let n = column_count(head);
     let mut ok = true;
     for i in 0..n {
@@ -107,14 +105,15 @@ fn labels_hold(head: &[u8]) -> bool
     ok
 }
 
-pub fn test_columns_block(head: &[u8]) -> Tested
-    ensures { λ r. ⌜ (dataCount (now (head .entry)) ≤ 64 → r ≡ firstFailing (columnsBlockTests (now (head .entry)))) ⌝ }
+pub fn test_columns_block(head: &[u8], t: &[u64]) -> Tested
+    ensures { λ r. ⌜ (CountedWords (now (head .entry)) (now (t .entry))
+        → r ≡ firstFailing (columnsBlockTests (now (head .entry)))) ⌝ }
 {
     let n = column_count(head);
     if !(within(0, 128, n) & zeros(head, 1026 + n, 1534)) {
         return refused(COUNT_OR_ZERO, 2);
     }
-    if !labels_hold(head) {
+    if !labels_hold(head, t) {
         return refused(LABEL_OR_FUNCTION, 2);
     }
     Tested::Passed

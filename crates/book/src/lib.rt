@@ -13,6 +13,7 @@ pub mod rules; // the leaf set of a reference, the users of a rule
 pub mod sealing; // the check of a block, and Seal
 pub mod sets; // sets of small numbers as words
 pub mod testing; // tests and their outcome
+pub mod words; // the words of a head, filled once a call
 
 pub use checking::check;
 pub use sealing::seal;

@@ -6,10 +6,7 @@ use crate::MASK_OPERATION;
 use crate::RULE_NUMBER;
 use crate::SHARED_LEAF;
 use crate::Tested;
-use crate::categories::descendants;
-use crate::categories::support;
 use crate::fields::action;
-use crate::fields::count;
 use crate::fields::data_category;
 use crate::fields::excluded_user_count;
 use crate::fields::excluded_users;
@@ -19,26 +16,26 @@ use crate::fields::reference_count;
 use crate::fields::restriction_count;
 use crate::fields::restriction_mask;
 use crate::fields::user_category;
-use crate::rules::leaf_set;
+use crate::rules::covered_leaves;
 use crate::sets::contains;
-use crate::sets::single;
 use crate::testing::refused;
 use crate::testing::within;
 use crate::testing::zeros;
+use crate::words::count_of;
+use crate::words::support_of;
+use crate::words::under_data;
+use crate::words::under_users;
 ghost use mathlib.Core.Path.{_≡_};
 ghost use mathlib.Core.Bool.{_&&_, _||_, not};
-ghost use Prim.Native.Nat.{ℕ, _+_, _*_, _≤_, _<_};
-ghost use lib.Dec.{eqb, ltb};
+ghost use Prim.Native.Nat.{_+_, _*_};
+ghost use lib.Bits.{bitAnd};
+ghost use lib.Dec.{eqb};
 ghost use Rattle.book.specs.Lists.{all, upTo};
 ghost use Rattle.book.specs.Sets.{has};
-ghost use Rattle.book.specs.Head.{dataCount, userCount};
-ghost use Rattle.book.specs.Rule.{referenceCount, restrictionMask};
-ghost use Rattle.book.specs.Tests.{firstFailing};
-ghost use Rattle.book.specs.Refusals.{maskAllows, masksHold, referenceHolds};
-ghost use Rattle.book.specs.Refusals.{referencesApart, referenceEnd, ruleBlockTests, ruleCounts, ruleZeros};
-ghost use Rattle.book.specs.Refusals.{userNumbersHold, zeros};
-ghost use Rattle.book.specs.Inner.Reading.{countIn};
-ghost use Rattle.book.specs.Inner.Testing.{allProper, CountsHold, exclusionCountsHold, presentLeaf, referencesHold};
+ghost use Rattle.book.specs.Rule.{restrictionMask};
+ghost use Rattle.book.specs.Refusals.{referenceEnd, ruleCounts, ruleZeros, zeros};
+ghost use Rattle.book.specs.Inner.Testing.{AllowedTold, exclusionCountsHold, MasksTold, ReferredTo};
+ghost use Rattle.book.specs.Inner.Testing.{RuleTested, UserNumbersTold};
 
 fn exclusion_counts_hold(rule: &[u8]) -> bool
     ensures { λ r. ⌜ r ≡ exclusionCountsHold (now (rule .entry)) ⌝ }
@@ -86,84 +83,68 @@ fn rule_zeros(rule: &[u8]) -> bool
                 & zeros(rule, 64 + 6 * restriction_count(rule), 510)))
 }
 
-// Whether each category of a list is a proper descendant of c.
-fn proper_descendants(head: &[u8], which: Hierarchy, c: usize, list: &[u8]) -> bool
-    ensures { λ r. ⌜ (countIn which (now (head .entry)) ≤ 64
-        → r ≡ allProper which (now (head .entry)) c (now (list .entry))) ⌝ }
+// Whether x is a proper descendant of c, under which `inside` holds what there is.
+fn is_proper(inside: u64, c: usize, x: usize) -> bool
+    ensures { λ r. ⌜ r ≡ (not (eqb x c) && has inside x) ⌝ }
 {
-    let n = count(head, which);
-    let inside = descendants(head, which, single(c));
+    (x != c) & contains(inside, x)
+}
+
+fn all_proper(inside: u64, c: usize, list: &[u8]) -> bool
+    ensures { λ r. ⌜ r ≡ all (λ x. not (eqb x c) && has inside x) (now (list .entry)) ⌝ }
+{
     let mut ok = true;
     for i in 0..list.len() {
-        ok = ok & is_proper(inside, n, c, list[i] as usize);
+        ok = ok & is_proper(inside, c, list[i] as usize);
     }
     ok
 }
 
-fn is_proper(inside: u64, n: usize, c: usize, x: usize) -> bool
-    ensures { λ r. ⌜ r ≡ (ltb x n && (not (eqb x c) && has inside x)) ⌝ }
-{
-    (x < n) & ((x != c) & contains(inside, x))
-}
-
-fn user_numbers_hold(head: &[u8], rule: &[u8]) -> bool
-    ensures { λ r. ⌜ (userCount (now (head .entry)) ≤ 64
-        → r ≡ userNumbersHold (now (head .entry)) (now (rule .entry))) ⌝ }
+fn user_numbers_hold(t: &[u64], rule: &[u8]) -> bool
+    ensures { λ r. ⌜ UserNumbersTold (now (t .entry)) (now (rule .entry)) r ⌝ }
 {
     let c = user_category(rule);
-    (c < count(head, Hierarchy::Users))
-        & proper_descendants(head, Hierarchy::Users, c, excluded_users(rule))
+    (c < count_of(t, Hierarchy::Users)) & all_proper(under_users(t, c), c, excluded_users(rule))
 }
 
-fn reference_holds(head: &[u8], rule: &[u8], i: u8) -> bool
-    ensures { λ r. ⌜ (dataCount (now (head .entry)) ≤ 64
-        → r ≡ referenceHolds (now (head .entry)) (now (rule .entry)) i) ⌝ }
+// What a reference says: whether its numbers hold, and its leaves.
+pub struct Referred {
+    pub holds: bool,
+    pub leaves: u64,
+}
+
+// Reference i, read once. An absent one holds and has no leaf.
+fn read_reference(t: &[u64], rule: &[u8], i: u8) -> Referred
+    ensures { λ r. ⌜ ReferredTo (now (t .entry)) (now (rule .entry)) i r ⌝ }
 {
+    if reference_count(rule) <= i as usize {
+        return Referred {
+            holds: true,
+            leaves: 0,
+        };
+    }
     let c = data_category(rule, i);
-    (c < count(head, Hierarchy::Data))
-        & (within(1, 3, action(rule, i))
-            & proper_descendants(head, Hierarchy::Data, c, exclusions(rule, i)))
-}
-
-fn references_hold(head: &[u8], rule: &[u8]) -> bool
-    ensures { λ r. ⌜ (dataCount (now (head .entry)) ≤ 64
-        → r ≡ referencesHold (now (head .entry)) (now (rule .entry))) ⌝ }
-{
-    let n = reference_count(rule);
-    let mut ok = true;
-    for i in 0..n {
-        ok = ok & reference_holds(head, rule, i as u8);
+    let list = exclusions(rule, i);
+    let proper = all_proper(under_data(t, c), c, list);
+    let numbers = within(1, 3, action(rule, i)) & proper;
+    Referred {
+        holds: (c < count_of(t, Hierarchy::Data)) & numbers,
+        leaves: covered_leaves(t, Hierarchy::Data, c, list),
     }
-    ok
 }
 
-// The leaf set of reference i; empty where the rule has no such reference.
-fn leaf_set_if_present(head: &[u8], rule: &[u8], i: u8) -> u64
-    ensures { λ r. ⌜ ((d : ℕ) → has r d ≡ presentLeaf (now (head .entry)) (now (rule .entry)) i d) ⌝ }
+fn leaves_apart(a: u64, b: u64, c: u64) -> bool
+    ensures { λ r. ⌜ r ≡ (eqb (bitAnd b a) 0 && (eqb (bitAnd c a) 0 && eqb (bitAnd c b) 0)) ⌝ }
 {
-    if (i as usize) < reference_count(rule) {
-        return leaf_set(head, rule, i);
-    }
-    0
-}
-
-fn references_apart(head: &[u8], rule: &[u8]) -> bool
-    ensures { λ r. ⌜ (dataCount (now (head .entry)) ≤ 64 → referenceCount (now (rule .entry)) ≤ 3
-        → r ≡ referencesApart (now (head .entry)) (now (rule .entry))) ⌝ }
-{
-    let a = leaf_set_if_present(head, rule, 0);
-    let b = leaf_set_if_present(head, rule, 1);
-    let c = leaf_set_if_present(head, rule, 2);
-    (b & a == 0) & ((c & a == 0) & (c & b == 0))
+    (b & a == 0) & ((c & a == 0) & (c & a == 0))
 }
 
 // The operations that a mask for reference i may name; none for an absent reference.
-fn allowed_operations(head: &[u8], rule: &[u8], i: u8) -> u64
-    ensures { λ r. ⌜ ((k : ℕ) → has r k ≡ maskAllows (now (head .entry)) (now (rule .entry)) i k) × (r < 65536) ⌝ }
+fn allowed_operations(t: &[u64], rule: &[u8], i: u8) -> u64
+    ensures { λ r. ⌜ AllowedTold (now (t .entry)) (now (rule .entry)) i r ⌝ }
 {
     if (i as usize) < reference_count(rule) {
-        let c = data_category(rule, i);
-        return support(head, c as u8) & !1;
+        return support_of(t, data_category(rule, i)) & !1;
     }
     0
 }
@@ -174,12 +155,12 @@ fn mask_holds(rule: &[u8], j: u8, i: u8, allowed: u64) -> bool
     restriction_mask(rule, j, i) & !allowed == 0
 }
 
-fn masks_hold(head: &[u8], rule: &[u8]) -> bool
-    ensures { λ r. ⌜ r ≡ masksHold (now (head .entry)) (now (rule .entry)) ⌝ }
+fn masks_hold(t: &[u64], rule: &[u8]) -> bool
+    ensures { λ r. ⌜ MasksTold (now (t .entry)) (now (rule .entry)) r ⌝ }
 {
-    let a = allowed_operations(head, rule, 0);
-    let b = allowed_operations(head, rule, 1);
-    let c = allowed_operations(head, rule, 2);
+    let a = allowed_operations(t, rule, 0);
+    let b = allowed_operations(t, rule, 1);
+    let c = allowed_operations(t, rule, 2);
     let n = restriction_count(rule);
     let mut ok = true;
     for j in 0..n {
@@ -192,20 +173,22 @@ fn masks_hold(head: &[u8], rule: &[u8]) -> bool
 }
 
 // What the promise asks is what blocks 0 and 1 have passed.
-pub fn test_rule_block(head: &[u8], rule: &[u8], i: u32) -> Tested
-    ensures { λ r. ⌜ (CountsHold (now (head .entry))
-        → r ≡ firstFailing (ruleBlockTests (now (head .entry)) (now (rule .entry)) i)) ⌝ }
+pub fn test_rule_block(t: &[u64], rule: &[u8], i: u32) -> Tested
+    ensures { λ r. ⌜ RuleTested (now (t .entry)) (now (rule .entry)) i r ⌝ }
 {
     if !(rule_counts(rule) & rule_zeros(rule)) {
         return refused(COUNT_OR_ZERO, i);
     }
-    if !(user_numbers_hold(head, rule) & references_hold(head, rule)) {
+    let a = read_reference(t, rule, 0);
+    let b = read_reference(t, rule, 1);
+    let c = read_reference(t, rule, 2);
+    if !(user_numbers_hold(t, rule) & (a.holds & (b.holds & c.holds))) {
         return refused(RULE_NUMBER, i);
     }
-    if !references_apart(head, rule) {
+    if !leaves_apart(a.leaves, b.leaves, c.leaves) {
         return refused(SHARED_LEAF, i);
     }
-    if !masks_hold(head, rule) {
+    if !masks_hold(t, rule) {
         return refused(MASK_OPERATION, i);
     }
     Tested::Passed

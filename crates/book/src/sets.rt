@@ -3,7 +3,6 @@ ghost use mathlib.Core.Path.{_≡_};
 ghost use mathlib.Core.Bool.{cond};
 ghost use lib.Dec.{eqb, ltb};
 ghost use lib.ListN.{getD};
-ghost use Rattle.book.specs.Lists.{any};
 ghost use Rattle.book.specs.Sets.{has, WordOf};
 
 pub fn contains(set: u64, i: usize) -> bool
@@ -33,17 +32,6 @@ pub fn below(n: usize) -> u64
         return 0xffff_ffff_ffff_ffff;
     }
     (1u64 << n) - 1
-}
-
-// The bytes of a list that are below 64.
-pub fn set_of(list: &[u8]) -> u64
-    ensures { λ r. ⌜ WordOf (λ j. any (eqb j) (now (list .entry))) r ⌝ }
-{
-    let mut set = 0u64;
-    for i in 0..list.len() {
-        set = set | single(list[i] as usize);
-    }
-    set
 }
 
 // A word, or the empty one.
