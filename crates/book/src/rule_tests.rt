@@ -136,7 +136,7 @@ fn read_reference(t: &[u64], rule: &[u8], i: u8) -> Referred
 fn leaves_apart(a: u64, b: u64, c: u64) -> bool
     ensures { λ r. ⌜ r ≡ (eqb (bitAnd b a) 0 && (eqb (bitAnd c a) 0 && eqb (bitAnd c b) 0)) ⌝ }
 {
-    (b & a == 0) & ((c & a == 0) & (c & a == 0))
+    (b & a == 0) & ((c & a == 0) & (c & b == 0))
 }
 
 // The operations that a mask for reference i may name; none for an absent reference.
