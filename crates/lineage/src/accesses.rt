@@ -6,6 +6,7 @@ use crate::rows::row_a;
 use book::fields::head_of;
 ghost use mathlib.Core.Path.{_≡_};
 ghost use Rattle.book.specs.Blocks.{headOf};
+ghost use Rattle.book.specs.Inner.Words.{HeadWords};
 ghost use Rattle.lineage.specs.Accesses.{accessWords};
 ghost use Rattle.lineage.specs.Answers.{BothAccepted};
 ghost use Rattle.lineage.specs.Inner.Table.{GatheredAll, GatheredStep, RowAdded};
@@ -51,14 +52,15 @@ fn gathered(plan: &[u8], table: &[u64], n: u8) -> [u64; 32]
 }
 
 // The accesses of an accepted plan for an accepted book.
-pub fn accesses(book: &[u8], plan: &[u8]) -> [u64; 32]
-    ensures { λ r. ⌜ (BothAccepted (now (book .entry)) (now (plan .entry))
+pub fn accesses(book: &[u8], t: &[u64], plan: &[u8]) -> [u64; 32]
+    ensures { λ r. ⌜ (HeadWords (headOf (now (book .entry))) (now (t .entry))
+        → BothAccepted (now (book .entry)) (now (plan .entry))
         → r ≡ accessWords (headOf (now (book .entry))) (now (plan .entry))) ⌝ }
 {
     if 256 < plan.len() {
         return [0u64; 32];
     }
     let n = (plan.len() / 4) as u8;
-    let table = reach_table(head_of(book), plan, n);
+    let table = reach_table(head_of(book), t, plan, n);
     gathered(plan, &table, n)
 }

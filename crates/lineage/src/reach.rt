@@ -4,10 +4,10 @@ use crate::rows::kind;
 use crate::rows::row_a;
 use crate::rows::row_b;
 use crate::rows::row_c;
-use book::categories::supporters;
 use book::fields::label;
 use book::fields::operation;
 use book::sets::single;
+use book::words::supporters;
 ghost use mathlib.Core.Path.{_≡_};
 ghost use Prim.Native.Nat.{ℕ, _≤_, _<_};
 ghost use lib.Bits.{bitOr};
@@ -15,6 +15,7 @@ ghost use lib.Dec.{eqb};
 ghost use lib.ListN.{getD};
 ghost use Rattle.book.specs.Lists.{any};
 ghost use Rattle.book.specs.Sets.{WordOf};
+ghost use Rattle.book.specs.Inner.Words.{HeadWords};
 ghost use Rattle.lineage.specs.Paths.{labels};
 ghost use Rattle.lineage.specs.Inner.Table.{Brought, ColumnReached, Moved, PlanSound, Reached};
 ghost use Rattle.lineage.specs.Inner.Table.{RowOf, RowStep, Stored};
@@ -114,11 +115,11 @@ fn store_row(table: &mut [u64], i: u8, row: [u64; 16])
 }
 
 // The words of the first n rows, from row 0 up.
-pub fn reach_table(head: &[u8], plan: &[u8], n: u8) -> [u64; 1024]
-    ensures { λ r. ⌜ (PlanSound (now (head .entry)) (now (plan .entry)) → n ≤ 64
-        → Reached (now (head .entry)) (now (plan .entry)) n r) ⌝ }
+pub fn reach_table(head: &[u8], t: &[u64], plan: &[u8], n: u8) -> [u64; 1024]
+    ensures { λ r. ⌜ (HeadWords (now (head .entry)) (now (t .entry)) → PlanSound (now (head .entry)) (now (plan .entry))
+        → n ≤ 64 → Reached (now (head .entry)) (now (plan .entry)) n r) ⌝ }
 {
-    let supporting = supporters(head);
+    let supporting = supporters(t, head);
     let mut table = [0u64; 1024];
     for i in 0..n {
         let row = row_reach(head, plan, supporting, &table, i);

@@ -25,22 +25,20 @@ module _ (book : List ℕ) (user : ℕ) (plan : List ℕ) where
   -- the outcomes of the parts, joined in document 01's order. The user's counts only where the book is accepted, and there
   -- the number of users is small.
   pub judge-joined :
-      (head : List ℕ) (x y both z r : Tested)
-      → head ≡ headOf book
+      (x y both z r : Tested)
       → x ≡ firstFailing (bookTests book)
-      → (userCount head ≤ 64 → y ≡ firstFailing (userTests head user))
+      → (userCount (headOf book) ≤ 64 → y ≡ firstFailing (userTests (headOf book) user))
       → both ≡ orElse x y
-      → z ≡ firstFailing (planTests head plan)
+      → z ≡ firstFailing (planTests (headOf book) plan)
       → r ≡ orElse both z
       → r ≡ firstFailing (judgeTests book user plan)
   unfolding judgeTests
-  judge-joined head x y both z r eh ex ey eb ez er =
-      let users : userCount (headOf book) ≤ 64 → y ≡ firstFailing (userTests (headOf book) user) = rw eh at ey in
+  judge-joined x y both z r ex ey eb ez er =
       joined (bookTests book ++ userTests (headOf book) user) (planTests (headOf book) plan) both z r
       (joined-after (bookTests book) (userTests (headOf book) user) x y both ex
-      (λ accepted. let h = accepted-head book accepted in users (omega (arith, h .users-most)))
+      (λ accepted. let h = accepted-head book accepted in ey (omega (arith, h .users-most)))
       eb)
-      (rw eh at ez) er
+      ez er
 
   -- what Judge has tested when it accepts
   pub judge-accepted : Passes (judgeTests book user plan) → JudgeAccepted book user plan

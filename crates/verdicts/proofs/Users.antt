@@ -12,7 +12,7 @@ use Rattle.book.proofs.Lists.{and-assoc}
 use Rattle.book.proofs.Hierarchies.{leaf-in-word}
 
 module _ (head : List ℕ) (user word : ℕ) (t : Bool) (few : userCount head ≤ 64) (test : t ≡ has word user) where
-  pub user-test : WordOf (leaf (userCount head) (userParent head)) word → t ≡ isUser head user
+  pub user-test : WordOf (isUser head) word → t ≡ isUser head user
   unfolding isUser
   user-test members = test ∙ members user ∙ leaf-in-word (userCount head) (userParent head) user few
 

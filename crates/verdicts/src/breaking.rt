@@ -29,13 +29,13 @@ pub fn action_fits(action: usize, channel: usize) -> bool
 
 // The operations with which some access of the words fits reference i; of an absent reference,
 // operation 0 alone.
-fn offered(head: &[u8], rule: &[u8], words: [u64; 32], i: u8) -> u64
-    ensures { λ r. ⌜ OfferedIfSound (now (head .entry)) (now (rule .entry)) (heldBy words) i r ⌝ }
+fn offered(t: &[u64], rule: &[u8], words: [u64; 32], i: u8) -> u64
+    ensures { λ r. ⌜ OfferedIfSound (now (t .entry)) (now (rule .entry)) (heldBy words) i r ⌝ }
 {
     if reference_count(rule) <= i as usize {
         return 1;
     }
-    let leaves = leaf_set(head, rule, i);
+    let leaves = leaf_set(t, rule, i);
     let wanted = action(rule, i);
     let projected = word_if(action_fits(wanted, 0), leaves);
     let tested = word_if(action_fits(wanted, 1), leaves);
@@ -119,18 +119,18 @@ fn some_refused(masks: [u64; 24], first: u64, second: u64, third: u64) -> bool
 
 // Whether some choice from the words is accepted by no restriction. Most rules end where a reference
 // is offered nothing.
-pub fn breaks(head: &[u8], rule: &[u8], words: [u64; 32]) -> bool
-    ensures { λ r. ⌜ RefusedIfSound (now (head .entry)) (now (rule .entry)) (heldBy words) r ⌝ }
+pub fn breaks(t: &[u64], rule: &[u8], words: [u64; 32]) -> bool
+    ensures { λ r. ⌜ RefusedIfSound (now (t .entry)) (now (rule .entry)) (heldBy words) r ⌝ }
 {
-    let first = offered(head, rule, words, 0);
+    let first = offered(t, rule, words, 0);
     if first == 0 {
         return false;
     }
-    let second = offered(head, rule, words, 1);
+    let second = offered(t, rule, words, 1);
     if second == 0 {
         return false;
     }
-    let third = offered(head, rule, words, 2);
+    let third = offered(t, rule, words, 2);
     if third == 0 {
         return false;
     }

@@ -9,6 +9,7 @@ use lib.Dec.{eqb, ltb}
 use Rattle.book.specs.Lists.{any, upTo}
 use Rattle.book.specs.Sets.{has}
 use Rattle.book.specs.Blocks.{Head, Rule}
+use Rattle.book.specs.Inner.Words.{HeadWords}
 use Rattle.book.specs.Head.{userCount, dataCount}
 use Rattle.book.specs.Rule.{referenceCount, restrictionCount, restrictionMask}
 use Rattle.verdicts.specs.Accesses.{Accesses, fitting}
@@ -39,8 +40,10 @@ offersOrNone head rule accesses i k = cond (ltb i (referenceCount rule)) (offers
 abbrev pub Offered : (head : Head) (rule : Rule) → Accesses → (i word : ℕ) → Type 0
 Offered head rule accesses i word = (k : ℕ) → has word k ≡ (ltb k 16 && offersOrNone head rule accesses i k)
 
-abbrev pub OfferedIfSound : (head : Head) (rule : Rule) → Accesses → (i word : ℕ) → Type 0
-OfferedIfSound head rule accesses i word = RuleSound head rule → Offered head rule accesses i word
+-- the same, by the words of a head
+abbrev pub OfferedIfSound : (t : List ℕ) (rule : Rule) → Accesses → (i word : ℕ) → Type 0
+OfferedIfSound t rule accesses i word =
+    (head : Head) → HeadWords head t → RuleSound head rule → Offered head rule accesses i word
 
 -- Restrictions
 
@@ -93,5 +96,6 @@ someRefused masks first second third = any (λ a. has first a && refusedBeside m
 -- The rule
 
 -- "no restriction accepts the choice", told of some choice
-abbrev pub RefusedIfSound : (head : Head) (rule : Rule) → Accesses → (told : Bool) → Type 0
-RefusedIfSound head rule accesses told = RuleSound head rule → told ≡ someChoiceRefused head rule accesses
+abbrev pub RefusedIfSound : (t : List ℕ) (rule : Rule) → Accesses → (told : Bool) → Type 0
+RefusedIfSound t rule accesses told =
+    (head : Head) → HeadWords head t → RuleSound head rule → told ≡ someChoiceRefused head rule accesses

@@ -14,20 +14,20 @@ use borrow.Author.Needs.{needs}
 use Rattle.lineage.proofs.accesses.accesses.Tie as tie
 
 returns : tie.Need-returns
-returns c both =
+returns c words both =
     let a = c .before .before .before .args in
     let p = accepted-plan (headOf (a .book .now)) (a .plan .now) (both .1) in
     absurd (omega (arith, p .short))
 
 returns-2 : tie.Need-returns-2
-returns-2 c both =
+returns-2 c words both =
     let a = c .before .before .before .before .before .before .before .args in
     let head = headOf (a .book .now) in
     let b = accepted-head (a .book .now) (both .0) in
     let p = accepted-plan head (a .plan .now) (both .1) in
     let same = c .before .before .before .head-of .ensures in
     let table : Reached head (a .plan .now) (rowCount (a .plan .now)) (c .before .before .reach-table .result) =
-    (rw same at (c .before .before .reach-table .ensures)) (plan-sound head (a .plan .now) b p) (omega (arith, p .short)) in
+    (rw same at (c .before .before .reach-table .ensures)) words (plan-sound head (a .plan .now) b p) (omega (arith, p .short)) in
     access-words head (a .plan .now) (c .gathered .result) (search needs) (λ w h. let f : Fits w64 (getD (c .gathered .result) w 0) = search needs in f .fits)
     (c .gathered .ensures head table (plan-given head (a .plan .now) b p))
 

@@ -8,40 +8,40 @@ use Rattle.verdicts.proofs.breaking.breaks.Statement.{statement}
 use Rattle.verdicts.proofs.breaking.breaks.Tie as tie
 
 returns : tie.Need-returns
-returns c sound =
+returns c head held sound =
     let first = c .before .offered in
     let a = c .before .before .before .before .args in
     sym
-    (none-first (a .head .now) (a .rule .now) (heldBy (a .words)) sound (first .result) (first .ensures sound)
+    (none-first head (a .rule .now) (heldBy (a .words)) sound (first .result) (first .ensures head held sound)
     (c .if1 .taken))
 
 returns-2 : tie.Need-returns-2
-returns-2 c sound =
+returns-2 c head held sound =
     let second = c .before .offered2 in
     let a = c .before .before .before .before .before .before .args in
     sym
-    (none-second (a .head .now) (a .rule .now) (heldBy (a .words)) sound (second .result) (second .ensures sound)
+    (none-second head (a .rule .now) (heldBy (a .words)) sound (second .result) (second .ensures head held sound)
     (c .if2 .taken))
 
 returns-3 : tie.Need-returns-3
-returns-3 c sound =
+returns-3 c head held sound =
     let third = c .before .offered3 in
     let a = c .before .before .before .before .before .before .before .before .args in
     sym
-    (none-third (a .head .now) (a .rule .now) (heldBy (a .words)) sound (third .result) (third .ensures sound)
+    (none-third head (a .rule .now) (heldBy (a .words)) sound (third .result) (third .ensures head held sound)
     (c .if3 .taken))
 
 returns-4 : tie.Need-returns-4
-returns-4 c sound =
+returns-4 c head held sound =
     let masks = c .before .taken in
     let third = c .before .before .before .offered3 in
     let second = c .before .before .before .before .before .offered2 in
     let first = c .before .before .before .before .before .before .before .offered in
     let a = c .before .before .before .before .before .before .before .before .before .before .args in
     c .some-refused .ensures
-    ∙ refused-by-words (a .head .now) (a .rule .now) (heldBy (a .words)) sound (masks .result) (first .result)
+    ∙ refused-by-words head (a .rule .now) (heldBy (a .words)) sound (masks .result) (first .result)
     (second .result) (third .result) (masks .ensures (omega (arith, sound .whole)) (sound .restrictions))
-    (first .ensures sound) (second .ensures sound) (third .ensures sound)
+    (first .ensures head held sound) (second .ensures head held sound) (third .ensures head held sound)
 
 pub breaks-spec : {M : Type 1} → statement M
 breaks-spec =

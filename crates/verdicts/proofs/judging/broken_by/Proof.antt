@@ -5,6 +5,7 @@ use mathlib.Core.Bool.{Bool}
 use mathlib.Core.List.{List}
 use borrow.Author.Needs.{needs}
 use Rattle.book.specs.Blocks.{headOf, ruleAt}
+use Rattle.book.specs.Inner.Words.{HeadWords}
 use Rattle.verdicts.specs.Accesses.{heldBy}
 use Rattle.verdicts.specs.Breaking.{breaks}
 use Rattle.verdicts.specs.Inner.Words.{RuleSound}
@@ -18,17 +19,19 @@ abbrev hit : List ℕ → ℕ → List ℕ → ℕ → Bool
 hit book user words i = breaks (headOf book) (ruleAt book i) user (heldBy words)
 
 abbrev Inv-loop : tie.InvT-loop
-Inv-loop book user words head n found₀ r₀ found r =
+Inv-loop book t user words n found₀ r₀ found r =
     (r ≤ n)
-    × (((i : ℕ) → i < n → RuleSound (headOf book) (ruleAt book i)) → Marks (hit book user words) r found)
+    × (HeadWords (headOf book) t
+    → ((i : ℕ) → i < n → RuleSound (headOf book) (ruleAt book i))
+    → Marks (hit book user words) r found)
 
 abbrev μ-loop : tie.MeasureT-loop
-μ-loop book user words head n found₀ r₀ found r = n - r
+μ-loop book t user words n found₀ r₀ found r = n - r
 
 loop-holds : tie.Need-loop-holds Inv-loop μ-loop
 loop-holds c =
     let a = c .before .before .before .args in
-    (search needs, λ sound. marks-none (hit (a .book .now) (a .user) (a .words)))
+    (search needs, λ held sound. marks-none (hit (a .book .now) (a .user) (a .words)))
 
 loop-again : tie.Need-loop-again Inv-loop μ-loop
 loop-again c =
@@ -37,17 +40,16 @@ loop-again c =
     let rule = c .before .before .before .rule-at in
     let small = c .before .before .before .before .loop-test .taken in
     let l = c .before .before .before .before .before .loop in
-    let head = c .before .before .before .before .before .before .before .head-of in
     let a = c .before .before .before .before .before .before .before .before .before .args in (
       search needs,
-      λ sound.
+      λ held sound.
           marks-more (hit (a .book .now) (a .user) (a .words)) (l .r) (l .found) (one .result) (c .word-if .result)
-          (test .result) (l .inv .1 sound) (one .ensures) (c .word-if .ensures)
-          ((rw (head .ensures, rule .ensures) at (test .ensures)) (sound (l .r) small)),
+          (test .result) (l .inv .1 held sound) (one .ensures) (c .word-if .ensures)
+          ((rw (rule .ensures) at (test .ensures)) (headOf (a .book .now)) held (sound (l .r) small)),
     )
 
 returns : tie.Need-returns Inv-loop μ-loop
-returns c accepted =
+returns c held accepted =
     let l = c .before .loop in
     let total = c .before .before .rule-count in
     let a = c .before .before .before .before .before .args in
@@ -57,7 +59,7 @@ returns c accepted =
     rules-sound (a .book .now) accepted
     (λ j. omega (arith, c .before .before .before .before .shared-slice-known .given j)) i (rw e at small) in
     mask-whole (a .book .now) accepted (a .user) (heldBy (a .words)) (total .result) (l .found) e
-    (marks-end (hit (a .book .now) (a .user) (a .words)) (l .r) (total .result) (l .found) (l .inv .1 sound) (l .inv .0)
+    (marks-end (hit (a .book .now) (a .user) (a .words)) (l .r) (total .result) (l .found) (l .inv .1 held sound) (l .inv .0)
     (c .loop-test .left))
 
 pub broken-by-spec : {M : Type 1} → statement M
@@ -66,7 +68,6 @@ broken-by-spec =
     (tie.spec
     Inv-loop
     μ-loop
-    (λ c κs. search needs)
     (λ c κs. search needs)
     loop-holds
     (λ c κs. search needs)

@@ -13,16 +13,16 @@ returns c =
     let tested = c .before .before .before in
     let a = tested .before .before .before .args in
     judge-promises (a .book .now) (a .user) (a .plan .now) _
-    (judge-refused (a .book .now) (a .user) (a .plan .now) _ (sym (tested .test-judge .ensures) ∙ c .before .outcome .given .1))
+    (judge-refused (a .book .now) (a .user) (a .plan .now) _ (sym (tested .test-judge .ensures held) ∙ c .before .outcome .given .1))
 
 returns-2 : tie.Need-returns-2
 returns-2 c =
     let tested = c .before .before .before in
     let a = tested .before .before .before .args in
-    let passed = sym (tested .test-judge .ensures) ∙ c .before .enum-told .given .1 in
+    let passed = sym (tested .test-judge .ensures held) ∙ c .before .enum-told .given .1 in
     let given = judge-accepted (a .book .now) (a .user) (a .plan .now) passed in
     judge-promises (a .book .now) (a .user) (a .plan .now) _
-    (ap Broken (c .mask-of .ensures (given .book-accepted, given .plan-accepted))
+    (ap Broken (c .mask-of .ensures held (given .book-accepted, given .plan-accepted))
     ∙ sym (judge-answer (a .book .now) (a .user) (a .plan .now) passed))
 
 pub judge-spec : {M : Type 1} → statement M

@@ -6,10 +6,10 @@ use Rattle.verdicts.proofs.judging.mask_of.Statement.{statement}
 use Rattle.verdicts.proofs.judging.mask_of.Tie as tie
 
 returns : tie.Need-returns
-returns c both =
+returns c held both =
     let a = c .before .before .before .before .args in
     let words = c .before .accesses in
-    (rw (words .ensures both) at (c .broken-by .ensures (both .0)))
+    (rw (words .ensures held both) at (c .broken-by .ensures held (both .0)))
     ∙ mask-held (a .book .now) (both .0) (a .user) (a .plan .now)
 
 pub mask-of-spec : {M : Type 1} → statement M

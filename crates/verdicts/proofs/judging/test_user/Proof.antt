@@ -9,12 +9,12 @@ use Rattle.verdicts.proofs.judging.test_user.Tie as tie
 
 returns : tie.Need-returns
 unfolding userTests
-returns c few =
+returns c head held few =
     let a = c .before .before .before .before .args in
-    let held = c .before .contains in
-    let leaves = c .before .before .leaves in
+    let member = c .before .contains in
+    let users = c .before .before .users in
     rw
-    (← (user-test (a .head .now) (a .user) (leaves .result) (held .result) few (held .ensures) (leaves .ensures)))
+    (← (user-test head (a .user) (users .result) (member .result) few (member .ensures) (users .ensures head held)))
     (c .test .ensures)
 
 pub test-user-spec : {M : Type 1} → statement M

@@ -10,27 +10,27 @@ use Rattle.verdicts.proofs.judging.user_breaks.Tie as tie
 
 returns : tie.Need-returns
 unfolding breaks
-returns c sound =
+returns c head held sound =
     let test = c .before .before .contains in
     let users = c .before .before .before .covered-users in
     let a = c .before .before .before .before .before .before .args in
-    let covered : coversUser (a .head .now) (a .rule .now) (a .user) ≡ true =
+    let covered : coversUser head (a .rule .now) (a .user) ≡ true =
     sym
-    (covered-test (a .head .now) (a .user) (users .result) (test .result) (sound .users) (test .ensures) (a .rule .now)
-    (users .ensures))
+    (covered-test head (a .user) (users .result) (test .result) (sound .users) (test .ensures) (a .rule .now)
+    (users .ensures head held))
     ∙ c .before .if1 .taken in
-    rw covered (c .breaks .ensures sound)
+    rw covered (c .breaks .ensures head held sound)
 
 returns-2 : tie.Need-returns-2
 unfolding breaks
-returns-2 c sound =
+returns-2 c head held sound =
     let test = c .before .contains in
     let users = c .before .before .covered-users in
     let a = c .before .before .before .before .before .args in
-    let covered : coversUser (a .head .now) (a .rule .now) (a .user) ≡ false =
+    let covered : coversUser head (a .rule .now) (a .user) ≡ false =
     sym
-    (covered-test (a .head .now) (a .user) (users .result) (test .result) (sound .users) (test .ensures) (a .rule .now)
-    (users .ensures))
+    (covered-test head (a .user) (users .result) (test .result) (sound .users) (test .ensures) (a .rule .now)
+    (users .ensures head held))
     ∙ c .if1 .left in
     rw covered
 
