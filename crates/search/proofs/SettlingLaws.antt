@@ -21,7 +21,8 @@ use Rattle.verdicts.proofs.Quantifiers.{at-any}
 use Rattle.search.specs.Inner.Places.{inPlaces}
 use Rattle.search.specs.Inner.Table.{meets, takesAt}
 use Rattle.search.specs.Inner.Closing.{acceptedAt, closesAt, closesBy, closes}
-use Rattle.search.specs.Inner.Search.{accepts, refuses, TakesAll, SettledWith, Settled, SettledBy}
+use Rattle.search.specs.Inner.Search.{accepts, refuses, TakesAll, SettledWith}
+use Rattle.search.specs.Inner.Search.{Settled, SettledAt, SettledBy}
 use Rattle.search.proofs.Sieves.{both}
 
 -- Tests
@@ -173,7 +174,7 @@ pub settled-at :
     → Filled 33
     (λ j x. x ≡ bitAnd (getD seconds j 0) ((2 ^ 64 - 1) - bitAnd (getD t (128 * q + 33 * l + j) 0) operations)) rest w
     → 33 ≤ w
-    → Settled t r n a thirds (λ y x. meets t q i x && closesAt t q i k l a y x) seconds rest
+    → SettledAt t r n q i k l a thirds seconds rest
 unfolding closesAt inPlaces meets
 settled-at t r n q i k l a thirds seconds rest operations w fits first with filled past =
     record {
@@ -259,19 +260,15 @@ module _ (t : List ℕ) (q a y x : ℕ) where
       (or-right (meets t q 1 x && closesBy t q 1 0 2 a y x) (meets t q 2 x && closesBy t q 2 0 1 a y x) h)
 
 module _ (t : List ℕ) (r n q a : ℕ) (thirds : List ℕ) where
-  -- the third place at i, a at k, the second place at l
-  abbrev pub SettledAt : ℕ → ℕ → ℕ → List ℕ → List ℕ → Type 0
-  SettledAt i k l = Settled t r n a thirds (λ y x. meets t q i x && closesAt t q i k l a y x)
-
   -- in each of the six ways
   pub settled-six :
       (none first first' second second' third third' : List ℕ)
-      → SettledAt 0 1 2 none first
-      → SettledAt 0 2 1 first first'
-      → SettledAt 1 0 2 first' second
-      → SettledAt 1 2 0 second second'
-      → SettledAt 2 0 1 second' third
-      → SettledAt 2 1 0 third third'
+      → SettledAt t r n q 0 1 2 a thirds none first
+      → SettledAt t r n q 0 2 1 a thirds first first'
+      → SettledAt t r n q 1 0 2 a thirds first' second
+      → SettledAt t r n q 1 2 0 a thirds second second'
+      → SettledAt t r n q 2 0 1 a thirds second' third
+      → SettledAt t r n q 2 1 0 a thirds third third'
       → Settled t r n a thirds (closes t q a) none third'
   settled-six none first first' second second' third third' e1 e2 e3 e4 e5 e6 =
       more 2 1 0 third third' (λ y x h. third-taken t q a y x (other t q a y x 2 0 1 h))
@@ -291,7 +288,7 @@ module _ (t : List ℕ) (r n q a : ℕ) (thirds : List ℕ) where
           (i k l : ℕ) (rest after : List ℕ)
           → ((y x : ℕ) → (meets t q i x && closesAt t q i k l a y x) ≡ true → closes t q a y x ≡ true)
           → Settled t r n a thirds (closes t q a) none rest
-          → SettledAt i k l rest after
+          → SettledAt t r n q i k l a thirds rest after
           → Settled t r n a thirds (closes t q a) none after
       more i k l rest after =
           settled-more t r n a thirds (closes t q a) (λ y x. meets t q i x && closesAt t q i k l a y x) none rest after

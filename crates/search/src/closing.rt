@@ -123,7 +123,8 @@ pub fn closing_masks(t: &[u64], q: u8, b: usize, c: usize) -> Masks
 }
 
 // A set without the places that meet a reference of rule q with one of the operations given for it.
-pub fn without_closing(
+// The tables may end before them.
+fn without_by_words(
     t: &[u64],
     q: u8,
     first: u64,
@@ -139,6 +140,31 @@ pub fn without_closing(
         let a = word_at(t, at + w) & first;
         let b = word_at(t, at + 33 + w) & second;
         let c = word_at(t, at + 66 + w) & third;
+        rest[w] = set[w] & !(a | b | c);
+    }
+    rest
+}
+
+// The same, with one test of the length.
+pub fn without_closing(
+    t: &[u64],
+    q: u8,
+    first: u64,
+    second: u64,
+    third: u64,
+    set: [u64; 33],
+) -> [u64; 33]
+    ensures { λ r. ⌜ PlacesOf (λ p. inPlaces set p && not (meetsWith (now (t .entry)) q first second third p)) r ⌝ }
+{
+    let at = 128 * (q as usize);
+    if t.len() < at + 99 {
+        return without_by_words(t, q, first, second, third, set);
+    }
+    let mut rest = set;
+    for w in 0..33usize {
+        let a = t[at + w] & first;
+        let b = t[at + 33 + w] & second;
+        let c = t[at + 66 + w] & third;
         rest[w] = set[w] & !(a | b | c);
     }
     rest

@@ -9,10 +9,9 @@ use book::sets::single;
 use book::sets::word_at;
 use book::sets::word_if;
 ghost use mathlib.Core.Path.{_≡_};
-ghost use mathlib.Core.Bool.{true, _&&_};
-ghost use Rattle.search.specs.Inner.Table.{meets};
-ghost use Rattle.search.specs.Inner.Closing.{closesAt, closes};
-ghost use Rattle.search.specs.Inner.Search.{TakesAll, SettledWith, Settled, SettledBy};
+ghost use mathlib.Core.Bool.{true};
+ghost use Rattle.search.specs.Inner.Closing.{closes};
+ghost use Rattle.search.specs.Inner.Search.{TakesAll, SettledWith, Settled, SettledAt, SettledBy};
 
 // The turns in a row after which the rule that took last is asked: to ask costs as much as some
 // dozens of second places.
@@ -72,8 +71,7 @@ fn without_settled_at(
     thirds: [u64; 33],
     seconds: [u64; 33],
 ) -> [u64; 33]
-    ensures { λ s. ⌜ Settled (now (t .entry)) r n a thirds
-        (λ y x. meets (now (t .entry)) q i x && closesAt (now (t .entry)) q i k l a y x) seconds s ⌝ }
+    ensures { λ s. ⌜ SettledAt (now (t .entry)) r n q i k l a thirds seconds s ⌝ }
 {
     let mut rest = seconds;
     if !meets(t, q, k, a) {

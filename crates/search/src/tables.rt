@@ -18,7 +18,7 @@ ghost use mathlib.Core.Path.{_≡_};
 ghost use mathlib.Core.Bool.{cond};
 ghost use Prim.Native.Nat.{_≤_};
 ghost use Rattle.book.specs.Sets.{has};
-ghost use Rattle.search.specs.Inner.Table.{FittingWord, ReferenceWord, RestrictionWord, RuleWord, LeafSets};
+ghost use Rattle.search.specs.Inner.Table.{FittingWord, ReferenceWords, RestrictionWord, RuleWords, LeafSets};
 ghost use Rattle.search.specs.Inner.Table.{TableHolds, CoveredWord, CoversHold};
 
 // All operations of one leaf, if it is in a set.
@@ -44,17 +44,19 @@ fn fitting_word(action: usize, leaves: u64, w: usize) -> u64
     0
 }
 
-// Word w of the places that meet reference i, all of them where it is absent.
-fn reference_word(rule: &[u8], leaves: u64, i: u8, w: usize) -> u64
-    ensures { λ r. ⌜ ReferenceWord (now (rule .entry)) leaves i w r ⌝ }
+// The words of the places that meet reference i, all of them where it is absent.
+fn reference_words(rule: &[u8], leaves: u64, i: u8) -> [u64; 33]
+    ensures { λ r. ⌜ ReferenceWords (now (rule .entry)) leaves i r ⌝ }
 {
     if reference_count(rule) <= i as usize {
-        return 18446744073709551615;
+        return [18446744073709551615; 33];
     }
-    if w < 32 {
-        return fitting_word(action(rule, i), leaves, w);
+    let wanted = action(rule, i);
+    let mut words = [0u64; 33];
+    for w in 0..33usize {
+        words[w] = fitting_word(wanted, leaves, w);
     }
-    0
+    words
 }
 
 // The operations that restriction j takes at reference i, four times over.
@@ -68,17 +70,22 @@ fn restriction_word(rule: &[u8], i: u8, j: u8) -> u64
     four(mask, mask, mask, mask)
 }
 
-// Word k of a rule's 128 words: three times 33 words of places, then 24 of restrictions.
-fn rule_word(rule: &[u8], leaves: u64, k: usize) -> u64
-    ensures { λ r. ⌜ RuleWord (now (rule .entry)) leaves k r ⌝ }
+// The words of rule q: three times 33 of places, then 24 of restrictions.
+fn rule_words(rule: &[u8], sets: &[u64], q: u8) -> [u64; 128]
+    ensures { λ r. ⌜ RuleWords (now (rule .entry)) (now (sets .entry)) q r ⌝ }
 {
-    if k < 99 {
-        return reference_word(rule, leaves, (k / 33) as u8, k % 33);
+    let mut words = [0u64; 128];
+    for i in 0..3usize {
+        let leaves = word_at(sets, 3 * (q as usize) + i);
+        let places = reference_words(rule, leaves, i as u8);
+        for w in 0..33usize {
+            words[33 * i + w] = places[w];
+        }
     }
-    if k < 123 {
-        return restriction_word(rule, ((k - 99) / 8) as u8, ((k - 99) % 8) as u8);
+    for k in 0..24usize {
+        words[99 + k] = restriction_word(rule, (k / 8) as u8, (k % 8) as u8);
     }
-    0
+    words
 }
 
 // The leaf sets of the references of the first n rules, three for each.
@@ -106,10 +113,11 @@ pub fn table(book: &[u8], n: u8) -> [u64; 4096]
     if 32 < n {
         return t;
     }
-    let count = 128 * (n as usize);
-    for m in 0..count {
-        let leaves = word_at(&sets, 3 * (m / 128) + m % 128 / 33);
-        t[m] = rule_word(rule_at(book, (m / 128) as u8), leaves, m % 128);
+    for q in 0..n {
+        let words = rule_words(rule_at(book, q), &sets, q);
+        for k in 0..128usize {
+            t[128 * (q as usize) + k] = words[k];
+        }
     }
     t
 }

@@ -10,7 +10,7 @@ use Rattle.book.specs.Lists.{any, upTo}
 use Rattle.book.specs.Sets.{has}
 use Rattle.search.specs.Inner.Places.{inPlaces, nowhere, pastPlaces}
 use Rattle.search.specs.Inner.Table.{meets}
-use Rattle.search.specs.Inner.Closing.{acceptedAt, closes, Within, Grown}
+use Rattle.search.specs.Inner.Closing.{acceptedAt, closesAt, closes, Within, Grown}
 use Rattle.search.specs.declared.sifting.Remaining.{Remaining}
 use Rattle.search.specs.declared.searching.Sought.{Sought}
 use Rattle.search.specs.declared.searching.Sought.the-variants.{Found, Nothing}
@@ -163,6 +163,10 @@ pub record Settled
       → inPlaces thirds x ≡ true
       → refuses t r n a y x ≡ true
       → taken y x ≡ true
+
+-- by rule q, with the third place at i, a at k and the second place at l
+abbrev pub SettledAt : List ℕ → ℕ → ℕ → ℕ → ℕ → ℕ → ℕ → ℕ → List ℕ → List ℕ → List ℕ → Type 0
+SettledAt t r n q i k l a thirds = Settled t r n a thirds (λ y x. meets t q i x && closesAt t q i k l a y x)
 
 -- by a rule that is marked
 pub record SettledBy

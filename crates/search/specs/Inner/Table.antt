@@ -43,12 +43,15 @@ inFour a b c d i = has (cond (ltb i 16) a (cond (ltb i 32) b (cond (ltb i 48) c 
 -- word w of the places of some leaves under an action, with every operation
 abbrev pub FittingWord : ℕ → ℕ → ℕ → ℕ → Type 0
 FittingWord action leaves w word =
-    (i : ℕ) → i < 64 → w < 32 → has word i ≡ (actionFits action (w / 16) && has leaves (w % 16 * 4 + i / 16))
+    (i : ℕ) → i < 64 → has word i ≡ (actionFits action (w / 16) && has leaves (w % 16 * 4 + i / 16))
 
 -- word w of the places that meet reference i of a rule
 abbrev pub ReferenceWord : List ℕ → ℕ → ℕ → ℕ → ℕ → Type 0
 ReferenceWord rule leaves i w word =
     (p : ℕ) → p ≤ nowhere → p / 64 ≡ w → has word (p % 64) ≡ meetsReference rule leaves i p
+
+abbrev pub ReferenceWords : List ℕ → ℕ → ℕ → List ℕ → Type 0
+ReferenceWords rule leaves i words = (w : ℕ) → w < 33 → ReferenceWord rule leaves i w (getD words w 0)
 
 -- the operations that restriction j of a rule takes at reference i
 abbrev pub RestrictionWord : List ℕ → ℕ → ℕ → ℕ → Type 0
@@ -58,6 +61,10 @@ RestrictionWord rule i j word = (p : ℕ) → has word (p % 64) ≡ takesOperati
 pub record RuleWord (rule : List ℕ) (leaves k word : ℕ) : Type 0 where
   pub meeting : k < 99 → ReferenceWord rule leaves (k / 33) (k % 33) word
   pub taking : 99 ≤ k → k < 123 → RestrictionWord rule ((k - 99) / 8) ((k - 99) % 8) word
+
+-- all of them for rule q, given the leaf sets of the references, three for each rule
+abbrev pub RuleWords : List ℕ → List ℕ → ℕ → List ℕ → Type 0
+RuleWords rule sets q words = (k : ℕ) → k < 128 → RuleWord rule (getD sets (3 * q + k / 33) 0) k (getD words k 0)
 
 -- the leaf set of reference m % 3 of rule m / 3, and those of the first n rules
 abbrev pub LeafWord : List ℕ → ℕ → ℕ → Type 0

@@ -22,8 +22,9 @@ abbrev μ-loop : tie.MeasureT-loop
 loop-holds : tie.Need-loop-holds Inv-loop μ-loop
 loop-holds c =
     let a = c .before .before .args in
+    let small : 0 ≤ 8 = omega arith in
     let room = room-for _ _ _ _ (c .if1 .left) in (
-      omega arith,
+      small,
       room .0,
       room .1,
       room .2,

@@ -3,7 +3,7 @@ use Prim.Native.Nat.{_-_, _/_}
 use native.Mathlib.Omega.{arith}
 use mir.Syntax.{w64}
 use mir.Val.{Fits}
-use mathlib.Core.Path.{_≡_}
+use mathlib.Core.Path.{_≡_, refl}
 use lib.ListN.{getD}
 use Rattle.lineage.proofs.Tables.{Filled, fill-none, fill-more}
 use Rattle.search.proofs.ClosingLaws.{wordWithout, without-places}
@@ -22,16 +22,12 @@ loop-holds : tie.Need-loop-holds Inv-loop μ-loop
 loop-holds c = fill-none (search needs)
 
 loop-again : tie.Need-loop-again Inv-loop μ-loop
-loop-again c =
-    let a = c .before .before .word-at in
-    let b = c .before .word-at2 in
-    fill-more (c .before .before .before .before .loop .inv) (search needs)
-    (rw (a .ensures, b .ensures, c .word-at3 .ensures))
+loop-again c = fill-more (c .before .before .before .before .loop .inv) (search needs) refl
 
-returns : tie.Need-returns Inv-loop μ-loop
-returns c p h =
-    let a = c .before .before .before .args in
-    let fits = c .before .before .before .fits in
+returns-2 : tie.Need-returns-2 Inv-loop μ-loop
+returns-2 c p h =
+    let a = c .before .before .before .before .args in
+    let fits = c .before .before .before .before .fits in
     let f : Fits w64 (getD (a .t6) (p / 64) 0) = search needs in
     without-places (a .t .now) (a .q) (a .first) (a .second) (a .third) (a .t6) (c .before .loop .rest)
     (c .before .loop .w) p
@@ -44,15 +40,21 @@ without-closing-spec =
     Inv-loop
     μ-loop
     (λ c. search needs)
+    (λ c. search needs)
+    (λ c κs. search needs)
+    (λ c. c .without-by-words .ensures)
     loop-holds
     (λ c. search needs)
-    (λ c κs. search needs)
     (λ c. search needs)
     (λ c. search needs)
-    (λ c κs. search needs)
     (λ c. search needs)
     (λ c. search needs)
-    (λ c κs. search needs)
+    (λ c. search needs)
+    (λ c. search needs)
+    (λ c. search needs)
+    (λ c. search needs)
+    (λ c. search needs)
+    (λ c. search needs)
     (λ c. search needs)
     (λ c. search needs)
     (λ c. search needs)
@@ -60,4 +62,4 @@ without-closing-spec =
     (λ c. search needs)
     (λ c. search needs)
     loop-again
-    returns)
+    returns-2)
