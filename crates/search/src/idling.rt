@@ -19,11 +19,13 @@ use book::fields::rule_at;
 use book::fields::rule_count;
 use book::testing::or_else;
 use book::testing::test;
+use book::words::head_words;
 ghost use mathlib.Core.Path.{_≡_};
 ghost use Prim.Native.Nat.{_<_};
-ghost use Rattle.book.specs.Blocks.{ruleCount};
+ghost use Rattle.book.specs.Blocks.{headOf, ruleCount};
 ghost use Rattle.book.specs.Tests.{firstFailing};
 ghost use Rattle.book.specs.Refusals.{BookAccepted};
+ghost use Rattle.book.specs.Inner.Words.{HeadWords};
 ghost use Rattle.search.specs.Answers.{idleAnswer, idleBuffer, idleTests, ruleTests};
 ghost use Rattle.search.specs.Demand.{Demand3, IdleAccepted};
 ghost use Rattle.search.specs.Inner.First.{FirstNeeds, ShownAs};
@@ -37,27 +39,28 @@ pub fn test_rule(book: &[u8], rule: u32) -> Tested
 }
 
 // The tests of the book, of the rule, of the buffer.
-fn test_idle(book: &[u8], rule: u32, buffer: &[u8]) -> Tested
-    ensures { λ r. ⌜ r ≡ firstFailing (idleTests (now (book .entry)) rule (now (buffer .entry))) ⌝ }
+fn test_idle(book: &[u8], head: &[u64], rule: u32, buffer: &[u8]) -> Tested
+    ensures { λ r. ⌜ (HeadWords (headOf (now (book .entry))) (now (head .entry))
+        → r ≡ firstFailing (idleTests (now (book .entry)) rule (now (buffer .entry)))) ⌝ }
 {
-    let both = or_else(test_book(book), test_rule(book, rule));
+    let both = or_else(test_book(book, head), test_rule(book, rule));
     or_else(both, test(BUFFER_LENGTH, 0, 36 <= buffer.len()))
 }
 
 // The first user and choice that break a rule of an accepted book alone.
-fn needs(book: &[u8], rule: u8) -> Needs
-    ensures { λ s. ⌜ (BookAccepted (now (book .entry)) → rule < ruleCount (now (book .entry))
-        → FirstNeeds (now (book .entry)) rule s) ⌝ }
+fn needs(book: &[u8], head: &[u64], rule: u8) -> Needs
+    ensures { λ s. ⌜ (HeadWords (headOf (now (book .entry))) (now (head .entry)) → BookAccepted (now (book .entry))
+        → rule < ruleCount (now (book .entry)) → FirstNeeds (now (book .entry)) rule s) ⌝ }
 {
     let n = rule_count(book);
-    let t = table(book, n);
+    let t = table(book, head, n);
     let references = reference_count(rule_at(book, rule)) as u8;
     first_user(
         &t,
         rule,
         references,
         obtainable(head_of(book)),
-        covered_by(book, n),
+        covered_by(book, head, n),
     )
 }
 
@@ -91,11 +94,12 @@ pub fn idle(book: &[u8], rule: u32, buffer: &mut [u8]) -> Idleness
         × (IdleAccepted (now (book .entry)) rule (now (buffer .entry))
         → Demand3 (now (book .entry)) rule (now (buffer .entry)) (now (buffer .exit)) r) ⌝ }
 {
-    let outcome = test_idle(book, rule, buffer);
+    let head = head_words(head_of(book));
+    let outcome = test_idle(book, &head, rule, buffer);
     match outcome {
         Tested::Refused(refusal) => Idleness::Refused(refusal),
         Tested::Passed => {
-            let found = needs(book, (rule % 256) as u8);
+            let found = needs(book, &head, (rule % 256) as u8);
             shown(head_of(book), found, buffer)
         }
     }

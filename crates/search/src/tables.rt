@@ -1,8 +1,7 @@
-// The rules of a book as words, made once a call: for each rule and reference the places that meet
+// The rules of a book as words, made once a call from the words of its head: for each rule and reference the places that meet
 // it, and for each restriction the operations that it takes there, four times over.
 use crate::obtaining::four;
 use book::fields::action;
-use book::fields::head_of;
 use book::fields::reference_count;
 use book::fields::restriction_count;
 use book::fields::restriction_mask;
@@ -17,6 +16,8 @@ use verdicts::breaking::all_if_zero;
 ghost use mathlib.Core.Path.{_≡_};
 ghost use mathlib.Core.Bool.{cond};
 ghost use Prim.Native.Nat.{_≤_};
+ghost use Rattle.book.specs.Blocks.{headOf};
+ghost use Rattle.book.specs.Inner.Words.{HeadWords};
 ghost use Rattle.book.specs.Sets.{has};
 ghost use Rattle.search.specs.Inner.Table.{FittingWord, ReferenceWords, RestrictionWord, RuleWords, LeafSets};
 ghost use Rattle.search.specs.Inner.Table.{TableHolds, CoveredWord, CoversHold};
@@ -89,10 +90,10 @@ fn rule_words(rule: &[u8], sets: &[u64], q: u8) -> [u64; 128]
 }
 
 // The leaf sets of the references of the first n rules, three for each.
-fn leaf_sets(book: &[u8], n: u8) -> [u64; 96]
-    ensures { λ r. ⌜ (n ≤ 32 → LeafSets (now (book .entry)) n r) ⌝ }
+fn leaf_sets(book: &[u8], head: &[u64], n: u8) -> [u64; 96]
+    ensures { λ r. ⌜ (HeadWords (headOf (now (book .entry))) (now (head .entry)) → n ≤ 32
+        → LeafSets (now (book .entry)) n r) ⌝ }
 {
-    let head = head_of(book);
     let mut sets = [0u64; 96];
     if 32 < n {
         return sets;
@@ -105,10 +106,11 @@ fn leaf_sets(book: &[u8], n: u8) -> [u64; 96]
 }
 
 // The tables of the first n rules.
-pub fn table(book: &[u8], n: u8) -> [u64; 4096]
-    ensures { λ r. ⌜ (n ≤ 32 → TableHolds (now (book .entry)) n r) ⌝ }
+pub fn table(book: &[u8], head: &[u64], n: u8) -> [u64; 4096]
+    ensures { λ r. ⌜ (HeadWords (headOf (now (book .entry))) (now (head .entry)) → n ≤ 32
+        → TableHolds (now (book .entry)) n r) ⌝ }
 {
-    let sets = leaf_sets(book, n);
+    let sets = leaf_sets(book, head, n);
     let mut t = [0u64; 4096];
     if 32 < n {
         return t;
@@ -123,22 +125,24 @@ pub fn table(book: &[u8], n: u8) -> [u64; 4096]
 }
 
 // The users that rule r covers, if it is one of the first n.
-fn covered_at(book: &[u8], n: u8, r: u8) -> u64
-    ensures { λ w. ⌜ CoveredWord (now (book .entry)) n r w ⌝ }
+fn covered_at(book: &[u8], head: &[u64], n: u8, r: u8) -> u64
+    ensures { λ w. ⌜ (HeadWords (headOf (now (book .entry))) (now (head .entry))
+        → CoveredWord (now (book .entry)) n r w) ⌝ }
 {
     if n <= r {
         return 0;
     }
-    covered_users(head_of(book), rule_at(book, r))
+    covered_users(head, rule_at(book, r))
 }
 
 // For each of the first n rules the users that it covers.
-pub fn covered_by(book: &[u8], n: u8) -> [u64; 32]
-    ensures { λ r. ⌜ CoversHold (now (book .entry)) n r ⌝ }
+pub fn covered_by(book: &[u8], head: &[u64], n: u8) -> [u64; 32]
+    ensures { λ r. ⌜ (HeadWords (headOf (now (book .entry))) (now (head .entry))
+        → CoversHold (now (book .entry)) n r) ⌝ }
 {
     let mut covered = [0u64; 32];
     for r in 0..32usize {
-        covered[r] = covered_at(book, n, r as u8);
+        covered[r] = covered_at(book, head, n, r as u8);
     }
     covered
 }

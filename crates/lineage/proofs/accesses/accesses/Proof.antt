@@ -15,13 +15,13 @@ use Rattle.lineage.proofs.accesses.accesses.Tie as tie
 
 returns : tie.Need-returns
 returns c words both =
-    let a = c .before .before .before .args in
+    let a = c .before .before .before .before .args in
     let p = accepted-plan (headOf (a .book .now)) (a .plan .now) (both .1) in
     absurd (omega (arith, p .short))
 
 returns-2 : tie.Need-returns-2
 returns-2 c words both =
-    let a = c .before .before .before .before .before .before .before .args in
+    let a = c .before .before .before .before .before .before .before .before .args in
     let head = headOf (a .book .now) in
     let b = accepted-head (a .book .now) (both .0) in
     let p = accepted-plan head (a .plan .now) (both .1) in

@@ -9,7 +9,7 @@ returns c held =
     let both = c .before .before in
     let plan = both .before in
     let book = plan .before .before in
-    let a = book .before .before .before .before .args in
+    let a = book .before .before .before .before .before .args in
     flows-joined (a .book .now) (a .plan .now) (a .words .now) (plan .before .head-of .result .now)
     (book .test-book .result) (plan .test-plan .result) (both .or-else .result) (c .before .test .result)
     (c .or-else2 .result) (plan .before .head-of .ensures) (book .test-book .ensures held) (plan .test-plan .ensures)

@@ -19,13 +19,13 @@ abbrev μ-loop : tie.MeasureT-loop
 
 loop-holds : tie.Need-loop-holds Inv-loop μ-loop
 loop-holds c =
-    let a = c .before .before .before .args in
+    let a = c .before .before .before .before .args in
     (search needs, search needs, λ words sound few. reached-none (a .head .now) (a .plan .now))
 
 loop-again : tie.Need-loop-again Inv-loop μ-loop
 loop-again c =
     let k = c .before .before .before in
-    let a = k .before .before .before .before .before .before .before .args in
+    let a = k .before .before .before .before .before .before .before .before .args in
     let l = k .before .before .before .loop in
     let words = k .before .before .before .before .supporters in (
       search needs,
@@ -39,7 +39,7 @@ loop-again c =
 returns : tie.Need-returns Inv-loop μ-loop
 returns c held sound few =
     let l = c .before .loop in
-    let e : l .i ≡ c .before .before .before .before .before .args .n = omega arith in
+    let e : l .i ≡ c .before .before .before .before .before .before .args .n = omega arith in
     rw (← e) (l .inv .2 held sound few)
 
 pub reach-table-spec : {M : Type 1} → statement M

@@ -21,7 +21,7 @@ abbrev μ-loop : tie.MeasureT-loop
 μ-loop book n sets t₀ q₀ t q = n - q
 
 returns : tie.Need-returns Inv-loop2 μ-loop2 Inv-loop μ-loop
-returns c few = absurd (omega arith)
+returns c held few = absurd (omega arith)
 
 loop-holds : tie.Need-loop-holds Inv-loop2 μ-loop2 Inv-loop μ-loop
 loop-holds c = (search needs, fill-none (search needs))
@@ -63,11 +63,11 @@ loop-again c =
     )
 
 returns-2 : tie.Need-returns-2 Inv-loop2 μ-loop2 Inv-loop μ-loop
-returns-2 c few =
+returns-2 c held few =
     let a = c .before .before .before .before .before .args in
     let sets = c .before .before .before .leaf-sets in
     let loop = c .before .loop in
-    table-holds (a .book .now) (a .n) (sets .result) (loop .t) (128 * loop .q) (sets .ensures few) (loop .inv .1)
+    table-holds (a .book .now) (a .n) (sets .result) (loop .t) (128 * loop .q) (sets .ensures held few) (loop .inv .1)
     (omega arith)
 
 pub table-spec : {M : Type 1} → statement M

@@ -11,15 +11,23 @@ use Rattle.verdicts.proofs.judging.judge.Tie as tie
 returns : tie.Need-returns
 returns c =
     let tested = c .before .before .before in
-    let a = tested .before .before .before .args in
+    let words = tested .before .before in
+    let head = words .before in
+    let a = head .before .before .before .args in
+    let held = rw (head .head-of .ensures) at (words .head-words .ensures) in
     judge-promises (a .book .now) (a .user) (a .plan .now) _
-    (judge-refused (a .book .now) (a .user) (a .plan .now) _ (sym (tested .test-judge .ensures held) ∙ c .before .outcome .given .1))
+    (judge-refused (a .book .now) (a .user) (a .plan .now) _
+    (sym (tested .test-judge .ensures held) ∙ c .before .outcome .given .1))
 
 returns-2 : tie.Need-returns-2
 returns-2 c =
-    let tested = c .before .before .before in
-    let a = tested .before .before .before .args in
-    let passed = sym (tested .test-judge .ensures held) ∙ c .before .enum-told .given .1 in
+    let told = c .before .before in
+    let tested = told .before .before in
+    let words = tested .before .before in
+    let head = words .before in
+    let a = head .before .before .before .args in
+    let held = rw (head .head-of .ensures) at (words .head-words .ensures) in
+    let passed = sym (tested .test-judge .ensures held) ∙ told .enum-told .given .1 in
     let given = judge-accepted (a .book .now) (a .user) (a .plan .now) passed in
     judge-promises (a .book .now) (a .user) (a .plan .now) _
     (ap Broken (c .mask-of .ensures held (given .book-accepted, given .plan-accepted))
@@ -28,4 +36,14 @@ returns-2 c =
 pub judge-spec : {M : Type 1} → statement M
 judge-spec =
     tie.close
-    (tie.spec (λ c κs. search needs) (λ c. search needs) (λ c. search needs) (λ c κs. search needs) returns returns-2)
+    (tie.spec
+    (λ c κs. search needs)
+    (λ c κs. search needs)
+    (λ c. search needs)
+    (λ c κs. search needs)
+    (λ c. search needs)
+    (λ c. search needs)
+    (λ c. search needs)
+    (λ c κs. search needs)
+    returns
+    returns-2)

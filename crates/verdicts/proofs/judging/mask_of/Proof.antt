@@ -7,7 +7,7 @@ use Rattle.verdicts.proofs.judging.mask_of.Tie as tie
 
 returns : tie.Need-returns
 returns c held both =
-    let a = c .before .before .before .before .args in
+    let a = c .before .before .before .before .before .args in
     let words = c .before .accesses in
     (rw (words .ensures held both) at (c .broken-by .ensures held (both .0)))
     ∙ mask-held (a .book .now) (both .0) (a .user) (a .plan .now)
