@@ -57,7 +57,7 @@ trailing-skips (suc k) w j l = go (w % 2) refl j l (λ i. trailing-skips k (w / 
     go (suc d) e j l more = absurd (omega arith)
 
 -- the code's `word >> s`
-has-shift : (w s j : ℕ) → has (w / 2 ^ s) j ≡ has w (s + j)
+pub has-shift : (w s j : ℕ) → has (w / 2 ^ s) j ≡ has w (s + j)
 unfolding has
 has-shift w s j = rw (div-div-eq-div-mul, ← pow-add)
 

@@ -1,23 +1,30 @@
 -- What the words of a rule say, and the tables of them. Assumes nothing.
-use Prim.Native.Nat.{ℕ, zero, suc, _+_, _-_, _*_, _/_, _%_, _≤_, _<_}
+use Prim.Native.Nat.{ℕ, zero, suc, _+_, _-_, _*_, _/_, _%_, _^_, _≤_, _<_}
+use native.Mathlib.Nat.{eq-or-lt-of-le}
 use native.Mathlib.Omega.{arith}
-use mathlib.Core.Path.{_≡_, refl, ap, _∙_}
+use mathlib.Core.Path.{_≡_, refl, sym, ap, _∙_}
+use mathlib.Core.Logic.{⊎-elim}
 use mathlib.Core.Bool.{Bool, true, false, _&&_, cond}
 use mathlib.Core.List.{List}
-use lib.ListN.{getD}
-use lib.Dec.{ltb}
-use borrow.Author.Tests.{lt-ltb, le-ltb, ltb-true, ltb-false}
+use lib.ListN.{length, getD, set, length-set}
+use lib.Seq.{getD-set-same, getD-set-other}
+use lib.Dec.{eqb, ltb}
+use borrow.Author.Tests.{eqb-true, eqb-false, lt-ltb, le-ltb, ltb-true, ltb-false}
 use Rattle.book.specs.Sets.{has, WordOf}
 use Rattle.book.specs.Blocks.{headOf, ruleAt}
 use Rattle.book.specs.Rule.{action, referenceCount, restrictionCount, restrictionMask, inLeafSet}
 use Rattle.book.proofs.Lists.{and-end}
-use Rattle.book.proofs.Members.{has-cond, has-below, has-zero}
+use Rattle.book.proofs.Members.{has-cond, has-below, has-low, has-zero}
 use Rattle.lineage.proofs.Tables.{Filled}
 use Rattle.verdicts.specs.Accesses.{actionFits, fits}
 use Rattle.verdicts.specs.Inner.Words.{maskTakes}
+use Rattle.verdicts.proofs.Marks.{has-if}
 use Rattle.search.specs.Inner.Places.{accessAt, nowhere}
 use Rattle.search.specs.Inner.Table.{meets, takesAt, meetsReference, takesOperation, TableHolds}
-use Rattle.search.specs.Inner.Table.{FittingWord, ReferenceWords, RestrictionWord, RuleWord, RuleWords, LeafSets}
+use Rattle.search.specs.Inner.Table.{inFour, FittingWord, FittingWords, ReferenceWords, RestrictionWord}
+use Rattle.search.specs.Inner.Table.{RuleWord, RuleWords, LeafSets}
+use Rattle.search.proofs.PlaceLaws.{has-shift}
+use Rattle.search.proofs.Fours.{four-tests}
 
 -- Words
 
@@ -25,6 +32,35 @@ use Rattle.search.specs.Inner.Table.{FittingWord, ReferenceWords, Restri
 pub leaf-mask : (t : Bool) (word k : ℕ) → word ≡ cond t 65535 0 → k < 16 → has word k ≡ t
 leaf-mask t word k e l =
     rw e (has-cond t 65535 k ∙ ap (λ (b : Bool). t && b) (has-below 16 k ∙ lt-ltb k 16 l) ∙ and-end t)
+
+-- bit 0 of a number, sixteen times
+spread-bit : (x k : ℕ) → k < 16 → has (65535 * (x % 2)) k ≡ has x 0
+spread-bit x k l = leaf-mask (eqb (x % 2) 1) (65535 * (x % 2)) k (go (eqb (x % 2) 1) refl) l ∙ sym (has-low x)
+  where
+    go : (b : Bool) → eqb (x % 2) 1 ≡ b → 65535 * (x % 2) ≡ cond b 65535 0
+    go true e =
+        let one = eqb-true (x % 2) 1 e in
+        omega arith
+    go false e =
+        let none = eqb-false (x % 2) 1 e in
+        omega arith
+
+pub spread-leaves :
+    (leaves word : ℕ)
+    → ((i : ℕ)
+    → i < 64
+    → has word i
+    ≡ inFour (65535 * (leaves % 2)) (65535 * (leaves / 2 % 2)) (65535 * (leaves / 4 % 2)) (65535 * (leaves / 8 % 2)) i)
+    → (i : ℕ)
+    → i < 64
+    → has word i ≡ has leaves (i / 16)
+spread-leaves leaves word told i l =
+    let z : 0 + i / 16 ≡ i / 16 = omega arith in
+    rw z at
+    (four-tests (λ j k. has leaves j) 0 (65535 * (leaves % 2)) (65535 * (leaves / 2 % 2)) (65535 * (leaves / 4 % 2))
+    (65535 * (leaves / 8 % 2)) word (spread-bit leaves) (λ k s. spread-bit (leaves / 2) k s ∙ has-shift leaves 1 0)
+    (λ k s. spread-bit (leaves / 4) k s ∙ has-shift leaves 2 0)
+    (λ k s. spread-bit (leaves / 8) k s ∙ has-shift leaves 3 0) i l (told i l))
 
 -- every place meets an absent reference
 pub all-ones : (i : ℕ) → i < 64 → has 18446744073709551615 i ≡ true
@@ -38,6 +74,107 @@ no-channel (suc zero) = refl
 no-channel (suc (suc zero)) = refl
 no-channel (suc (suc (suc zero))) = refl
 no-channel (suc (suc (suc (suc a)))) = refl
+
+-- the words of both channels, as far as w, and the last one
+pub record Fitting (action leaves : ℕ) (words : List ℕ) (w : ℕ) : Type 0 where
+  pub short : w ≤ 16
+  pub size : length words ≡ 33
+  pub first : (k : ℕ) → k < w → FittingWord action leaves k (getD words k 0)
+  pub second : (k : ℕ) → k < w → FittingWord action leaves (16 + k) (getD words (16 + k) 0)
+  pub last : getD words 32 0 ≡ 0
+
+module _ (action leaves : ℕ) where
+  pub fitting-none : (words : List ℕ) → length words ≡ 33 → getD words 32 0 ≡ 0 → Fitting action leaves words 0
+  fitting-none words size last =
+      record {
+        short = omega arith;
+        size = size;
+        first = λ k l. absurd (omega arith);
+        second = λ k l. absurd (omega arith);
+        last = last;
+      }
+
+  -- a word of one channel
+  channel-word :
+      (c w k word new : ℕ) (fits : Bool)
+      → w < 16
+      → k ≡ 16 * c + w
+      → fits ≡ actionFits action c
+      → ((i : ℕ) → i < 64 → has word i ≡ has (leaves / 2 ^ (4 * w)) (i / 16))
+      → new ≡ cond fits word 0
+      → FittingWord action leaves k new
+  channel-word c w k word new fits l at e told made i s =
+      let d : k / 16 ≡ c = omega arith in
+      let f : k % 16 * 4 ≡ 4 * w = omega arith in
+      has-if fits word new i made ∙ rw (told i s, has-shift leaves (4 * w) (i / 16), d, f, e)
+
+  pub fitting-more :
+      (words : List ℕ) (w word one two : ℕ) (projected tested : Bool)
+      → w < 16
+      → projected ≡ actionFits action 0
+      → tested ≡ actionFits action 1
+      → ((i : ℕ) → i < 64 → has word i ≡ has (leaves / 2 ^ (4 * w)) (i / 16))
+      → one ≡ cond projected word 0
+      → two ≡ cond tested word 0
+      → Fitting action leaves words w
+      → Fitting action leaves (set (set words w one) (16 + w) two) (w + 1)
+  fitting-more words w word one two projected tested l ep et told e1 e2 old =
+      record {
+        short = omega arith;
+        size = length-set (set words w one) (16 + w) two ∙ length-set words w one ∙ old .size;
+        first = λ k m.
+            ⊎-elim
+            (λ (q : k ≡ w).
+            rw (
+              getD-set-other (set words w one) (16 + w) k two 0 (λ z. omega arith),
+              q,
+              getD-set-same words w one 0 (omega (arith, old .size)),
+            )
+            (channel-word 0 w w word one projected l (omega arith) ep told e1))
+            (λ (q : k < w).
+            rw (
+              getD-set-other (set words w one) (16 + w) k two 0 (λ z. omega arith),
+              getD-set-other words w k one 0 (λ z. omega arith),
+            )
+            (old .first k q))
+            (eq-or-lt-of-le (below k m));
+        second = λ k m.
+            ⊎-elim
+            (λ (q : k ≡ w).
+            rw (q, getD-set-same (set words w one) (16 + w) two 0 (omega (arith, length-set words w one, old .size)))
+            (channel-word 1 w (16 + w) word two tested l (omega arith) et told e2))
+            (λ (q : k < w).
+            rw (
+              getD-set-other (set words w one) (16 + w) (16 + k) two 0 (λ z. omega arith),
+              getD-set-other words w (16 + k) one 0 (λ z. omega arith),
+            )
+            (old .second k q))
+            (eq-or-lt-of-le (below k m));
+        last =
+            getD-set-other (set words w one) (16 + w) 32 two 0 (λ z. omega arith)
+            ∙ getD-set-other words w 32 one 0 (λ z. omega arith)
+            ∙ old .last;
+      }
+    where
+      below : (k : ℕ) → k < w + 1 → k ≤ w
+      below k m = omega arith
+
+  pub fitting-end : (words : List ℕ) (w : ℕ) → 16 ≤ w → Fitting action leaves words w → FittingWords action leaves words
+  fitting-end words w past old k l = go (ltb k 16) refl (ltb k 32) refl
+    where
+      go : (b : Bool) → ltb k 16 ≡ b → (c : Bool) → ltb k 32 ≡ c → FittingWord action leaves k (getD words k 0)
+      go true e c f =
+          let low = ltb-true k 16 e in
+          old .first k (omega arith)
+      go false e true f =
+          let low = ltb-false k 16 e in
+          let high = ltb-true k 32 f in
+          let z : 16 + (k - 16) ≡ k = omega arith in
+          rw z at (old .second (k - 16) (omega arith))
+      go false e false f =
+          let high = ltb-false k 32 f in
+          let z : k ≡ 32 = omega arith in
+          λ i s. rw (z, old .last, has-zero i, no-channel action)
 
 module _ (rule : List ℕ) (leaves i p : ℕ) where
   pub meets-absent : referenceCount rule ≤ i → has 18446744073709551615 (p % 64) ≡ meetsReference rule leaves i p

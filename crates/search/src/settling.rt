@@ -17,8 +17,8 @@ ghost use Rattle.search.specs.Inner.Search.{TakesAll, SettledWith, Settl
 // dozens of second places.
 pub const SETTLING: u8 = 16;
 
-// Whether rule q takes, at reference i, every place of a set but those with some operations, as it
-// accepts none but some others. Only `true` is promised: after `false` nothing is settled.
+// Whether rule q takes every place of a set with none of r's own operations: each meets reference i
+// of q, with none of the others. Only `true` is promised: after `false` nothing is settled.
 fn takes_all(t: &[u64], q: u8, i: u8, thirds: [u64; 33], own: u64, other: u64) -> bool
     ensures { λ r. ⌜ (r ≡ true → TakesAll (now (t .entry)) q i thirds own other) ⌝ }
 {

@@ -1,5 +1,6 @@
-// The rules of a book as words, made once a call from the words of its head: for each rule and reference the places that meet
-// it, and for each restriction the operations that it takes there, four times over.
+// The rules of a book as words, made once a call from the words of its head: for each rule and
+// reference the places that meet it, and for each restriction the operations that it takes there,
+// four times over.
 use crate::obtaining::four;
 use book::fields::action;
 use book::fields::reference_count;
@@ -8,41 +9,43 @@ use book::fields::restriction_mask;
 use book::fields::rule_at;
 use book::rules::covered_users;
 use book::rules::leaf_set;
-use book::sets::contains;
 use book::sets::word_at;
 use book::sets::word_if;
 use verdicts::breaking::action_fits;
 use verdicts::breaking::all_if_zero;
 ghost use mathlib.Core.Path.{_≡_};
-ghost use mathlib.Core.Bool.{cond};
-ghost use Prim.Native.Nat.{_≤_};
+ghost use Prim.Native.Nat.{ℕ, _/_, _≤_, _<_};
 ghost use Rattle.book.specs.Blocks.{headOf};
 ghost use Rattle.book.specs.Inner.Words.{HeadWords};
 ghost use Rattle.book.specs.Sets.{has};
-ghost use Rattle.search.specs.Inner.Table.{FittingWord, ReferenceWords, RestrictionWord, RuleWords, LeafSets};
+ghost use Rattle.search.specs.Inner.Table.{FittingWords, ReferenceWords, RestrictionWord, RuleWords, LeafSets};
 ghost use Rattle.search.specs.Inner.Table.{TableHolds, CoveredWord, CoversHold};
 
-// All operations of one leaf, if it is in a set.
-fn if_leaf(leaves: u64, d: usize) -> u64
-    ensures { λ r. ⌜ r ≡ cond (has leaves d) 65535 0 ⌝ }
+// The first four leaves of a set, each with every operation.
+fn spread(leaves: u64) -> u64
+    ensures { λ r. ⌜ ((i : ℕ) → i < 64 → has r i ≡ has leaves (i / 16)) ⌝ }
 {
-    word_if(contains(leaves, d), 65535)
+    four(
+        65535 * (leaves % 2),
+        65535 * (leaves / 2 % 2),
+        65535 * (leaves / 4 % 2),
+        65535 * (leaves / 8 % 2),
+    )
 }
 
-// Word w of the places of some leaves under an action, with every operation.
-fn fitting_word(action: usize, leaves: u64, w: usize) -> u64
-    ensures { λ r. ⌜ FittingWord action leaves w r ⌝ }
+// The words of the places of some leaves under an action, with every operation.
+fn fitting_words(action: usize, leaves: u64) -> [u64; 33]
+    ensures { λ r. ⌜ FittingWords action leaves r ⌝ }
 {
-    if action_fits(action, w / 16) {
-        let d = w % 16 * 4;
-        return four(
-            if_leaf(leaves, d),
-            if_leaf(leaves, d + 1),
-            if_leaf(leaves, d + 2),
-            if_leaf(leaves, d + 3),
-        );
+    let projected = action_fits(action, 0);
+    let tested = action_fits(action, 1);
+    let mut words = [0u64; 33];
+    for w in 0..16usize {
+        let word = spread(leaves >> (4 * w));
+        words[w] = word_if(projected, word);
+        words[16 + w] = word_if(tested, word);
     }
-    0
+    words
 }
 
 // The words of the places that meet reference i, all of them where it is absent.
@@ -52,12 +55,7 @@ fn reference_words(rule: &[u8], leaves: u64, i: u8) -> [u64; 33]
     if reference_count(rule) <= i as usize {
         return [18446744073709551615; 33];
     }
-    let wanted = action(rule, i);
-    let mut words = [0u64; 33];
-    for w in 0..33usize {
-        words[w] = fitting_word(wanted, leaves, w);
-    }
-    words
+    fitting_words(action(rule, i), leaves)
 }
 
 // The operations that restriction j takes at reference i, four times over.

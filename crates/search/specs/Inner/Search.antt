@@ -124,9 +124,28 @@ pub record Thirds (t : List ℕ) (r n rules a y : ℕ) (before after : Remaining
   pub more : Within (has (before .rules)) (has (after .rules))
   pub only : Grown (has rules) (has (before .rules)) (has (after .rules))
 
+-- the places that can be chosen for the i-th reference, less what breaks a rule by itself
+pub record Possible (t : List ℕ) (r n : ℕ) (had : List ℕ) (rules i seen : ℕ) (after : Remaining) : Type 0 where
+  pub within : (p : ℕ) → p < pastPlaces → inPlaces (after .places) p ≡ true → candidate t r n had i p ≡ true
+  pub passed :
+      (p q : ℕ)
+      → p < pastPlaces
+      → q < 32
+      → inPlaces (after .places) p ≡ true
+      → has rules q ≡ true
+      → closes t q nowhere nowhere p ≡ false
+  pub gone :
+      (p : ℕ)
+      → p < pastPlaces
+      → candidate t r n had i p ≡ true
+      → inPlaces (after .places) p ≡ false
+      → any (λ q. has (after .rules) q && closes t q nowhere nowhere p) (upTo 32) ≡ true
+  pub more : Within (has seen) (has (after .rules))
+  pub only : Grown (has rules) (has seen) (has (after .rules))
+
 -- Second places that one rule settles
 
--- rule q takes at reference i every place of a set but those with its own operations: it accepts only others
+-- the places of a set with none of r's own operations meet reference i of rule q, with none of the others: q takes them
 abbrev pub TakesAll : List ℕ → ℕ → ℕ → List ℕ → ℕ → ℕ → Type 0
 TakesAll t q i thirds own other =
     (x : ℕ)
@@ -179,25 +198,6 @@ pub record SettledBy
   pub settled :
       Settled t r n a thirds (λ y x. any (λ q. has (after .rules) q && closes t q a y x) (upTo 32)) seconds
       (after .places)
-  pub more : Within (has seen) (has (after .rules))
-  pub only : Grown (has rules) (has seen) (has (after .rules))
-
--- the places that can be chosen for the i-th reference, less what breaks a rule by itself
-pub record Possible (t : List ℕ) (r n : ℕ) (had : List ℕ) (rules i seen : ℕ) (after : Remaining) : Type 0 where
-  pub within : (p : ℕ) → p < pastPlaces → inPlaces (after .places) p ≡ true → candidate t r n had i p ≡ true
-  pub passed :
-      (p q : ℕ)
-      → p < pastPlaces
-      → q < 32
-      → inPlaces (after .places) p ≡ true
-      → has rules q ≡ true
-      → closes t q nowhere nowhere p ≡ false
-  pub gone :
-      (p : ℕ)
-      → p < pastPlaces
-      → candidate t r n had i p ≡ true
-      → inPlaces (after .places) p ≡ false
-      → any (λ q. has (after .rules) q && closes t q nowhere nowhere p) (upTo 32) ≡ true
   pub more : Within (has seen) (has (after .rules))
   pub only : Grown (has rules) (has seen) (has (after .rules))
 

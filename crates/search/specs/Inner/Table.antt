@@ -45,6 +45,9 @@ abbrev pub FittingWord : ℕ → ℕ → ℕ → ℕ → Type 0
 FittingWord action leaves w word =
     (i : ℕ) → i < 64 → has word i ≡ (actionFits action (w / 16) && has leaves (w % 16 * 4 + i / 16))
 
+abbrev pub FittingWords : ℕ → ℕ → List ℕ → Type 0
+FittingWords action leaves words = (w : ℕ) → w < 33 → FittingWord action leaves w (getD words w 0)
+
 -- word w of the places that meet reference i of a rule
 abbrev pub ReferenceWord : List ℕ → ℕ → ℕ → ℕ → ℕ → Type 0
 ReferenceWord rule leaves i w word =

@@ -8,8 +8,8 @@ use Rattle.search.proofs.idling.needs.Tie as tie
 returns : tie.Need-returns
 returns c held accepted l =
     let total = c .before .before .before .before .before .before .before .before .rule-count in
-    let known = c .before .before .before .before .before .before .before .before .before .shared-slice-known in
-    let a = c .before .before .before .before .before .before .before .before .before .before .args in
+    let known = c .before .before .before .before .before .before .before .before .before .before .shared-slice-known in
+    let a = c .before .before .before .before .before .before .before .before .before .before .before .args in
     let rule = c .before .before .before .before .before .before .rule-at in
     let head = c .before .before .before .head-of in
     let references = c .before .before .before .before .before .reference-count in

@@ -10,7 +10,7 @@ returns c held =
     let both = c .before .before .or-else in
     let rule = c .before .before .before .test-rule in
     let book = c .before .before .before .before .test-book in
-    let a = c .before .before .before .before .before .before .before .args in
+    let a = c .before .before .before .before .before .before .before .before .args in
     idle-joined (a .book .now) (a .rule) (a .buffer .now) (book .result) (rule .result) (both .result)
     (buffer .result) (c .or-else2 .result) (book .ensures held) (rule .ensures) (both .ensures) (buffer .ensures)
     (c .or-else2 .ensures)

@@ -8,11 +8,11 @@ use Rattle.search.proofs.tables.covered_at.Statement.{statement}
 use Rattle.search.proofs.tables.covered_at.Tie as tie
 
 returns : tie.Need-returns
-returns c held u l = rw (has-zero u, le-ltb (c .before .before .args .r) (c .before .before .args .n) (c .if1 .taken))
+returns c held u l = rw (has-zero u, le-ltb (c .before .before .before .args .r) (c .before .before .before .args .n) (c .if1 .taken))
 
 returns-2 : tie.Need-returns-2
 returns-2 c held u l =
-    let b = c .before .before .before .before .args in
+    let b = c .before .before .before .before .before .args in
     rw (lt-ltb (b .r) (b .n) (c .before .before .if1 .left), ← (c .before .rule-at .ensures))
     (c .covered-users .ensures _ held u ∙ rw (lt-ltb u 64 (omega arith)))
 

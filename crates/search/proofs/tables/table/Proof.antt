@@ -8,17 +8,17 @@ use Rattle.search.proofs.tables.table.Statement.{statement}
 use Rattle.search.proofs.tables.table.Tie as tie
 
 abbrev Inv-loop2 : tie.InvT-loop2
-Inv-loop2 book n sets t₀ q words k₀ t k =
+Inv-loop2 book head n sets t₀ q words k₀ t k =
     (q < n) × (k ≤ 128) × Filled 4096 (TableWord book sets) t (128 * q + k)
 
 abbrev μ-loop2 : tie.MeasureT-loop2
-μ-loop2 book n sets t₀ q words k₀ t k = 128 - k
+μ-loop2 book head n sets t₀ q words k₀ t k = 128 - k
 
 abbrev Inv-loop : tie.InvT-loop
-Inv-loop book n sets t₀ q₀ t q = (q ≤ n) × Filled 4096 (TableWord book sets) t (128 * q)
+Inv-loop book head n sets t₀ q₀ t q = (q ≤ n) × Filled 4096 (TableWord book sets) t (128 * q)
 
 abbrev μ-loop : tie.MeasureT-loop
-μ-loop book n sets t₀ q₀ t q = n - q
+μ-loop book head n sets t₀ q₀ t q = n - q
 
 returns : tie.Need-returns Inv-loop2 μ-loop2 Inv-loop μ-loop
 returns c held few = absurd (omega arith)
@@ -28,7 +28,7 @@ loop-holds c = (search needs, fill-none (search needs))
 
 loop2-holds : tie.Need-loop2-holds Inv-loop2 μ-loop2 Inv-loop μ-loop
 loop2-holds c =
-    let book = c .before .before .before .before .before .before .before .before .args .book .now in
+    let book = c .before .before .before .before .before .before .before .before .before .args .book .now in
     let sets = c .before .before .before .before .before .before .leaf-sets .result in
     let loop = c .before .before .before .before .loop in (
       search needs,
@@ -38,7 +38,7 @@ loop2-holds c =
 
 loop2-again : tie.Need-loop2-again Inv-loop2 μ-loop2 Inv-loop μ-loop
 loop2-again c =
-    let book = c .before .before .before .before .before .before .before .before .before .before .args .book .now in
+    let book = c .before .before .before .before .before .before .before .before .before .before .before .args .book .now in
     let sets = c .before .before .before .before .before .before .before .before .leaf-sets .result in
     let q = c .before .before .before .before .before .before .loop .q in
     let rule = c .before .before .before .before .rule-at in
@@ -54,7 +54,7 @@ loop2-again c =
 
 loop-again : tie.Need-loop-again Inv-loop2 μ-loop2 Inv-loop μ-loop
 loop-again c =
-    let book = c .before .before .before .before .before .before .before .before .before .before .args .book .now in
+    let book = c .before .before .before .before .before .before .before .before .before .before .before .args .book .now in
     let sets = c .before .before .before .before .before .before .before .before .leaf-sets .result in
     let q = c .before .before .before .before .before .before .loop .q in
     let loop = c .before .loop2 in (
@@ -64,7 +64,7 @@ loop-again c =
 
 returns-2 : tie.Need-returns-2 Inv-loop2 μ-loop2 Inv-loop μ-loop
 returns-2 c held few =
-    let a = c .before .before .before .before .before .args in
+    let a = c .before .before .before .before .before .before .args in
     let sets = c .before .before .before .leaf-sets in
     let loop = c .before .loop in
     table-holds (a .book .now) (a .n) (sets .result) (loop .t) (128 * loop .q) (sets .ensures held few) (loop .inv .1)
