@@ -9,7 +9,7 @@ ghost use mathlib.Core.Path.{_≡_};
 ghost use Prim.Native.Nat.{_<_};
 ghost use Rattle.book.specs.Blocks.{checkHolds, checkSum};
 ghost use Rattle.book.specs.Answers.{sealAnswer, sealBytes};
-ghost use Rattle.book.specs.Inner.Reading.{SumsTo};
+ghost use Rattle.book.specs.Inner.Reading.{RowSum, SumsTo};
 
 // How many bytes of a block its check has to sum: zeros add nothing, and most blocks have nothing else
 // from byte 128 on.
@@ -22,13 +22,39 @@ fn summed(block: &[u8]) -> usize
     510
 }
 
+// The sum of (i + 1) times byte i over the whole rows of sixteen bytes, with no product for a byte:
+// down each column `bytes` adds up its bytes and `sums` adds up these sums, so that a byte counts
+// there once for its own row and once for each row after it.
+fn row_sum(body: &[u8]) -> u32
+    ensures { λ r. ⌜ RowSum (now (body .entry)) r ⌝ }
+{
+    let rows = body.len() / 16;
+    if 32 < rows {
+        return 0;
+    }
+    let mut bytes = [0u32; 16];
+    let mut sums = [0u32; 16];
+    for r in 0..rows {
+        for j in 0..16usize {
+            let total = bytes[j] + body[16 * r + j] as u32;
+            bytes[j] = total;
+            sums[j] = sums[j] + total;
+        }
+    }
+    let mut sum = 0u32;
+    for j in 0..16usize {
+        sum = sum + ((16 * rows + 1 + j) as u32) * bytes[j] - 16 * sums[j];
+    }
+    sum
+}
+
 // The sum of (i + 1) times byte i over the first 510 bytes, modulo 65,521.
 pub fn check_sum(block: &[u8]) -> u32
     ensures { λ r. ⌜ (r ≡ checkSum (now (block .entry))) × (r < 65521) ⌝ }
 {
     let body = part(block, 0, summed(block));
-    let mut sum = 0u32;
-    for i in 0..body.len() {
+    let mut sum = row_sum(body);
+    for i in 16 * (body.len() / 16)..body.len() {
         sum = sum + (i as u32 + 1) * (body[i] as u32);
     }
     sum % 65521

@@ -4,13 +4,14 @@
 use crate::answers::Answer;
 use crate::answers::say;
 use crate::numbers::Numbers;
-use book::Hierarchy;
 use book::bytes::part;
-use book::categories::leaves;
 use book::categories::support;
-use book::categories::supporters;
 use book::rules::covered_users;
 use book::rules::leaf_set;
+use book::words::data_leaves;
+use book::words::head_words;
+use book::words::supporters;
+use book::words::users;
 
 fn supporting(words: [u64; 16], k: u32) -> u64 {
     words[(k % 16) as usize]
@@ -18,13 +19,14 @@ fn supporting(words: [u64; 16], k: u32) -> u64 {
 
 fn value(reader: u32, asked: u32, head: &[u8], rule: &[u8]) -> u64 {
     let i = (asked % 256) as u8;
+    let words = head_words(head);
     match reader {
-        1 => leaves(head, Hierarchy::Users),
-        2 => leaves(head, Hierarchy::Data),
+        1 => users(&words),
+        2 => data_leaves(&words),
         3 => support(head, i),
-        4 => supporting(supporters(head), asked),
-        5 => covered_users(head, rule),
-        _ => leaf_set(head, rule, i),
+        4 => supporting(supporters(&words, head), asked),
+        5 => covered_users(&words, rule),
+        _ => leaf_set(&words, rule, i),
     }
 }
 

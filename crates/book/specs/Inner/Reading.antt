@@ -1,10 +1,10 @@
 -- Both hierarchies of a book under one name, for the functions that serve both, the bytes that a check sums, and the
 -- words that the crates above keep. No call's promise leans on this file. Assumes nothing.
-use Prim.Native.Nat.{ℕ, _≤_, _<_}
+use Prim.Native.Nat.{ℕ, _*_, _/_, _≤_, _<_}
 use mathlib.Core.Path.{_≡_}
 use mathlib.Core.Bool.{Bool, _&&_, cond}
 use mathlib.Core.List.{List}
-use lib.ListN.{getD, take}
+use lib.ListN.{length, getD, take}
 use lib.Bits.{bitOr}
 use Rattle.book.specs.Sets.{has, WordOf}
 use Rattle.book.specs.Blocks.{Block, Head, weighted}
@@ -28,6 +28,11 @@ leafIn Data head i = isDataLeaf head i
 pub record SumsTo (block : Block) (n : ℕ) : Type 0 where
   pub within : n ≤ 510
   pub same : weighted 1 (take n block) ≡ weighted 1 (take 510 block)
+
+-- the sum over the whole rows of sixteen bytes, of at most 32 rows
+abbrev pub RowSum : (body : List ℕ) (sum : ℕ) → Type 0
+RowSum body sum =
+    length body / 16 ≤ 32 → (sum ≡ weighted 1 (take (16 * (length body / 16)) body)) × (sum ≤ 68935680)
 
 -- for each operation the leaves that support it
 abbrev pub Supporting : Head → List ℕ → Type 0

@@ -1,6 +1,6 @@
--- The sum so far is the weighted sum of the bytes passed, and each of at most 510 bytes adds at most 130,050.
+-- The sum so far is the weighted sum of the bytes passed: those of the whole rows, then at most 130,050 for each byte.
 -- Assumes nothing.
-use Prim.Native.Nat.{_≤_, _-_, _*_}
+use Prim.Native.Nat.{_≤_, _+_, _-_, _*_}
 use native.Mathlib.Omega.{arith}
 use mathlib.Core.Path.{_≡_}
 use lib.ListN.{length, getD, take}
@@ -17,17 +17,21 @@ Inv-loop block body sum₀ i₀ i-end sum i =
     × (i-end ≡ length body)
     × (length body ≤ 510)
     × (sum ≡ weighted 1 (take i body))
-    × (sum ≤ 130050 * i)
+    × (sum ≤ 68935680 + 130050 * i)
 
 abbrev μ-loop : tie.MeasureT-loop
 μ-loop block body sum₀ i₀ i-end sum i = length body - i
 
 loop-holds : tie.Need-loop-holds Inv-loop μ-loop
 loop-holds c =
-    let body = c .part .result .now in
-    let count = c .before .summed in
-    let short = part-short (c .before .before .before .args .block .now) 0 (count .result) body (c .part .ensures) in
-    (search needs, search needs, omega (arith, short, count .ensures .within), weighted-none body, search needs)
+    let rows = c .row-sum in
+    let body = c .before .part .result .now in
+    let count = c .before .before .summed in
+    let block = c .before .before .before .before .args .block .now in
+    let short = part-short block 0 (count .result) body (c .before .part .ensures) in
+    let few : length body ≤ 510 = omega (arith, short, count .ensures .within) in
+    let told = rows .ensures (omega arith) in
+    (omega arith, search needs, few, told .0, omega (arith, told .1))
 
 cast-sum-2 : tie.Need-cast-sum-2 Inv-loop μ-loop
 cast-sum-2 c = omega (arith, c .shared-slice-known2 .given (c .before .before .loop .i))
@@ -35,20 +39,20 @@ cast-sum-2 c = omega (arith, c .shared-slice-known2 .given (c .before .before .l
 mul-sum : tie.Need-mul-sum Inv-loop μ-loop
 mul-sum c =
     let i = c .before .before .loop .i in
-    let x = getD (c .before .before .before .part .result .now) i 0 in
+    let x = getD (c .before .before .before .before .part .result .now) i 0 in
     let byte : x ≤ 255 = omega (arith, c .shared-slice-known2 .given i) in
     omega (arith, weighted-step i x (omega arith) byte)
 
 add-sum-2 : tie.Need-add-sum-2 Inv-loop μ-loop
 add-sum-2 c =
     let i = c .before .before .loop .i in
-    let x = getD (c .before .before .before .part .result .now) i 0 in
+    let x = getD (c .before .before .before .before .part .result .now) i 0 in
     let byte : x ≤ 255 = omega (arith, c .shared-slice-known2 .given i) in
     omega (arith, weighted-step i x (omega arith) byte)
 
 loop-again : tie.Need-loop-again Inv-loop μ-loop
 loop-again c =
-    let body = c .before .before .before .part .result .now in
+    let body = c .before .before .before .before .part .result .now in
     let at = c .before .before .loop in
     let i = at .i in
     let x = getD body i 0 in
@@ -58,9 +62,9 @@ loop-again c =
 
 returns : tie.Need-returns Inv-loop μ-loop
 returns c =
-    let block = c .before .before .before .before .before .args .block .now in
-    let count = c .before .before .before .summed in
-    let part = c .before .before .part in
+    let block = c .before .before .before .before .before .before .args .block .now in
+    let count = c .before .before .before .before .summed in
+    let part = c .before .before .before .part in
     let at = c .before .loop in
     let whole =
     weighted-whole block (part .result .now) (count .result) (at .i) (at .sum) (count .ensures) (part .ensures)
@@ -75,6 +79,8 @@ check-sum-spec =
     μ-loop
     (λ c κs. search needs)
     (λ c κs. search needs)
+    (λ c κs. search needs)
+    (λ c. search needs)
     loop-holds
     (λ c. search needs)
     (λ c. search needs)
