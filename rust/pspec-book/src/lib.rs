@@ -1,8 +1,8 @@
 //! Policies as text, over the safe wrapper of the engine.
 //!
 //! A policy file names users, data, columns, functions and rules; `build` makes the engine's blocks
-//! of it and `show` makes text of blocks again. `report` and `judge` put the engine's answers in
-//! the policy's names.
+//! of it and `show` makes text of blocks again. `report`, `judge` and `flows` put the engine's
+//! answers in the policy's names.
 //!
 //! All of this stands outside the proved core. The engine decides whether a book is accepted, which
 //! rules a plan breaks and which are idle; that the text means the blocks is this crate's word,

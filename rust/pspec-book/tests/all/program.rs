@@ -298,7 +298,7 @@ fn help_and_version() {
         assert_eq!((status, complaint.as_str()), (0, ""));
         assert!(answer.contains(text), "{answer}");
     };
-    says(&["help"], "outside the proof");
+    says(&["help"], "are tried by tests only");
     says(&["--help"], "pspec-book judge BOOK USER PLAN");
     for asked in [["report", "--help"], ["report", "-h"], ["help", "report"]] {
         says(&asked, "pspec-book report BOOK");
