@@ -1,6 +1,6 @@
 //! The words of the command line.
 
-use crate::text::shown;
+use crate::phrases::shown;
 
 /// A command: what stands after its name, and what it does.
 #[derive(Debug, PartialEq, Eq)]

@@ -1,6 +1,6 @@
 //! Why a rule is idle, by asking the engine about books with rules left out.
 
-use crate::text::counted_list;
+use crate::phrases::counted_list;
 use pspec::{Book, Refusal, BLOCK};
 
 /// Why a rule is idle.

@@ -24,7 +24,7 @@
 //! let policy = pspec_book::policy::read(text)?;
 //! let book = pspec_book::build::book(&policy)?;
 //! assert_eq!(book.rule_count(), 1);
-//! # Ok::<(), pspec_book::text::Mistakes>(())
+//! # Ok::<(), pspec_book::mistake::Mistakes>(())
 //! ```
 #![forbid(unsafe_code)]
 #![warn(missing_docs)]
@@ -46,8 +46,10 @@ pub mod json;
 pub mod judge;
 pub mod labels;
 pub mod lineage;
+pub mod mistake;
 pub mod named;
 pub mod names;
+pub mod phrases;
 pub mod plan;
 pub mod policy;
 pub mod report;

@@ -7,8 +7,8 @@ use crate::contents::{Contents, UNLABELLED};
 use crate::json::Json;
 use crate::named::NamedBook;
 use crate::names::Names;
+use crate::phrases::counted_list;
 use crate::plan::PlanText;
-use crate::text::counted_list;
 use pspec::{Access, Action, Refusal};
 use std::collections::{BTreeMap, BTreeSet};
 

@@ -5,7 +5,8 @@
 //! for no other. A digest would be shorter, but then two books could share one.
 
 use crate::contents::{Contents, OPERATIONS};
-use crate::text::{self, mistake, Cursor, Line, Mistake, Section};
+use crate::mistake::{mistake, Mistake};
+use crate::text::{self, Cursor, Line, Section};
 use pspec::{Book, BLOCK};
 
 /// The names of a book's numbers.

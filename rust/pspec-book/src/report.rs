@@ -3,9 +3,9 @@
 use crate::covering::{why_idle, WhyIdle};
 use crate::json::Json;
 use crate::named::NamedBook;
+use crate::phrases::counted_list;
 use crate::plan::accesses;
 use crate::rule;
-use crate::text::counted_list;
 use pspec::{Access, Idleness, Plan, Refusal};
 use std::io::{self, IsTerminal, Write};
 
