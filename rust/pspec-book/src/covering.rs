@@ -14,6 +14,14 @@ pub enum WhyIdle {
 }
 
 impl WhyIdle {
+    /// The rules that cover it; none where nothing can break it.
+    pub fn rules(&self) -> &[usize] {
+        match self {
+            WhyIdle::Unbreakable => &[],
+            WhyIdle::Covered(rules) => rules,
+        }
+    }
+
     /// In words, after 'idle'.
     pub fn text(&self) -> String {
         match self {

@@ -6,6 +6,7 @@
 
 use crate::contents::{Contents, OPERATIONS};
 use crate::mistake::{mistake, Mistake};
+use crate::phrases::shown;
 use crate::text::{self, Cursor, Line, Section};
 use pspec::{Book, BLOCK};
 
@@ -79,7 +80,7 @@ impl Names {
             *list = listed(header, needed.len(), sections.next(), end)?;
         }
         if let Some(section) = sections.next() {
-            let what = format!("found '{}'; expected the end", section.header.text);
+            let what = format!("found '{}'; expected the end", shown(section.header.text));
             return Err(mistake(section.header.number, what));
         }
         Ok(names)
@@ -138,6 +139,7 @@ fn fitting(first: Option<Section>, book: &Book, end: usize) -> Result<(), Mistak
         mistake(line, format!("{what}: these are not its names. {advice}"))
     };
     if found != "book" {
+        let found = shown(found);
         let what = format!("found '{found}'; expected 'book' and the bytes of the book");
         return Err(another(line, what));
     }
@@ -170,6 +172,7 @@ fn listed(
     };
     let (line, found) = (section.header.number, section.header.text);
     if found != header {
+        let found = shown(found);
         return Err(mistake(
             line,
             format!("found '{found}'; expected '{header}'"),

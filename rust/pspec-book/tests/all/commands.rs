@@ -140,7 +140,7 @@ fn answers_for_scripts() {
         assert_eq!(said, (status, format!("{json}\n"), String::new()));
     };
     let sum = r#"{"action":"projection","leaf":"Price","operation":"sum","lines":[{"line":3,"columns":[1]}]}"#;
-    let state = r#"{"action":"condition","leaf":"State","operation":"","lines":[{"line":5,"columns":[4]}]}"#;
+    let state = r#"{"action":"condition","leaf":"State","operation":null,"lines":[{"line":5,"columns":[4]}]}"#;
     answers(
         &["flows", "shop.book", "p.txt", "--json"],
         0,
@@ -201,4 +201,27 @@ fn a_page_is_written() {
     assert_eq!(text_of(&folder, "x.html"), text_of(&folder, "shop.html"));
     let (status, _, complaint) = run(&folder, &["report", "shop.book", "--html", "no/x.html"]);
     assert!(status == 2 && complaint.starts_with("no/x.html: can't be written: "));
+}
+
+/// docs/EXAMPLE.md shows what the program answers.
+#[test]
+fn the_answers_in_the_document() {
+    let folder = shop("document");
+    for name in ["tpc-ds.pspec", "tpc-ds-zip.plan"] {
+        fs::write(folder.join(name), text(&format!("examples/{name}"))).expect("it is written");
+    }
+    run(&folder, &["build", "tpc-ds.pspec", "-o", "tpc.book"]);
+    let document = text("docs/EXAMPLE.md");
+    let (_, shown) = document.split_once("```json\n").expect("it is there");
+    let shown: Vec<&str> = shown.lines().take(4).collect();
+    let answer = |arguments: &[&str]| run(&folder, arguments).1;
+    assert!(answer(&["report", "shop.book", "--json"]).contains(shown[0]));
+    let plan = "tpc-ds-zip.plan";
+    for (arguments, shown) in [
+        (&["labels", "shop.book", "--json"][..], shown[1]),
+        (&["judge", "tpc.book", "Analyst", plan, "--json"], shown[2]),
+        (&["flows", "tpc.book", plan, "--json"], shown[3]),
+    ] {
+        assert_eq!(answer(arguments).trim_end(), shown);
+    }
 }
