@@ -12,6 +12,8 @@
  *    the same time;
  *  - its answer is the one that crates/capi/specs/Packing.antt says, over specs/Answers.antt of the
  *    crates below, and so are the slice's elements on leaving;
+ *  - what the numbers of pspec_judge and pspec_idle mean for a policy is one page,
+ *    crates/capi/specs/Demands.antt, and is proved of them;
  *  - a refusal leaves `block`, `words` and `buffer` as they were.
  *
  * Answers. Each is one 64-bit number: refusal number x 2^40 + place x 2^32 + value. The refusal number

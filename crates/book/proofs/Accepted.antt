@@ -1,9 +1,9 @@
 -- What an accepted book gives: the laws of its head and of each rule. Assumes nothing.
 use Prim.Native.Nat.{ℕ, _+_, _*_, _-_, _≤_, _<_}
 use native.Mathlib.Omega.{arith}
-use mathlib.Core.Path.{_≡_, sym}
+use mathlib.Core.Path.{_≡_}
 use mathlib.Core.Bool.{Bool, true, false, _&&_, _||_, not}
-use mathlib.Core.List.{List, [], _∷_}
+use mathlib.Core.List.{List, _++_}
 use lib.ListN.{length}
 use lib.Dec.{ltb, leb}
 use borrow.Author.Tests.{leb-true, ltb-true, not-true}
@@ -14,22 +14,20 @@ use Rattle.book.specs.Head.{userCount, userParent, dataCount, dataParent
 use Rattle.book.specs.Head.{functionCount, operation}
 use Rattle.book.specs.Rule.{referenceCount, userCategory, excludedUserCount, excludedUsers, restrictionCount}
 use Rattle.book.specs.Rule.{dataCategory, action, exclusionCount, exclusions, restrictionMask, inLeafSet}
-use Rattle.book.specs.Blocks.{blockAt, headOf, ruleAt}
-use Rattle.book.specs.Refusals.{between, firstFailing, lengthHolds, lengthTests, passTests}
+use Rattle.book.specs.Blocks.{headOf, ruleAt, blockCount, ruleCount}
+use Rattle.book.specs.Tests.{Passes}
+use Rattle.book.specs.Refusals.{BookAccepted, between, bookTests, blockByBlock, blockTests, checkTests}
+use Rattle.book.specs.Refusals.{contentTests, kindTests, lengthHolds, lengthTests}
 use Rattle.book.specs.Refusals.{usersOrdered}
 use Rattle.book.specs.Refusals.{dataOrdered, labelHolds, labelsHold, functionsHold, ruleCounts, ruleZeros}
 use Rattle.book.specs.Refusals.{ruleCounted, userNumbersHold, referenceHolds, numbersHold, leafSetsApart}
 use Rattle.book.specs.Refusals.{referencesApart, maskAllows, maskHolds, masksHold}
-use Rattle.book.specs.Answers.{atPlaces, blockCount, ruleCount, checkAnswer}
-use Rattle.book.specs.declared.Checked.{Checked}
-use Rattle.book.specs.declared.Checked.the-variants.{Accepted}
-use Rattle.book.specs.declared.checking.Pass.the-variants.{Checks, Kinds, Contents}
 use Rattle.book.proofs.Lists.{and-left, and-right, and-both, not-holds, or-holds, all-at}
 use Rattle.book.proofs.Hierarchies.{parent-falls}
-use Rattle.book.proofs.Tests.{first-passed, between-true, length-true}
+use Rattle.book.proofs.Tests.{between-true, length-true, rule-tests}
 use Rattle.book.proofs.Tests.{users-bound, data-bound, columns-bound, functions-bound, rule-bounds}
 use Rattle.book.proofs.Tests.{users-passed, data-passed, columns-passed, functions-passed, rule-passed}
-use Rattle.book.proofs.Answers.{refuse-accepted, at-accepted}
+use Rattle.book.proofs.Answers.{append-passed, last-passed, passed-flat}
 
 -- the head of an accepted book
 pub record HeadHolds (head : List ℕ) : Type 0 where
@@ -181,44 +179,34 @@ module _ (head rule : List ℕ) where
 
 -- An accepted book
 
-module _ (book : List ℕ) (n : ℕ) (accepted : checkAnswer book ≡ Accepted n) where
+module _ (book : List ℕ) (accepted : BookAccepted book) where
   all-passed :
-      (lengthHolds (length book) ≡ true)
-      × ((j : ℕ) → j < blockCount book → firstFailing (passTests Contents book j) ≡ 0)
-      × (ruleCount book ≡ n)
-  unfolding checkAnswer lengthTests
+      (lengthHolds (length book) ≡ true) × ((j : ℕ) → j < blockCount book → Passes (contentTests book j))
+  unfolding bookTests blockByBlock lengthTests
   all-passed =
-      let blocks = blockCount book in
-      let last : Checked = Accepted (ruleCount book) in
-      let contents : Checked = atPlaces (passTests Contents book) (upTo blocks) last in
-      let kinds : Checked = atPlaces (passTests Kinds book) (upTo blocks) contents in
-      let checks : Checked = atPlaces (passTests Checks book) (upTo blocks) kinds in
-      let long = refuse-accepted (firstFailing ((1, lengthHolds (length book)) ∷ [])) 0 checks n accepted in
-      let checked = at-accepted (passTests Checks book) blocks kinds n (long .1) in
-      let known = at-accepted (passTests Kinds book) blocks contents n (checked .1) in
-      let held = at-accepted (passTests Contents book) blocks last n (known .1) in
-      let e : Accepted (ruleCount book) ≡ Accepted n = held .1 in
-      (first-passed 0 (lengthHolds (length book)) [] (long .0) .0, held .0, cc)
-
-  pub accepted-rules : n ≡ ruleCount book
-  accepted-rules = sym (all-passed .2)
+      let checks = blockByBlock book (checkTests book) in
+      let kinds = blockByBlock book (kindTests book) in
+      let contents = blockByBlock book (contentTests book) in
+      let last = append-passed (lengthTests book ++ checks ++ kinds) contents accepted in
+      let before = append-passed (lengthTests book ++ checks) kinds (last .0) in
+      let long = append-passed (lengthTests book) checks (before .0) in
+      (last-passed 1 0 (lengthHolds (length book)) (long .0), passed-flat (contentTests book) (blockCount book) (last .1))
 
   -- "512 times 4 to 36"
-  pub accepted-length : (length book ≡ 512 * (4 + n)) × (n ≤ 32)
+  pub accepted-length : (length book ≡ 512 * (4 + ruleCount book)) × (ruleCount book ≤ 32)
   accepted-length =
       let l = length-true (length book) (all-passed .0) in
-      let e = accepted-rules in
       (omega arith, omega arith)
 
   pub accepted-head : HeadHolds (headOf book)
-  unfolding passTests
+  unfolding contentTests blockTests
   accepted-head =
       let head = headOf book in
       let l = length-true (length book) (all-passed .0) in
-      let users = users-passed head (blockAt book 0) (all-passed .1 0 (omega arith)) in
-      let categories = data-passed head (blockAt book 1) (all-passed .1 1 (omega arith)) in
-      let columns = columns-passed head (blockAt book 2) (all-passed .1 2 (omega arith)) in
-      let functions = functions-passed head (blockAt book 3) (all-passed .1 3 (omega arith)) in
+      let users = users-passed head (all-passed .1 0 (omega arith)) in
+      let categories = data-passed head (all-passed .1 1 (omega arith)) in
+      let columns = columns-passed head (all-passed .1 2 (omega arith)) in
+      let functions = functions-passed head (all-passed .1 3 (omega arith)) in
       record {
         users-some = users-bound head (users .0) .0;
         users-most = users-bound head (users .0) .1;
@@ -233,13 +221,13 @@ module _ (book : List ℕ) (n : ℕ) (accepted : checkAnswer book ≡ Accepted n
         operations-most = operations-bound head (functions .1);
       }
 
-  pub accepted-rule : (r : ℕ) → r < n → RuleHolds (headOf book) (ruleAt book r)
-  unfolding passTests ruleCounted usersProper dataProper
+  pub accepted-rule : (r : ℕ) → r < ruleCount book → RuleHolds (headOf book) (ruleAt book r)
+  unfolding contentTests ruleCounted usersProper dataProper
   accepted-rule r h =
       let head = headOf book in
       let rule = ruleAt book r in
-      let e = accepted-rules in
-      let passed = rule-passed head rule r (all-passed .1 (4 + r) (omega arith)) in
+      let block = all-passed .1 (4 + r) (omega arith) in
+      let passed = rule-passed head rule (4 + r) (rw (rule-tests head rule (4 + r) (omega arith)) at block) in
       let counts = rule-bounds rule (and-left (ruleCounts rule) (ruleZeros rule) (passed .0)) in
       let user = user-numbers head rule (passed .1) in
       let numbers = reference-numbers head rule (passed .1) in

@@ -1,176 +1,170 @@
--- Laws of the answers: of a refusal under a number, of the passes over the blocks, and what an accepted answer says.
--- Assumes nothing.
+-- Laws of lists of tests: of the first that fails, of lists joined, of the tests of each block in turn, and of an answer by
+-- its tests. Assumes nothing.
 use Prim.Native.Nat.{ℕ, zero, suc, _+_, _≤_, _<_}
 use native.Mathlib.Nat.{eq-or-lt-of-le}
 use native.Mathlib.Omega.{arith}
 use mathlib.Core.Path.{_≡_, refl, sym, ap, _∙_}
 use mathlib.Core.Logic.{⊎-elim}
-use mathlib.Core.Bool.{Bool, true, false, cond}
-use mathlib.Core.List.{List, [], _∷_}
-use lib.ListN.{length}
-use lib.Dec.{eqb}
-use borrow.Author.Tests.{eqb-true, ne-eqb}
-use Rattle.book.specs.Lists.{from, upTo}
-use Rattle.book.specs.Refusals.{firstFailing, lengthHolds, lengthTests, passTests}
-use Rattle.book.specs.Answers.{refuse, orElse, atPlaces, checkAnswer, blockCount, ruleCount}
-use Rattle.book.specs.declared.checking.Pass.the-variants.{Checks, Kinds, Contents}
-use Rattle.book.specs.declared.Checked.{Checked}
-use Rattle.book.specs.declared.Checked.the-variants.{Accepted, Refused}
+use mathlib.Core.Bool.{Bool, true, false, cond, not}
+use mathlib.Core.List.{List, [], _∷_, _++_}
+use borrow.Author.Tests.{not-true, not-false}
+use Rattle.book.specs.Lists.{flat, from, upTo}
+use Rattle.book.specs.Tests.{Test, Passes, firstFailing, refusedOr, answered}
+use Rattle.book.specs.Inner.Testing.{orElse}
+use Rattle.book.specs.declared.Refusal.{Refusal}
+use Rattle.book.specs.declared.Tested.{Tested}
+use Rattle.book.specs.declared.Tested.the-variants.{Passed, Refused}
 
--- One number
+-- nothing that refuses has passed
+pub refused-passed : {A : Type 0} (r : Refusal) → Refused r ≡ Passed → A
+refused-passed r h = let z : _≡_ {A = ℕ} 0 1 = cc in absurd (omega arith)
 
-module _ (number place : ℕ) (next : Checked) where
-  pub refuse-none : number ≡ 0 → refuse number place next ≡ next
-  unfolding refuse
-  refuse-none e = rw e
+-- One test
 
-  pub refuse-some : (number ≡ 0 → ⊥) → refuse number place next ≡ Refused (record { number = number; place = place })
-  unfolding refuse
-  refuse-some n = rw (ne-eqb number 0 n)
+module _ (number place : ℕ) (passed : Bool) (tests : List Test) where
+  pub fails : not passed ≡ true → Refused (record { number = number; place = place }) ≡ firstFailing ((number, place, passed) ∷ tests)
+  unfolding firstFailing
+  fails e = rw (not-true passed e)
 
-  pub refuse-else : (x : Checked) → orElse (refuse number place next) x ≡ refuse number place (orElse next x)
-  unfolding refuse orElse
-  refuse-else x = go (eqb number 0)
-    where
-      go : (b : Bool)
-          → orElse (cond b next (Refused (record { number = number; place = place }))) x
-          ≡ cond b (orElse next x) (Refused (record { number = number; place = place }))
-      go true = refl
-      go false = refl
+  pub passes : (r : Tested) → not passed ≡ false → r ≡ firstFailing tests → r ≡ firstFailing ((number, place, passed) ∷ tests)
+  unfolding firstFailing
+  passes r e rest = rw (not-false passed e) rest
 
-  pub refuse-accepted : (m : ℕ) → refuse number place next ≡ Accepted m → (number ≡ 0) × (next ≡ Accepted m)
-  unfolding refuse
-  refuse-accepted m h = go (eqb number 0) refl h
-    where
-      go : (b : Bool)
-          → eqb number 0 ≡ b
-          → cond b next (Refused (record { number = number; place = place })) ≡ Accepted m
-          → (number ≡ 0) × (next ≡ Accepted m)
-      go true e a = (eqb-true number 0 e, a)
-      go false e a = let z : _≡_ {A = ℕ} 0 1 = cc in absurd (omega arith)
+pub none-fails : Passed ≡ firstFailing []
+unfolding firstFailing
+none-fails = refl
 
--- The passes over the blocks
+pub first-passed :
+    (number place : ℕ) (passed : Bool) (tests : List Test)
+    → Passes ((number, place, passed) ∷ tests)
+    → (passed ≡ true) × Passes tests
+unfolding firstFailing
+first-passed number place true tests h = (refl, h)
+first-passed number place false tests h = refused-passed (record { number = number; place = place }) h
 
-module _ (tests : ℕ → List (ℕ × Bool)) where
-  pub at-passed-from :
-      (i n : ℕ) (next : Checked)
-      → ((j : ℕ) → i ≤ j → j < i + n → firstFailing (tests j) ≡ 0)
-      → atPlaces tests (from i n) next ≡ next
-  unfolding atPlaces from
-  at-passed-from i zero next h = refl
-  at-passed-from i (suc n) next h =
-      refuse-none (firstFailing (tests i)) i (atPlaces tests (from (suc i) n) next) (h i (omega arith) (omega arith))
-      ∙ at-passed-from (suc i) n next (λ j lo hi. h j (omega arith) (omega arith))
+-- the last of a list
+pub last-passed : (number place : ℕ) (passed : Bool) → Passes ((number, place, passed) ∷ []) → passed ≡ true
+last-passed number place passed h = first-passed number place passed [] h .0
 
-  pub at-failed-from :
-      (i n : ℕ) (next : Checked) (k : ℕ)
+pub two-passed :
+    (m n i j : ℕ) (a b : Bool) → Passes ((m, i, a) ∷ (n, j, b) ∷ []) → (a ≡ true) × (b ≡ true)
+two-passed m n i j a b h =
+    let first = first-passed m i a ((n, j, b) ∷ []) h in
+    (first .0, last-passed n j b (first .1))
+
+-- Lists joined
+
+pub first-append : (a b : List Test) → firstFailing (a ++ b) ≡ orElse (firstFailing a) (firstFailing b)
+unfolding firstFailing orElse
+first-append [] b = refl
+first-append (test ∷ a) b = go (test .2) (first-append a b)
+  where
+    go :
+        (passed : Bool)
+        → firstFailing (a ++ b) ≡ orElse (firstFailing a) (firstFailing b)
+        → cond passed (firstFailing (a ++ b)) (Refused (record { number = test .0; place = test .1 }))
+        ≡ orElse (cond passed (firstFailing a) (Refused (record { number = test .0; place = test .1 }))) (firstFailing b)
+    go true e = e
+    go false e = refl
+
+else-passed : (a b : Tested) → orElse a b ≡ Passed → (a ≡ Passed) × (b ≡ Passed)
+unfolding orElse
+else-passed Passed b h = (refl, h)
+else-passed (Refused r) b h = refused-passed r h
+
+-- where all tests of two lists pass, those of each do
+pub append-passed : (a b : List Test) → Passes (a ++ b) → Passes a × Passes b
+append-passed a b h = else-passed (firstFailing a) (firstFailing b) (sym (first-append a b) ∙ h)
+
+-- a call's outcome from those of its parts
+pub joined :
+    (a b : List Test) (x y r : Tested)
+    → x ≡ firstFailing a
+    → y ≡ firstFailing b
+    → r ≡ orElse x y
+    → r ≡ firstFailing (a ++ b)
+joined a b x y r ex ey er = rw (er, ex, ey) (sym (first-append a b))
+
+-- the second outcome counts only where the first list passes
+pub joined-after :
+    (a b : List Test) (x y r : Tested)
+    → x ≡ firstFailing a
+    → (Passes a → y ≡ firstFailing b)
+    → r ≡ orElse x y
+    → r ≡ firstFailing (a ++ b)
+unfolding orElse
+joined-after a b x y r ex ey er = go (firstFailing a) refl
+  where
+    go : (f : Tested) → firstFailing a ≡ f → r ≡ firstFailing (a ++ b)
+    go Passed e = joined a b x y r ex (ey e) er
+    go (Refused refusal) e = rw (er, ex, first-append a b, e)
+
+-- The tests of each block in turn
+
+module _ (tests : ℕ → List Test) where
+  flat-passed-from :
+      (i n : ℕ) → ((j : ℕ) → i ≤ j → j < i + n → Passes (tests j)) → Passes (flat tests (from i n))
+  unfolding flat from orElse firstFailing
+  flat-passed-from i zero h = refl
+  flat-passed-from i (suc n) h =
+      rw (first-append (tests i) (flat tests (from (suc i) n)), h i (omega arith) (omega arith))
+      (flat-passed-from (suc i) n (λ j lo hi. h j (omega arith) (omega arith)))
+
+  flat-refused-from :
+      (i n k : ℕ) (r : Refusal)
       → i ≤ k
       → k < i + n
-      → ((j : ℕ) → i ≤ j → j < k → firstFailing (tests j) ≡ 0)
-      → (firstFailing (tests k) ≡ 0 → ⊥)
-      → atPlaces tests (from i n) next ≡ Refused (record { number = firstFailing (tests k); place = k })
-  unfolding atPlaces from
-  at-failed-from i zero next k lo hi h f = absurd (omega arith)
-  at-failed-from i (suc n) next k lo hi h f =
+      → ((j : ℕ) → i ≤ j → j < k → Passes (tests j))
+      → firstFailing (tests k) ≡ Refused r
+      → firstFailing (flat tests (from i n)) ≡ Refused r
+  unfolding flat from orElse
+  flat-refused-from i zero k r lo hi h f = absurd (omega arith)
+  flat-refused-from i (suc n) k r lo hi h f =
       ⊎-elim
-      (λ (e : i ≡ k). rw e (refuse-some (firstFailing (tests k)) k (atPlaces tests (from (suc k) n) next) f))
+      (λ (e : i ≡ k). rw (first-append (tests i) (flat tests (from (suc i) n)), e, f))
       (λ (l : i < k).
-      refuse-none (firstFailing (tests i)) i (atPlaces tests (from (suc i) n) next) (h i (omega arith) l)
-      ∙ at-failed-from (suc i) n next k l (omega arith) (λ j low high. h j (omega arith) high) f)
+      rw (first-append (tests i) (flat tests (from (suc i) n)), h i (omega arith) l)
+      (flat-refused-from (suc i) n k r l (omega arith) (λ j low high. h j (omega arith) high) f))
       (eq-or-lt-of-le lo)
 
-  at-accepted-from :
-      (i n : ℕ) (next : Checked) (m : ℕ)
-      → atPlaces tests (from i n) next ≡ Accepted m
-      → ((j : ℕ) → i ≤ j → j < i + n → firstFailing (tests j) ≡ 0) × (next ≡ Accepted m)
-  unfolding atPlaces from
-  at-accepted-from i zero next m h = ((λ j lo hi. absurd (omega arith)), h)
-  at-accepted-from i (suc n) next m h =
-      let r = refuse-accepted (firstFailing (tests i)) i (atPlaces tests (from (suc i) n) next) m h in
-      let s = at-accepted-from (suc i) n next m (r .1) in (
-        (λ j lo hi.
-            ⊎-elim
-            (λ (e : i ≡ j). rw e at (r .0))
-            (λ (l : i < j). s .0 j l (omega arith))
-            (eq-or-lt-of-le lo)),
-        s .1,
-      )
+  passed-flat-from :
+      (i n : ℕ) → Passes (flat tests (from i n)) → (j : ℕ) → i ≤ j → j < i + n → Passes (tests j)
+  unfolding flat from
+  passed-flat-from i zero h j lo hi = absurd (omega arith)
+  passed-flat-from i (suc n) h j lo hi =
+      let both = append-passed (tests i) (flat tests (from (suc i) n)) h in
+      ⊎-elim
+      (λ (e : i ≡ j). rw e at (both .0))
+      (λ (l : i < j). passed-flat-from (suc i) n (both .1) j l (omega arith))
+      (eq-or-lt-of-le lo)
 
-  -- where every block passes, what follows
-  pub at-passed :
-      (n : ℕ) (next : Checked)
-      → ((j : ℕ) → j < n → firstFailing (tests j) ≡ 0)
-      → atPlaces tests (upTo n) next ≡ next
+  -- where every block passes, all do
+  pub flat-passed : (n : ℕ) → ((j : ℕ) → j < n → Passes (tests j)) → Passes (flat tests (upTo n))
   unfolding upTo
-  at-passed n next h = at-passed-from 0 n next (λ j lo hi. h j (omega arith))
+  flat-passed n h = flat-passed-from 0 n (λ j lo hi. h j (omega arith))
 
   -- the lowest block that fails is refused
-  pub at-failed :
-      (n : ℕ) (next : Checked) (k : ℕ)
+  pub flat-refused :
+      (n k : ℕ) (r : Refusal)
       → k < n
-      → ((j : ℕ) → j < k → firstFailing (tests j) ≡ 0)
-      → (firstFailing (tests k) ≡ 0 → ⊥)
-      → atPlaces tests (upTo n) next ≡ Refused (record { number = firstFailing (tests k); place = k })
+      → ((j : ℕ) → j < k → Passes (tests j))
+      → firstFailing (tests k) ≡ Refused r
+      → firstFailing (flat tests (upTo n)) ≡ Refused r
   unfolding upTo
-  at-failed n next k hi h f = at-failed-from 0 n next k (omega arith) (omega arith) (λ j lo l. h j l) f
+  flat-refused n k r l h f = flat-refused-from 0 n k r (omega arith) (omega arith) (λ j lo hi. h j hi) f
 
-  -- the same for an answer of the first fault
-  pub at-refused :
-      (n : ℕ) (next : Checked) (k fault : ℕ) (r : Checked)
-      → k < n
-      → ((j : ℕ) → j < k → firstFailing (tests j) ≡ 0)
-      → fault ≡ firstFailing (tests k)
-      → (fault ≡ 0 → ⊥)
-      → r ≡ Refused (record { number = fault; place = k })
-      → r ≡ atPlaces tests (upTo n) next
-  at-refused n next k fault r l h e f a =
-      a
-      ∙ ap (λ (m : ℕ). Refused (record { number = m; place = k })) e
-      ∙ sym (at-failed n next k l h (λ z. f (e ∙ z)))
-
-  -- an accepted answer has passed every block
-  pub at-accepted :
-      (n : ℕ) (next : Checked) (m : ℕ)
-      → atPlaces tests (upTo n) next ≡ Accepted m
-      → ((j : ℕ) → j < n → firstFailing (tests j) ≡ 0) × (next ≡ Accepted m)
+  -- what has passed has passed every block
+  pub passed-flat : (n : ℕ) → Passes (flat tests (upTo n)) → (j : ℕ) → j < n → Passes (tests j)
   unfolding upTo
-  at-accepted n next m h =
-      let r = at-accepted-from 0 n next m h in
-      ((λ j l. r .0 j (omega arith) (omega arith)), r .1)
+  passed-flat n h j l = passed-flat-from 0 n h j (omega arith) (omega arith)
 
-  -- a pass that accepts gives way to what follows
-  pub at-else :
-      (l : List ℕ) (m : ℕ) (x : Checked) → orElse (atPlaces tests l (Accepted m)) x ≡ atPlaces tests l x
-  unfolding atPlaces orElse
-  at-else [] m x = refl
-  at-else (i ∷ l) m x =
-      refuse-else (firstFailing (tests i)) i (atPlaces tests l (Accepted m)) x
-      ∙ ap (refuse (firstFailing (tests i)) i) (at-else l m x)
+-- An answer by its tests
 
--- The whole answer
+module _ {A : Type 0} (tests : List Test) (refused : Refusal → A) (value : A) where
+  pub answered-passed : Passes tests → answered tests refused value ≡ value
+  unfolding answered refusedOr
+  answered-passed h = rw h
 
-module _ (book : List ℕ) where
-  pub check-short : lengthHolds (length book) ≡ false → Refused (record { number = 1; place = 0 }) ≡ checkAnswer book
-  unfolding checkAnswer lengthTests firstFailing refuse
-  check-short h = rw h
-
-  pub check-long :
-      (x y z a r : Checked)
-      → lengthHolds (length book) ≡ true
-      → x ≡ atPlaces (passTests Checks book) (upTo (blockCount book)) (Accepted (ruleCount book))
-      → y ≡ atPlaces (passTests Kinds book) (upTo (blockCount book)) (Accepted (ruleCount book))
-      → z ≡ atPlaces (passTests Contents book) (upTo (blockCount book)) (Accepted (ruleCount book))
-      → a ≡ orElse y z
-      → r ≡ orElse x a
-      → r ≡ checkAnswer book
-  unfolding checkAnswer lengthTests firstFailing refuse
-  check-long x y z a r h ex ey ez ea er =
-      rw h
-      (er
-      ∙ ap (λ (w : Checked). orElse w a) ex
-      ∙ at-else (passTests Checks book) (upTo (blockCount book)) (ruleCount book) a
-      ∙ ap (atPlaces (passTests Checks book) (upTo (blockCount book)))
-      (ea
-      ∙ ap (λ (w : Checked). orElse w z) ey
-      ∙ at-else (passTests Kinds book) (upTo (blockCount book)) (ruleCount book) z
-      ∙ ap (atPlaces (passTests Kinds book) (upTo (blockCount book))) ez))
+  pub answered-refused : (r : Refusal) → firstFailing tests ≡ Refused r → answered tests refused value ≡ refused r
+  unfolding answered refusedOr
+  answered-refused r h = rw h

@@ -11,9 +11,9 @@ use lib.Bits.{bitOr}
 use borrow.Author.Tests.{ltb-true, ltb-false, le-ltb, lt-ltb, eqb-true, eqb-false, eq-eqb, ne-eqb}
 use Rattle.book.specs.Lists.{any, all, upTo}
 use Rattle.book.specs.Sets.{has}
-use Rattle.book.specs.Hierarchies.{upwardIn, upward, under, ownedBy, support, covers, leaf, parentHolds}
-use Rattle.book.proofs.Lists.{and-left, and-second, and-false, or-end, or-true, eqb-sym, ltb-more, by-cases}
-use Rattle.book.proofs.Lists.{any-same, any-swap, all-more, all-none}
+use Rattle.book.specs.Hierarchies.{upwardIn, upward, under, ownedBy, support, leaf, parentHolds}
+use Rattle.book.proofs.Lists.{and-left, and-second, and-false, and-never, or-end, or-true, ltb-more, by-cases}
+use Rattle.book.proofs.Lists.{any-same, any-both, any-swap, any-here, any-with, any-where, any-nothing, all-more, all-none}
 
 -- The way up
 
@@ -92,10 +92,6 @@ module _ (parent : ℕ → ℕ) where
   unfolding support
   support-up own c = rw (upward-up c) (owned-step own c (ltb (parent c) c) (upward parent (parent c)))
 
-  pub under-up : (c i : ℕ) → under parent c i ≡ (eqb c i || (ltb (parent i) i && under parent c (parent i)))
-  unfolding under
-  under-up c i = any-up (eqb c) i
-
   any-in-none : (f : ℕ → Bool) (c : ℕ) → any f (upwardIn 0 parent c) ≡ f c
   unfolding upwardIn any
   any-in-none f c = or-end (f c)
@@ -136,130 +132,132 @@ module _ (parent : ℕ → ℕ) where
   unfolding upward
   upward-same f g c h = upwardIn-same f g c c h
 
--- Covering
+-- Under
+
+-- c is the parent of x, and lower
+unfoldable pub child : (ℕ → ℕ) → ℕ → ℕ → Bool
+child parent c x = ltb (parent x) x && eqb c (parent x)
+
+-- x is from i on, and c is x or the lower parent of x
+unfoldable pub adds : (ℕ → ℕ) → ℕ → ℕ → ℕ → Bool
+adds parent i c x = not (ltb x i) && (eqb c x || child parent c x)
+
+or-again : (a b : Bool) → ((a || b) || b) ≡ (a || b)
+or-again true b = refl
+or-again false true = refl
+or-again false false = refl
 
 module _ (parent : ℕ → ℕ) where
-  -- the way up meets a set that holds c alone exactly under c
-  pub meets-single :
-      (s : ℕ → Bool) (c i : ℕ)
-      → ((j : ℕ) → j ≤ i → s j ≡ eqb j c)
-      → any s (upward parent i) ≡ under parent c i
+  -- nothing is under a higher number
+  pub under-above : (c i : ℕ) → i < c → under parent c i ≡ false
   unfolding under
-  meets-single s c i h = upward-same parent s (eqb c) i (λ j l. h j l ∙ eqb-sym j c)
+  under-above c i l =
+      upward-same parent (eqb c) (λ j. false) i (λ j m. ne-eqb c j (λ e. omega arith))
+      ∙ any-nothing (upward parent i)
 
-  -- and a set of the members of a list exactly under one of them
-  pub meets-list :
-      (s : ℕ → Bool) (l : List ℕ) (i : ℕ)
-      → ((j : ℕ) → j ≤ i → s j ≡ any (eqb j) l)
-      → any s (upward parent i) ≡ any (λ e. under parent e i) l
+  -- a test met on the way up is met by a category that the number is under
+  pub any-under :
+      (f : ℕ → Bool) (n d : ℕ)
+      → d < n
+      → any (λ c. f c && under parent c d) (upTo n) ≡ any f (upward parent d)
   unfolding under
-  meets-list s l i h =
-      upward-same parent s (λ j. any (eqb j) l) i h
-      ∙ any-swap eqb (upward parent i) l
-      ∙ any-same (λ e. any (λ a. eqb a e) (upward parent i)) (λ e. any (eqb e) (upward parent i))
-      (λ e. any-same (λ a. eqb a e) (eqb e) (λ a. eqb-sym a e) (upward parent i)) l
+  any-under f n d l =
+      sym
+      (upward-same parent f (λ x. any (λ c. f c && eqb c x) (upTo n)) d (λ x m. any-here f n x (omega arith))
+      ∙ any-swap (λ x c. f c && eqb c x) (upward parent d) (upTo n)
+      ∙ any-same (λ c. any (λ x. f c && eqb c x) (upward parent d)) (λ c. f c && any (eqb c) (upward parent d))
+      (λ c. any-where (eqb c) (f c) (upward parent d)) (upTo n))
 
--- Covering, in words of 64
-
-module _ (parent : ℕ → ℕ) (c one inside : ℕ)
-    (one-at : (j : ℕ) → has one j ≡ (ltb j 64 && eqb j c))
-    (inside-at : (i : ℕ) → has inside i ≡ (ltb i 64 && any (has one) (upward parent i))) where
-  pub descendants-at : (i : ℕ) → has inside i ≡ (ltb i 64 && under parent c i)
-  descendants-at i = inside-at i ∙ go (ltb i 64) refl
-    where
-      go : (b : Bool) → ltb i 64 ≡ b → (b && any (has one) (upward parent i)) ≡ (b && under parent c i)
-      go true t =
-          let l : i < 64 = ltb-true i 64 t in
-          meets-single parent (has one) c i (λ j q. one-at j ∙ rw (lt-ltb j 64 (omega arith)))
-      go false t = refl
-
-  pub covered-at :
-      (l : List ℕ) (many outside r : ℕ)
-      → ((j : ℕ) → has many j ≡ (ltb j 64 && any (eqb j) l))
-      → ((i : ℕ) → has outside i ≡ (ltb i 64 && any (has many) (upward parent i)))
-      → ((i : ℕ) → has r i ≡ (has inside i && not (has outside i)))
-      → (i : ℕ) → has r i ≡ (ltb i 64 && covers parent c l i)
-  unfolding covers
-  covered-at l many outside r many-at outside-at r-at i =
-      r-at i ∙ rw (descendants-at i, outside-at i) (go (ltb i 64) refl)
+  under-child-in :
+      (m c j : ℕ) → j ≤ m → under parent c j ≡ (eqb c j || any (child parent c) (upward parent j))
+  unfolding under child
+  under-child-in zero c j l =
+      rw (any-up parent (eqb c) j, any-up parent (child parent c) j, le-ltb (parent j) j (omega arith))
+  under-child-in (suc m) c j l =
+      rw (any-up parent (eqb c) j, any-up parent (child parent c) j)
+      (go (ltb (parent j) j) refl (under-child-in m c (parent j)))
     where
       go :
           (b : Bool)
-          → ltb i 64 ≡ b
-          → ((b && under parent c i) && not (b && any (has many) (upward parent i)))
-          ≡ (b && (under parent c i && not (any (λ e. under parent e i) l)))
-      go true t =
-          let l64 : i < 64 = ltb-true i 64 t in
-          rw (meets-list parent (has many) l i (λ j q. many-at j ∙ rw (lt-ltb j 64 (omega arith))))
-      go false t = refl
+          → ltb (parent j) j ≡ b
+          → (parent j ≤ m
+          → any (eqb c) (upward parent (parent j))
+          ≡ (eqb c (parent j) || any (child parent c) (upward parent (parent j))))
+          → (eqb c j || (ltb (parent j) j && any (eqb c) (upward parent (parent j))))
+          ≡ (eqb c j
+          || ((ltb (parent j) j && eqb c (parent j))
+          || (ltb (parent j) j && any (child parent c) (upward parent (parent j)))))
+      go true e lower =
+          let p : parent j < j = ltb-true (parent j) j e in
+          rw (e, lower (omega arith))
+      go false e lower = rw e
 
--- The rising pass
+  -- what is under c is c itself, or has a child of c on its way up
+  under-child : (c j : ℕ) → under parent c j ≡ (eqb c j || any (child parent c) (upward parent j))
+  under-child c j = under-child-in j c j (omega arith)
 
--- below i the set has grown to its descendants, from i on it is as given
-pub record Risen (parent : ℕ → ℕ) (set i found : ℕ) : Type 0 where
-  pub bound : i ≤ 64
-  pub at : (j : ℕ) → has found j ≡ cond (ltb j i) (any (has set) (upward parent j)) (has set j)
+  -- the way up from below n holds nothing from n on
+  pub adds-top : (n c j : ℕ) → j < n → any (adds parent n c) (upward parent j) ≡ false
+  unfolding adds
+  adds-top n c j l =
+      upward-same parent (adds parent n c) (λ x. false) j (λ x m. rw (lt-ltb x n (omega arith)))
+      ∙ any-nothing (upward parent j)
 
-pub risen-none : (parent : ℕ → ℕ) (set : ℕ) → Risen parent set 0 set
-risen-none parent set = record { bound = omega arith; at = λ j. rw (le-ltb j 0 (omega arith)) }
+  -- from i on: from i + 1 on, and i itself
+  pub adds-down :
+      (i c j : ℕ)
+      → any (adds parent i c) (upward parent j)
+      ≡ (any (adds parent (i + 1) c) (upward parent j) || (under parent i j && (eqb c i || child parent c i)))
+  unfolding under adds
+  adds-down i c j =
+      any-same (adds parent i c) (λ x. adds parent (i + 1) c x || (eqb i x && (eqb c i || child parent c i)))
+      (λ x. go x (eqb i x) refl) (upward parent j)
+      ∙ any-both (adds parent (i + 1) c) (λ x. eqb i x && (eqb c i || child parent c i)) (upward parent j)
+      ∙ rw (any-with (eqb i) (eqb c i || child parent c i) (upward parent j))
+    where
+      go :
+          (x : ℕ) (b : Bool)
+          → eqb i x ≡ b
+          → (not (ltb x i) && (eqb c x || child parent c x))
+          ≡ ((not (ltb x (i + 1)) && (eqb c x || child parent c x)) || (eqb i x && (eqb c i || child parent c i)))
+      go x true e =
+          let l : i ≡ x = eqb-true i x e in
+          rw (← l, le-ltb i i (omega arith), lt-ltb i (i + 1) (omega arith), eq-eqb i i refl)
+      go x false e =
+          let n = eqb-false i x e in
+          rw (e, ltb-more x i (λ q. omega arith)) (sym (or-end (not (ltb x i) && (eqb c x || child parent c x))))
 
-nothing-added : (a t b : Bool) → b ≡ false → (x : Bool) → (a || (t && (b && x))) ≡ a
-nothing-added true t b e x = refl
-nothing-added false true b e x = rw e
-nothing-added false false b e x = refl
+  -- what is under i is i itself, or has been added by a child
+  pub adds-own : (i j : ℕ) → under parent i j ≡ (eqb i j || any (adds parent (i + 1) i) (upward parent j))
+  unfolding adds child
+  adds-own i j =
+      under-child i j
+      ∙ rw (any-same (child parent i) (adds parent (i + 1) i) (λ x. go x (ltb x (i + 1)) refl) (upward parent j))
+    where
+      go :
+          (x : ℕ) (b : Bool)
+          → ltb x (i + 1) ≡ b
+          → (ltb (parent x) x && eqb i (parent x))
+          ≡ (not (ltb x (i + 1)) && (eqb i x || (ltb (parent x) x && eqb i (parent x))))
+      go x true e =
+          let l : x < i + 1 = ltb-true x (i + 1) e in
+          rw e
+          (and-never (ltb (parent x) x) (eqb i (parent x))
+          (λ t. let p : parent x < x = ltb-true (parent x) x t in ne-eqb i (parent x) (λ q. omega arith)))
+      go x false e =
+          let l : i + 1 ≤ x = ltb-false x (i + 1) e in
+          rw (e, ne-eqb i x (λ q. omega arith))
 
-pub risen-more :
-    (parent : ℕ → ℕ) (set i p found next : ℕ)
-    → Risen parent set i found
-    → i < 64
-    → p ≡ parent i
-    → ((j : ℕ) → has next j ≡ (has found j || (ltb j 64 && (eqb j i && (ltb p i && has found p)))))
-    → Risen parent set (i + 1) next
-risen-more parent set i p found next r small e step = record { bound = omega arith; at = at }
-  where
-    lower :
-        (b : Bool)
-        → ltb (parent i) i ≡ b
-        → (b && has found (parent i)) ≡ (b && any (has set) (upward parent (parent i)))
-    lower true t = r .at (parent i) ∙ rw t
-    lower false t = refl
-
-    self : has next i ≡ any (has set) (upward parent i)
-    self =
-        step i
-        ∙ rw (r .at i, le-ltb i i (omega arith), lt-ltb i 64 small, eq-eqb i i refl, e)
-        (rw (lower (ltb (parent i) i) refl) (sym (any-up parent (has set) i)))
-
-    go :
-        (j : ℕ) (b : Bool)
-        → eqb j i ≡ b
-        → has next j ≡ cond (ltb j (i + 1)) (any (has set) (upward parent j)) (has set j)
-    go j true q =
-        let l : j ≡ i = eqb-true j i q in
-        rw (l, lt-ltb i (i + 1) (omega arith)) self
-    go j false q =
-        step j
-        ∙ nothing-added (has found j) (ltb j 64) (eqb j i) q (ltb p i && has found p)
-        ∙ r .at j
-        ∙ rw (ltb-more j i (eqb-false j i q))
-
-    at : (j : ℕ) → has next j ≡ cond (ltb j (i + 1)) (any (has set) (upward parent j)) (has set j)
-    at j = go j (eqb j i) refl
-
-pub risen-end :
-    (parent : ℕ → ℕ) (set i found : ℕ)
-    → Risen parent set i found
-    → 64 ≤ i
-    → ((j : ℕ) → 64 ≤ j → has set j ≡ false)
-    → (j : ℕ) → has found j ≡ (ltb j 64 && any (has set) (upward parent j))
-risen-end parent set i found r past above j = go (ltb j 64) refl
-  where
-    last : i ≡ 64
-    last = let b : i ≤ 64 = r .bound in omega arith
-
-    go : (b : Bool) → ltb j 64 ≡ b → has found j ≡ (b && any (has set) (upward parent j))
-    go true t = r .at j ∙ rw (last, t)
-    go false t = r .at j ∙ rw (last, t) (above j (ltb-false j 64 t))
+  -- once all have added, each has what is under it
+  pub adds-end : (c j : ℕ) → any (adds parent 0 c) (upward parent j) ≡ under parent c j
+  unfolding adds under
+  adds-end c j =
+      any-same (adds parent 0 c) (λ x. eqb c x || child parent c x) (λ x. rw (le-ltb x 0 (omega arith)))
+      (upward parent j)
+      ∙ any-both (eqb c) (child parent c) (upward parent j)
+      ∙ ap (λ (b : Bool). b || any (child parent c) (upward parent j)) (under-child c j)
+      ∙ or-again (eqb c j) (any (child parent c) (upward parent j))
+      ∙ sym (under-child c j)
 
 -- Leaves
 

@@ -372,6 +372,24 @@ module _ (f : ℕ → Bool) (n : ℕ) where
   at-none h =
       not-true (any f (upTo n)) (not-any f (upTo n) ∙ at-all (λ x. not (f x)) n (λ j l. rw (h j l)))
 
+-- a test of one number below n, as a search for it
+pub any-here : (f : ℕ → Bool) (n x : ℕ) → x < n → f x ≡ any (λ c. f c && eqb c x) (upTo n)
+any-here f n x l = go (f x) refl
+  where
+    other : (c : ℕ) (b : Bool) → eqb c x ≡ b → f x ≡ false → (f c && b) ≡ false
+    other c true e h = rw (eqb-true c x e, h)
+    other c false e h = and-false (f c)
+
+    found : f x ≡ true → (b : Bool) → any (λ c. f c && eqb c x) (upTo n) ≡ b → true ≡ b
+    found h true e = refl
+    found h false e =
+        let none : (f x && eqb x x) ≡ false = none-at (λ c. f c && eqb c x) n e x l in
+        rw (h, eq-eqb x x refl) at none
+
+    go : (b : Bool) → f x ≡ b → b ≡ any (λ c. f c && eqb c x) (upTo n)
+    go true h = found h (any (λ c. f c && eqb c x) (upTo n)) refl
+    go false h = sym (at-none (λ c. f c && eqb c x) n (λ c m. other c (eqb c x) refl h))
+
 pub all-three : (f : ℕ → Bool) → all f (upTo 3) ≡ (f 0 && (f 1 && f 2))
 unfolding all upTo from
 all-three f = rw and-end

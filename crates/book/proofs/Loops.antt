@@ -1,11 +1,14 @@
--- A loop `ok = ok & test`: what `ok` says after i turns, over the numbers below n and over a list. Assumes nothing.
+-- Loops. One `ok = ok & test`: what `ok` says after i turns, over the numbers below n and over a list. One that writes
+-- an array from the front. Assumes nothing.
 use Prim.Native.Nat.{ℕ, _+_, _≤_, _<_}
+use native.Mathlib.Nat.{eq-or-lt-of-le}
 use native.Mathlib.Omega.{arith}
 use mathlib.Core.Path.{_≡_, refl, sym, ap, _∙_}
+use mathlib.Core.Logic.{⊎-elim}
 use mathlib.Core.Bool.{Bool, true, _&&_}
 use mathlib.Core.List.{List}
-use lib.ListN.{length, getD, take}
-use lib.Seq.{take-all}
+use lib.ListN.{length, getD, take, set, length-set}
+use lib.Seq.{take-all, getD-set-same, getD-set-other}
 use Rattle.book.specs.Lists.{upTo, all}
 use Rattle.book.proofs.Lists.{all-none, all-more, all-take}
 
@@ -50,3 +53,31 @@ passed-in-more {f} {l} {i} old h e =
 pub passed-in-all :
     {f : ℕ → Bool} {l m : List ℕ} {i : ℕ} {ok : Bool} → PassedIn f l ok i → length l ≤ i → l ≡ m → ok ≡ all f m
 passed-in-all {f} {l} {i = i} old h e = old .so-far ∙ ap (all f) (take-all i l h ∙ e)
+
+-- An array, written from the front
+
+-- the first k of n elements are as P asks
+pub record Filled (n : ℕ) (P : ℕ → ℕ → Type 0) (l : List ℕ) (k : ℕ) : Type 0 where
+  pub bound : k ≤ n
+  pub size : length l ≡ n
+  pub at : (j : ℕ) → j < k → P j (getD l j 0)
+
+pub fill-none : {n : ℕ} {P : ℕ → ℕ → Type 0} {l : List ℕ} → length l ≡ n → Filled n P l 0
+fill-none e = record { bound = omega arith; size = e; at = λ j h. absurd (omega arith) }
+
+pub fill-more :
+    {n : ℕ} {P : ℕ → ℕ → Type 0} {l : List ℕ} {k v : ℕ} →
+    Filled n P l k → k < n → P k v → Filled n P (set l k v) (k + 1)
+fill-more {n} {P} {l} {k} {v} old h p =
+    record {
+      bound = omega arith;
+      size = length-set l k v ∙ old .size;
+      at = λ j m. go j (omega arith);
+    }
+  where
+    go : (j : ℕ) → j ≤ k → P j (getD (set l k v) j 0)
+    go j m =
+        ⊎-elim
+        (λ (q : j ≡ k). rw (q, getD-set-same l k v 0 (omega (arith, old .size))) p)
+        (λ (q : j < k). rw (getD-set-other l k j v 0 (λ z. omega arith)) (old .at j q))
+        (eq-or-lt-of-le m)

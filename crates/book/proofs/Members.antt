@@ -7,16 +7,16 @@ use native.Mathlib.Omega.{arith}
 use mathlib.Core.Path.{_≡_, refl, sym, _∙_}
 use mathlib.Core.Bool.{Bool, true, false, _&&_, _||_, not, cond}
 use mathlib.Core.List.{List}
-use lib.ListN.{length, getD, take, set}
+use lib.ListN.{length, getD, set}
 use lib.Seq.{getD-set-same, getD-set-other}
 use lib.Dec.{eqb, ltb, eqb·suc-suc, eqb·zero-suc, eqb·suc-zero, leb·suc-suc}
 use lib.Pow.{pow-mono, pow-pos, shl-exact}
 use lib.Bits.{bitAnd, bitOr, and-shr, or-shr, and-mod, or-mod, and-le-l, or-zero-r}
 use borrow.Author.Tests.{ltb-true, ltb-false, eq-eqb, ne-eqb, eqb-true, eqb-false, lt-ltb, le-ltb, not-true}
-use Rattle.book.specs.Lists.{all, any, upTo}
+use Rattle.book.specs.Lists.{all, upTo}
 use Rattle.book.specs.Sets.{has}
-use Rattle.book.proofs.Lists.{same-test, and-first, and-second, and-never, and-end, and-false, and-or, ltb-more}
-use Rattle.book.proofs.Lists.{all-at, at-all, any-take}
+use Rattle.book.proofs.Lists.{same-test, and-first, and-second, and-never, and-end, and-false, ltb-more}
+use Rattle.book.proofs.Lists.{all-at, at-all}
 
 -- Bits
 
@@ -195,15 +195,6 @@ subset-test m n a b l p q =
     not-minus true true = refl
     not-minus true false = refl
     not-minus false t = refl
-
--- The set of a list
-
--- one element more
-pub listed-more : (n set one : ℕ) (xs : List ℕ) (i : ℕ) → i < length xs
-    → ((j : ℕ) → has set j ≡ (ltb j n && any (eqb j) (take i xs)))
-    → ((j : ℕ) → has one j ≡ (ltb j n && eqb j (getD xs i 0)))
-    → (j : ℕ) → has (bitOr set one) j ≡ (ltb j n && any (eqb j) (take (i + 1) xs))
-listed-more n set one xs i h old new j = rw (has-or, old j, new j, any-take (eqb j) xs i h, and-or)
 
 -- Tables of words
 

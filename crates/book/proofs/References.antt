@@ -4,75 +4,96 @@ use native.Mathlib.Omega.{arith}
 use mathlib.Core.Path.{_≡_, refl, sym, _∙_}
 use mathlib.Core.Bool.{Bool, true, false, _&&_, _||_, not}
 use mathlib.Core.List.{List}
-use lib.Dec.{eqb, ltb}
+use lib.Dec.{eqb, ltb, leb}
 use lib.Bits.{bitAnd}
-use borrow.Author.Tests.{ltb-true, ltb-false, le-ltb, lt-ltb}
+use borrow.Author.Tests.{ltb-true, ltb-false, le-ltb, lt-ltb, lt-leb, leb-false}
 use Rattle.book.specs.Lists.{all, from, upTo}
 use Rattle.book.specs.Sets.{has}
 use Rattle.book.specs.Hierarchies.{leaf, under, properDescendant}
 use Rattle.book.specs.Head.{dataCount, isDataLeaf, supportOf, supports}
-use Rattle.book.specs.Rule.{referenceCount, dataCategory, restrictionMask, inLeafSet}
-use Rattle.book.specs.Refusals.{leafSetsApart, referencesApart, maskAllows, maskHolds}
-use Rattle.book.proofs.Lists.{all-three, and-false, same-test, all-at, at-all, all-same}
+use Rattle.book.specs.Rule.{referenceCount, restrictionCount, dataCategory, restrictionMask, inLeafSet}
+use Rattle.book.specs.Refusals.{referenceHolds, leafSetsApart, referencesApart, maskAllows}
+use Rattle.book.specs.Refusals.{maskHolds, masksHold}
+use Rattle.book.specs.Inner.Words.{subtree}
+use Rattle.book.specs.Inner.Testing.{referencesHold, presentLeaf}
+use Rattle.book.proofs.Lists.{all-three, and-left, and-false, or-rest, or-otherwise, same-test, all-at, at-all}
+use Rattle.book.proofs.Lists.{all-same}
 use Rattle.book.proofs.Members.{has-zero, has-single, has-and, has-minus, disjoint-test}
-
--- Words below 64
-
-and-shared : (t a b : Bool) → ((t && a) && (t && b)) ≡ (t && (a && b))
-and-shared true a b = refl
-and-shared false a b = refl
-
-pub both-at :
-    (f g : ℕ → Bool) (a b : ℕ)
-    → ((d : ℕ) → has a d ≡ (ltb d 64 && f d))
-    → ((d : ℕ) → has b d ≡ (ltb d 64 && g d))
-    → (d : ℕ) → has (bitAnd a b) d ≡ (ltb d 64 && (f d && g d))
-both-at f g a b a-at b-at d = rw (has-and a b d, a-at d, b-at d) (and-shared (ltb d 64) (f d) (g d))
 
 -- Proper descendants, where the hierarchy fits a word
 
-pub proper-at :
-    (n : ℕ) (parent : ℕ → ℕ) (c inside : ℕ)
-    → n ≤ 64
-    → ((x : ℕ) → has inside x ≡ (ltb x 64 && under parent c x))
-    → (x : ℕ) → (ltb x n && (not (eqb x c) && has inside x)) ≡ properDescendant n parent c x
-unfolding properDescendant
-proper-at n parent c inside small inside-at x = go (ltb x n) refl
-  where
-    go :
-        (b : Bool)
-        → ltb x n ≡ b
-        → (b && (not (eqb x c) && has inside x)) ≡ (b && (not (eqb x c) && under parent c x))
-    go true t =
-        let l : x < n = ltb-true x n t in
-        rw (inside-at x, lt-ltb x 64 (omega arith))
-    go false t = refl
+proper-bits :
+    (t n d u : Bool) → (n ≡ true → t ≡ true) → (d && (t && (n && u))) ≡ (n && (d && u))
+proper-bits t true d u h = rw (h refl)
+proper-bits true false d u h = and-false d
+proper-bits false false d u h = and-false d
 
 pub proper-all :
-    (n count : ℕ) (parent : ℕ → ℕ) (c inside : ℕ) (list : List ℕ)
-    → n ≡ count
-    → count ≤ 64
-    → ((x : ℕ) → has inside x ≡ (ltb x 64 && under parent c x))
-    → all (λ x. ltb x n && (not (eqb x c) && has inside x)) list ≡ all (properDescendant count parent c) list
-proper-all n count parent c inside list e small inside-at =
-    rw e
-    (all-same (λ x. ltb x count && (not (eqb x c) && has inside x)) (properDescendant count parent c)
-    (proper-at count parent c inside small inside-at) list)
+    (n : ℕ) (parent : ℕ → ℕ) (c inside : ℕ) (list : List ℕ)
+    → n ≤ 64
+    → ((x : ℕ) → has inside x ≡ (ltb x 64 && subtree n parent c x))
+    → all (λ x. not (eqb x c) && has inside x) list ≡ all (properDescendant n parent c) list
+unfolding properDescendant
+proper-all n parent c inside list small inside-at =
+    all-same (λ x. not (eqb x c) && has inside x) (properDescendant n parent c)
+    (λ x.
+    rw (inside-at x)
+    (proper-bits (ltb x 64) (ltb x n) (not (eqb x c)) (under parent c x)
+    (λ e. lt-ltb x 64 (omega (arith, ltb-true x n e)))))
+    list
+
+-- The references of a rule, three at most
+
+pub references-three :
+    (head rule : List ℕ) (a b c : Bool)
+    → referenceCount rule ≤ 3
+    → a ≡ (leb (referenceCount rule) 0 || referenceHolds head rule 0)
+    → b ≡ (leb (referenceCount rule) 1 || referenceHolds head rule 1)
+    → c ≡ (leb (referenceCount rule) 2 || referenceHolds head rule 2)
+    → (a && (b && c)) ≡ referencesHold head rule
+references-three head rule a b c few p q r =
+    rw (p, q, r)
+    (sym (all-three f)
+    ∙ same-test (all f (upTo 3)) (referencesHold head rule)
+    (λ h.
+    at-all (referenceHolds head rule) (referenceCount rule)
+    (λ i l. or-rest (leb (referenceCount rule) i) (referenceHolds head rule i) (all-at f 3 h i (omega arith))
+    (lt-leb (referenceCount rule) i l)))
+    (λ h.
+    at-all f 3
+    (λ i l.
+    or-otherwise (leb (referenceCount rule) i) (referenceHolds head rule i)
+    (λ e. all-at (referenceHolds head rule) (referenceCount rule) h i (leb-false (referenceCount rule) i e)))))
+  where
+    f : ℕ → Bool
+    f i = leb (referenceCount rule) i || referenceHolds head rule i
+
+-- a category that a reference names is there
+pub category-known :
+    (head rule : List ℕ) (i : ℕ)
+    → referencesHold head rule ≡ true
+    → i < referenceCount rule
+    → dataCategory rule i < dataCount head
+unfolding referenceHolds
+category-known head rule i h l =
+    ltb-true (dataCategory rule i) (dataCount head)
+    (and-left (ltb (dataCategory rule i) (dataCount head)) _
+    (all-at (referenceHolds head rule) (referenceCount rule) h i l))
 
 -- Leaf sets that share no leaf
 
-unfoldable pub three : ℕ → ℕ → ℕ → ℕ → ℕ
+unfoldable three : ℕ → ℕ → ℕ → ℕ → ℕ
 three a b c zero = a
 three a b c (suc zero) = b
 three a b c (suc (suc i)) = c
 
-pub three-all : (P : ℕ → Type 0) (a b c : ℕ) → P a → P b → P c → (i : ℕ) → P (three a b c i)
+three-all : (P : ℕ → Type 0) (a b c : ℕ) → P a → P b → P c → (i : ℕ) → P (three a b c i)
 unfolding three
 three-all P a b c p q r zero = p
 three-all P a b c p q r (suc zero) = q
 three-all P a b c p q r (suc (suc i)) = r
 
-pub three-at :
+three-at :
     (f : ℕ → ℕ → Bool) (a b c : ℕ)
     → ((d : ℕ) → has a d ≡ f 0 d)
     → ((d : ℕ) → has b d ≡ f 1 d)
@@ -148,7 +169,7 @@ module _ (head rule : List ℕ) (word : ℕ → ℕ) (small : dataCount head ≤
       ∙ at-all (λ x. not (has (word i) x && has (word j) x)) 64
       (λ d q. rw (word-at i s d, le-ltb i (referenceCount rule) l))
 
-  pub references-apart-at :
+  references-apart-at :
       (eqb (bitAnd (word 1) (word 0)) 0 && (eqb (bitAnd (word 2) (word 0)) 0 && eqb (bitAnd (word 2) (word 1)) 0))
       ≡ referencesApart head rule
   unfolding referencesApart apart
@@ -181,12 +202,33 @@ module _ (head rule : List ℕ) (word : ℕ → ℕ) (small : dataCount head ≤
           (all-at (λ k. all (leafSetsApart head rule k) (upTo k)) (referenceCount rule) h i n) j m)
       back h i j l m false t = absent i j l (ltb-false i (referenceCount rule) t)
 
+-- three words, each the leaf set of its reference, empty where that is absent
+pub leaf-sets-apart :
+    (head rule : List ℕ) (a b c : ℕ)
+    → dataCount head ≤ 64
+    → referenceCount rule ≤ 3
+    → a < 2 ^ 64
+    → b < 2 ^ 64
+    → c < 2 ^ 64
+    → ((d : ℕ) → has a d ≡ presentLeaf head rule 0 d)
+    → ((d : ℕ) → has b d ≡ presentLeaf head rule 1 d)
+    → ((d : ℕ) → has c d ≡ presentLeaf head rule 2 d)
+    → (eqb (bitAnd b a) 0 && (eqb (bitAnd c a) 0 && eqb (bitAnd c b) 0)) ≡ referencesApart head rule
+unfolding three
+leaf-sets-apart head rule a b c small few p q r a-at b-at c-at =
+    references-apart-at head rule (three a b c) small few (three-all (λ x. x < 2 ^ 64) a b c p q r)
+    (three-at (presentLeaf head rule) a b c a-at b-at c-at)
+
 -- Masks
+
+-- a mask names nothing outside a set
+abbrev pub maskWithin : List ℕ → ℕ → ℕ → ℕ → Bool
+maskWithin rule j i a = all (λ k. not (has (restrictionMask rule j i) k) || has a k) (upTo 16)
 
 pub mask-holds-at :
     (head rule : List ℕ) (j i a : ℕ)
     → ((k : ℕ) → has a k ≡ maskAllows head rule i k)
-    → all (λ k. not (has (restrictionMask rule j i) k) || has a k) (upTo 16) ≡ maskHolds head rule j i
+    → maskWithin rule j i a ≡ maskHolds head rule j i
 unfolding maskHolds
 mask-holds-at head rule j i a a-at =
     all-same (λ k. not (has (restrictionMask rule j i) k) || has a k)
@@ -203,11 +245,11 @@ module _ (head rule : List ℕ) (i : ℕ) where
       (s : ℕ)
       → i < referenceCount rule
       → s ≡ supportOf head (dataCategory rule i)
-      → s < 2 ^ 16
+      → s < 2 ^ 64
       → (k : ℕ) → has (bitAnd s ((2 ^ 64 - 1) - 1)) k ≡ maskAllows head rule i k
   unfolding maskAllows supports
   allowed-present s l e small k =
-      has-minus 64 s 1 k (omega arith) (omega arith)
+      has-minus 64 s 1 k small (omega arith)
       ∙ rw (has-single k 0, lt-ltb i (referenceCount rule) l, ← e) (and-swap (has s k) (eqb k 0))
 
   pub allowed-absent : referenceCount rule ≤ i → (k : ℕ) → has 0 k ≡ maskAllows head rule i k
@@ -215,20 +257,22 @@ module _ (head rule : List ℕ) (i : ℕ) where
   allowed-absent l k =
       rw (has-zero k, le-ltb i (referenceCount rule) l) (sym (and-false (not (eqb k 0))))
 
--- the three masks of a restriction, against the words of what each allows
-pub masks-row :
-    (head rule : List ℕ) (a b c j : ℕ) (first second third : Bool)
+-- the three masks of each restriction, against the words of what each allows
+pub masks-all :
+    (head rule : List ℕ) (a b c : ℕ)
     → ((k : ℕ) → has a k ≡ maskAllows head rule 0 k)
     → ((k : ℕ) → has b k ≡ maskAllows head rule 1 k)
     → ((k : ℕ) → has c k ≡ maskAllows head rule 2 k)
-    → first ≡ all (λ k. not (has (restrictionMask rule j 0) k) || has a k) (upTo 16)
-    → second ≡ all (λ k. not (has (restrictionMask rule j 1) k) || has b k) (upTo 16)
-    → third ≡ all (λ k. not (has (restrictionMask rule j 2) k) || has c k) (upTo 16)
-    → (first && (second && third)) ≡ all (maskHolds head rule j) (upTo 3)
-masks-row head rule a b c j first second third a-at b-at c-at p q r =
+    → all (λ j. maskWithin rule j 0 a && (maskWithin rule j 1 b && maskWithin rule j 2 c)) (upTo (restrictionCount rule))
+    ≡ masksHold head rule
+unfolding masksHold
+masks-all head rule a b c a-at b-at c-at =
+    all-same (λ j. maskWithin rule j 0 a && (maskWithin rule j 1 b && maskWithin rule j 2 c))
+    (λ j. all (maskHolds head rule j) (upTo 3))
+    (λ j.
     rw (
       all-three (maskHolds head rule j),
-      p ∙ mask-holds-at head rule j 0 a a-at,
-      q ∙ mask-holds-at head rule j 1 b b-at,
-      r ∙ mask-holds-at head rule j 2 c c-at,
-    )
+      mask-holds-at head rule j 0 a a-at,
+      mask-holds-at head rule j 1 b b-at,
+      mask-holds-at head rule j 2 c c-at,
+    )) (upTo (restrictionCount rule))

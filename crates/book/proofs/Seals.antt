@@ -9,6 +9,8 @@ use lib.ListN.{length, getD, take, set, length-append, List·getD-append, drop-o
 use lib.Seq.{length-take-le, take-at, getD-at, getD-take, getD-append-add, sets-eq}
 use borrow.Author.Tests.{eq-eqb, ne-eqb}
 use Rattle.book.specs.Blocks.{checkSum, checkHolds}
+use Rattle.book.specs.Tests.{firstFailing, refusedOr, answered}
+use Rattle.book.specs.Refusals.{sealTests}
 use Rattle.book.specs.Answers.{withCheck, sealBytes, sealAnswer}
 use Rattle.book.specs.declared.Sealed.the-variants.{Done, Refused}
 
@@ -24,23 +26,23 @@ set-two l a b h =
 
 -- a refused block stays as it was
 pub unsealed : (block : List ℕ) → (length block ≡ 512 → ⊥) → sealBytes block ≡ block
-unfolding sealBytes
+unfolding sealBytes answered refusedOr sealTests firstFailing
 unsealed block n = rw (ne-eqb (length block) 512 n)
 
 pub unsealed-answer :
     (block : List ℕ)
     → (length block ≡ 512 → ⊥)
     → sealAnswer block ≡ Refused (record { number = 10; place = 0 })
-unfolding sealAnswer
+unfolding sealAnswer answered refusedOr sealTests firstFailing
 unsealed-answer block n = rw (ne-eqb (length block) 512 n)
 
 module _ (block : List ℕ) (full : length block ≡ 512) where
   pub sealed : sealBytes block ≡ take 510 block ++ (checkSum block / 256 ∷ checkSum block % 256 ∷ [])
-  unfolding sealBytes withCheck
+  unfolding sealBytes withCheck answered refusedOr sealTests firstFailing
   sealed = rw (eq-eqb (length block) 512 full)
 
   pub sealed-answer : sealAnswer block ≡ Done
-  unfolding sealAnswer
+  unfolding sealAnswer answered refusedOr sealTests firstFailing
   sealed-answer = rw (eq-eqb (length block) 512 full)
 
   -- the writes of a check
@@ -50,9 +52,6 @@ module _ (block : List ℕ) (full : length block ≡ 512) where
 
   body-length : length (take 510 block) ≡ 510
   body-length = length-take-le 510 block (omega arith)
-
-  pub sealed-length : length (sealBytes block) ≡ 512
-  sealed-length = rw (sealed, length-append) (ap (λ (n : ℕ). n + 2) body-length)
 
   -- "other bytes unchanged"
   pub sealed-same : (i : ℕ) → i < 510 → getD (sealBytes block) i 0 ≡ getD block i 0

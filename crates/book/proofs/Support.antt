@@ -3,16 +3,22 @@ use Prim.Native.Nat.{ℕ, _+_, _≤_, _<_}
 use native.Mathlib.Omega.{arith}
 use mathlib.Core.Path.{_≡_, refl, sym, _∙_}
 use mathlib.Core.Bool.{Bool, true, false, _&&_, _||_, cond}
-use mathlib.Core.List.{List}
+use mathlib.Core.List.{List, [], _∷_}
 use lib.ListN.{getD, replicate, getD-replicate}
-use lib.Dec.{eqb, ltb}
+use lib.Dec.{ltb}
 use lib.Bits.{bitAnd, bitOr, or-zero-r}
-use borrow.Author.Tests.{le-ltb, lt-ltb, eqb-true, eqb-false, eq-eqb}
+use borrow.Author.Tests.{ltb-true, le-ltb, lt-ltb}
+use Rattle.book.specs.Lists.{any, upTo}
 use Rattle.book.specs.Sets.{has}
-use Rattle.book.specs.Head.{dataParent, ownOperations, isDataLeaf, supportOf, supports}
-use Rattle.book.proofs.Lists.{ltb-more}
+use Rattle.book.specs.Hierarchies.{upward, under, ownedBy, support}
+use Rattle.book.specs.Head.{dataCount, dataParent, ownOperations, isDataLeaf, supportOf, supports}
+use Rattle.book.specs.Inner.Reading.{SetAdded, Supporting}
+use Rattle.book.specs.Inner.Words.{subtree}
+use Rattle.book.specs.declared.Hierarchy.the-variants.{Data}
+use Rattle.book.proofs.Lists.{and-false, and-where, any-none, any-more}
 use Rattle.book.proofs.Members.{has-zero, has-or, has-and, has-cond}
-use Rattle.book.proofs.Hierarchies.{support-up}
+use Rattle.book.proofs.Hierarchies.{support-up, any-under}
+use Rattle.book.proofs.HeadWords.{below-capped, leaf-known}
 
 -- The recursion to the parent
 
@@ -29,85 +35,94 @@ module _ (head : List ℕ) (d own p : ℕ) (own-at : own ≡ ownOperations head 
 
 -- Leaves by operation
 
--- the words hold the leaves below i that support each operation
+-- an operation is supported where an owner of it is on the way up
+owned-any : (own : ℕ → ℕ) (k : ℕ) (l : List ℕ) → has (ownedBy own l) k ≡ any (λ c. has (own c) k) l
+unfolding ownedBy any
+owned-any own k [] = has-zero k
+owned-any own k (c ∷ l) = rw (has-or (own c) (ownedBy own l) k, owned-any own k l)
+
+-- an owner of operation k among the categories below n has d under it
+abbrev owner : List ℕ → ℕ → ℕ → ℕ → Bool
+owner head k d n = any (λ c. has (ownOperations head c) k && under (dataParent head) c d) (upTo n)
+
+owner-supports : (head : List ℕ) (k d n : ℕ) → d < n → owner head k d n ≡ supports head d k
+unfolding supports supportOf support
+owner-supports head k d n l =
+    any-under (dataParent head) (λ c. has (ownOperations head c) k) n d l
+    ∙ sym (owned-any (ownOperations head) k (upward (dataParent head) d))
+
+-- the words hold the leaves with an owner of each operation below i on their way up
 pub record Supported (head : List ℕ) (i : ℕ) (words : List ℕ) : Type 0 where
-  pub bound : i ≤ 64
   pub at :
-      (k d : ℕ) → k < 16 → has (getD words k 0) d ≡ (ltb d i && (isDataLeaf head d && supports head d k))
+      (k d : ℕ) → k < 16 → has (getD words k 0) d ≡ (ltb d 64 && (isDataLeaf head d && owner head k d i))
 
 pub supported-none : (head : List ℕ) → Supported head 0 (replicate 16 0)
 supported-none head =
     record {
-      bound = omega arith;
-      at = λ k d l. rw (getD-replicate {A = ℕ} 16 k 0 0 l, has-zero d, le-ltb d 0 (omega arith));
+      at =
+          λ k d l.
+          rw (
+            getD-replicate {A = ℕ} 16 k 0 0 l,
+            has-zero d,
+            any-none (λ c. has (ownOperations head c) k && under (dataParent head) c d),
+            and-false (isDataLeaf head d),
+            and-false (ltb d 64),
+          );
     }
 
-here : (a b : Bool) → (false || (b && (a && true))) ≡ (a && b)
-here true true = refl
-here true false = refl
-here false true = refl
-here false false = refl
-
-elsewhere : (x a t b : Bool) → (x || (b && ((t && a) && (t && false)))) ≡ x
-elsewhere true a t b = refl
-elsewhere false a t false = refl
-elsewhere false true true true = refl
-elsewhere false false true true = refl
-elsewhere false a false true = refl
+one-more :
+    (t l a m n u : Bool) → (l ≡ true → n ≡ true)
+    → ((t && (l && a)) || (m && ((t && l) && (t && (n && u))))) ≡ (t && (l && (a || (m && u))))
+one-more true true a m n u h = rw (h refl)
+one-more true false a true n u h = refl
+one-more true false a false n u h = refl
+one-more false l a true n u h = refl
+one-more false l a false n u h = refl
 
 pub supported-more :
-    (head : List ℕ) (i all one mask : ℕ) (words next : List ℕ)
+    (head : List ℕ) (i leaves below mask : ℕ) (words next : List ℕ)
     → Supported head i words
-    → i < 64
-    → ((c : ℕ) → has all c ≡ (ltb c 64 && isDataLeaf head c))
-    → ((c : ℕ) → has one c ≡ (ltb c 64 && eqb c i))
-    → mask ≡ supportOf head i
-    → ((k : ℕ) → k < 16 → getD next k 0 ≡ bitOr (getD words k 0) (cond (has mask k) (bitAnd all one) 0))
+    → ((d : ℕ) → has leaves d ≡ (ltb d 64 && isDataLeaf head d))
+    → ((d : ℕ) → has below d ≡ (ltb d 64 && subtree (dataCount head) (dataParent head) i d))
+    → mask ≡ ownOperations head i
+    → SetAdded words (bitAnd leaves below) mask next
     → Supported head (i + 1) next
-unfolding supports
-supported-more head i all one mask words next r small all-at one-at mask-at step =
-    record { bound = omega arith; at = λ k d l. go k d l (eqb d i) refl }
+supported-more head i leaves below mask words next old leaves-at below-at mask-at step =
+    record {
+      at =
+          λ k d l.
+          rw (
+            step k l,
+            has-or (getD words k 0) (cond (has mask k) (bitAnd leaves below) 0) d,
+            old .at k d l,
+            has-cond (has mask k) (bitAnd leaves below) d,
+            has-and leaves below d,
+            leaves-at d,
+            below-at d,
+            mask-at,
+            any-more (λ c. has (ownOperations head c) k && under (dataParent head) c d) i,
+          )
+          (one-more (ltb d 64) (isDataLeaf head d) (owner head k d i) (has (ownOperations head i) k)
+          (ltb d (dataCount head)) (under (dataParent head) i d) (known d));
+    }
   where
-    start :
-        (k d : ℕ)
-        → k < 16
-        → has (getD next k 0) d
-        ≡ ((ltb d i && (isDataLeaf head d && has (supportOf head d) k))
-        || (has mask k && ((ltb d 64 && isDataLeaf head d) && (ltb d 64 && eqb d i))))
-    start k d l =
-        rw (
-          step k l,
-          has-or (getD words k 0) (cond (has mask k) (bitAnd all one) 0) d,
-          r .at k d l,
-          has-cond (has mask k) (bitAnd all one) d,
-          has-and all one d,
-          all-at d,
-          one-at d,
-        )
-
-    go :
-        (k d : ℕ)
-        → k < 16
-        → (b : Bool)
-        → eqb d i ≡ b
-        → has (getD next k 0) d ≡ (ltb d (i + 1) && (isDataLeaf head d && has (supportOf head d) k))
-    go k d l true q =
-        let e : d ≡ i = eqb-true d i q in
-        start k d l
-        ∙ rw (e, le-ltb i i (omega arith), lt-ltb i 64 small, eq-eqb i i refl, lt-ltb i (i + 1) (omega arith), mask-at)
-        (here (isDataLeaf head i) (has (supportOf head i) k))
-    go k d l false q =
-        start k d l
-        ∙ rw (q, ltb-more d i (eqb-false d i q))
-        (elsewhere (ltb d i && (isDataLeaf head d && has (supportOf head d) k)) (isDataLeaf head d) (ltb d 64)
-        (has mask k))
+    known : (d : ℕ) → isDataLeaf head d ≡ true → ltb d (dataCount head) ≡ true
+    known d h = lt-ltb d (dataCount head) (leaf-known Data head d h)
 
 pub supported-end :
-    (head : List ℕ) (i : ℕ) (words : List ℕ)
+    (head : List ℕ) (n m i : ℕ) (words : List ℕ)
     → Supported head i words
-    → 64 ≤ i
-    → (k d : ℕ) → k < 16 → has (getD words k 0) d ≡ (ltb d 64 && (isDataLeaf head d && supports head d k))
-supported-end head i words r past k d l =
-    let b : i ≤ 64 = r .bound in
-    let e : i ≡ 64 = omega arith in
-    r .at k d l ∙ rw e
+    → i ≡ m
+    → n ≡ dataCount head
+    → m ≡ cond (ltb n 64) n 64
+    → Supporting head words
+supported-end head n m i words old e count cap k l d =
+    old .at k d l
+    ∙ and-where (ltb d 64) (isDataLeaf head d && owner head k d i) (isDataLeaf head d && supports head d k)
+    (λ t.
+    and-where (isDataLeaf head d) (owner head k d i) (supports head d k)
+    (λ h.
+    let low : d < dataCount head = leaf-known Data head d h in
+    let small : d < 64 = ltb-true d 64 t in
+    let under-m : d < m = below-capped n m cap d small (omega arith) in
+    owner-supports head k d i (omega arith)))

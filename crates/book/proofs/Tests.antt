@@ -1,5 +1,4 @@
--- The tests of the book check: the first that fails, what a test says where it is passed, the tests of each block, and
--- those of a pass. Assumes nothing.
+-- The tests of the book check: what a test says where it is passed, the tests of each block, and those of a pass. Assumes nothing.
 use Prim.Native.Nat.{ℕ, zero, suc, _+_, _*_, _/_, _%_, _≤_, _<_}
 use native.Mathlib.Omega.{arith}
 use mathlib.Core.Path.{_≡_, refl, sym, ap, _∙_}
@@ -14,43 +13,20 @@ use Rattle.book.specs.Hierarchies.{leaf}
 use Rattle.book.specs.Head.{userCount, dataCount, dataParent, columnCount, functionCount, isDataLeaf}
 use Rattle.book.specs.Rule.{referenceCount, excludedUserCount, restrictionCount, exclusionCount}
 use Rattle.book.specs.Blocks.{blockAt, headOf, checkHolds}
-use Rattle.book.specs.Refusals.{between, zeros, lengthHolds, kindHolds, CountsHold, usersCounted, dataCounted}
+use Rattle.book.specs.Refusals.{between, zeros, lengthHolds, kindHolds, usersCounted, dataCounted}
 use Rattle.book.specs.Refusals.{columnsCounted, functionsCounted, ruleCounts, ruleCounted, ruleZeros, usersOrdered}
 use Rattle.book.specs.Refusals.{dataOrdered, labelHolds, labelsHold, functionsHold, numbersHold, referencesApart}
-use Rattle.book.specs.Refusals.{masksHold, ruleTests, contentTests, passTests, firstFailing}
+use Rattle.book.specs.Refusals.{masksHold, usersBlockTests, dataBlockTests, columnsBlockTests}
+use Rattle.book.specs.Refusals.{functionsBlockTests, ruleBlockTests, blockTests, checkTests, kindTests}
+use Rattle.book.specs.Refusals.{contentTests, userNumbersHold}
+use Rattle.book.specs.Tests.{Passes, firstFailing}
+use Rattle.book.specs.Inner.Testing.{CountsHold, ContentsAt, OutcomeAt, passTests, referencesHold}
+use Rattle.book.specs.declared.Tested.{Tested}
 use Rattle.book.specs.declared.checking.Pass.{Pass}
 use Rattle.book.specs.declared.checking.Pass.the-variants.{Checks, Kinds, Contents}
 use Rattle.book.proofs.Lists.{and-left, and-right, and-both, all-at}
 use Rattle.book.proofs.Hierarchies.{leaf-in-word}
-
--- The first failing test
-
-module _ (k : ℕ) (a : Bool) (tests : List (ℕ × Bool)) where
-  pub fails : not a ≡ true → k ≡ firstFailing ((k, a) ∷ tests)
-  unfolding firstFailing
-  fails e = rw (not-true a e)
-
-  pub passes : (n : ℕ) → not a ≡ false → n ≡ firstFailing tests → n ≡ firstFailing ((k, a) ∷ tests)
-  unfolding firstFailing
-  passes n e rest = rw (not-false a e) rest
-
-pub none-fails : _≡_ {A = ℕ} 0 (firstFailing [])
-unfolding firstFailing
-none-fails = refl
-
-pub first-passed :
-    (number : ℕ) (b : Bool) (rest : List (ℕ × Bool))
-    → firstFailing ((suc number, b) ∷ rest) ≡ 0
-    → (b ≡ true) × (firstFailing rest ≡ 0)
-unfolding firstFailing
-first-passed number true rest h = (refl, h)
-first-passed number false rest h = absurd (omega arith)
-
-two-passed :
-    (m n : ℕ) (a b : Bool) → firstFailing ((suc m, a) ∷ (suc n, b) ∷ []) ≡ 0 → (a ≡ true) × (b ≡ true)
-two-passed m n a b h =
-    let first = first-passed m a ((suc n, b) ∷ []) h in
-    (first .0, first-passed n b [] (first .1) .0)
+use Rattle.book.proofs.Answers.{first-passed, two-passed}
 
 -- Single tests
 
@@ -86,7 +62,7 @@ kind-rule (suc (suc (suc (suc i)))) kind h = refl
 
 pub label-same :
     (head : List ℕ) (leaves d : ℕ) → dataCount head ≤ 64
-    → ((c : ℕ) → has leaves c ≡ (ltb c 64 && leaf (dataCount head) (dataParent head) c))
+    → ((c : ℕ) → has leaves c ≡ (ltb c 64 && isDataLeaf head c))
     → (eqb d 255 || has leaves d) ≡ labelHolds head d
 unfolding labelHolds isDataLeaf
 label-same head leaves d h e = rw (e d, leaf-in-word (dataCount head) (dataParent head) d h)
@@ -155,106 +131,96 @@ module _ (rule : List ℕ) where
   few-references h =
       rule-bounds (and-left (ruleCounts rule) (ruleZeros rule) (not-false (ruleCounted rule) h)) .1
 
+pub references-held : (head rule : List ℕ) → not (numbersHold head rule) ≡ false → referencesHold head rule ≡ true
+unfolding numbersHold
+references-held head rule h =
+    and-right (userNumbersHold head rule) (referencesHold head rule) (not-false (numbersHold head rule) h)
+
 -- The tests of a block
 
 -- a head block's tests read the head alone
-pub head-tests : (head block : List ℕ) (i : ℕ) → i < 4 → contentTests head block i ≡ contentTests head [] i
-unfolding contentTests
-head-tests head block zero l = refl
-head-tests head block (suc zero) l = refl
-head-tests head block (suc (suc zero)) l = refl
-head-tests head block (suc (suc (suc zero))) l = refl
-head-tests head block (suc (suc (suc (suc r)))) l = absurd (omega arith)
-
-pub rule-tests : (head block : List ℕ) (i : ℕ) → 4 ≤ i → contentTests head block i ≡ ruleTests head block
-unfolding contentTests
+pub rule-tests :
+    (head block : List ℕ) (i : ℕ) → 4 ≤ i → blockTests head block i ≡ ruleBlockTests head block i
+unfolding blockTests
 rule-tests head block zero l = absurd (omega arith)
 rule-tests head block (suc zero) l = absurd (omega arith)
 rule-tests head block (suc (suc zero)) l = absurd (omega arith)
 rule-tests head block (suc (suc (suc zero))) l = absurd (omega arith)
-rule-tests head block (suc (suc (suc (suc r)))) l = refl
+rule-tests head block (suc (suc (suc (suc r)))) l =
+    let e : 4 + r ≡ suc (suc (suc (suc r))) = omega arith in
+    ap (ruleBlockTests head block) e
 
-module _ (head block : List ℕ) where
-  pub users-passed :
-      firstFailing (contentTests head block 0) ≡ 0 → (usersCounted head ≡ true) × (usersOrdered head ≡ true)
-  unfolding contentTests
-  users-passed h = two-passed 3 4 (usersCounted head) (usersOrdered head) h
+module _ (head : List ℕ) where
+  pub users-passed : Passes (usersBlockTests head) → (usersCounted head ≡ true) × (usersOrdered head ≡ true)
+  unfolding usersBlockTests
+  users-passed h = two-passed 4 5 0 0 (usersCounted head) (usersOrdered head) h
 
-  pub data-passed :
-      firstFailing (contentTests head block 1) ≡ 0 → (dataCounted head ≡ true) × (dataOrdered head ≡ true)
-  unfolding contentTests
-  data-passed h = two-passed 3 4 (dataCounted head) (dataOrdered head) h
+  pub data-passed : Passes (dataBlockTests head) → (dataCounted head ≡ true) × (dataOrdered head ≡ true)
+  unfolding dataBlockTests
+  data-passed h = two-passed 4 5 1 1 (dataCounted head) (dataOrdered head) h
 
-  pub columns-passed :
-      firstFailing (contentTests head block 2) ≡ 0 → (columnsCounted head ≡ true) × (labelsHold head ≡ true)
-  unfolding contentTests
-  columns-passed h = two-passed 3 5 (columnsCounted head) (labelsHold head) h
+  pub columns-passed : Passes (columnsBlockTests head) → (columnsCounted head ≡ true) × (labelsHold head ≡ true)
+  unfolding columnsBlockTests
+  columns-passed h = two-passed 4 6 2 2 (columnsCounted head) (labelsHold head) h
 
   pub functions-passed :
-      firstFailing (contentTests head block 3) ≡ 0 → (functionsCounted head ≡ true) × (functionsHold head ≡ true)
-  unfolding contentTests
-  functions-passed h = two-passed 3 5 (functionsCounted head) (functionsHold head) h
+      Passes (functionsBlockTests head) → (functionsCounted head ≡ true) × (functionsHold head ≡ true)
+  unfolding functionsBlockTests
+  functions-passed h = two-passed 4 6 3 3 (functionsCounted head) (functionsHold head) h
 
   pub rule-passed :
-      (r : ℕ)
-      → firstFailing (contentTests head block (4 + r)) ≡ 0
-      → (ruleCounted block ≡ true)
-      × (numbersHold head block ≡ true)
-      × (referencesApart head block ≡ true)
-      × (masksHold head block ≡ true)
-  unfolding contentTests ruleTests
-  rule-passed r h =
-      let e : 4 + r ≡ suc (suc (suc (suc r))) = omega arith in
-      let tests : firstFailing (contentTests head block (suc (suc (suc (suc r))))) ≡ 0 = rw e at h in
-      let counted =
-      first-passed 3 (ruleCounted block)
-      ((7, numbersHold head block) ∷ (8, referencesApart head block) ∷ (9, masksHold head block) ∷ []) tests in
-      let numbers =
-      first-passed 6 (numbersHold head block)
-      ((8, referencesApart head block) ∷ (9, masksHold head block) ∷ []) (counted .1) in
-      let rest = two-passed 7 8 (referencesApart head block) (masksHold head block) (numbers .1) in
+      (rule : List ℕ) (i : ℕ)
+      → Passes (ruleBlockTests head rule i)
+      → (ruleCounted rule ≡ true)
+      × (numbersHold head rule ≡ true)
+      × (referencesApart head rule ≡ true)
+      × (masksHold head rule ≡ true)
+  unfolding ruleBlockTests
+  rule-passed rule i h =
+      let counted = first-passed _ _ _ _ h in
+      let numbers = first-passed _ _ _ _ (counted .1) in
+      let rest = two-passed _ _ _ _ _ _ (numbers .1) in
       (counted .0, numbers .0, rest .0, rest .1)
 
 -- The tests of a pass
 
+-- blocks 0 and 1 have passed where a later block is read
+counts-hold :
+    (book : List ℕ) (i : ℕ) → ((j : ℕ) → j < i → Passes (contentTests book j)) → 2 ≤ i → CountsHold (headOf book)
+unfolding contentTests blockTests
+counts-hold book i h l =
+    let u = users-bound (headOf book) (users-passed (headOf book) (h 0 (omega arith)) .0) in
+    let d = data-bound (headOf book) (data-passed (headOf book) (h 1 (omega arith)) .0) in
+    record { users = omega (arith, u .1); categories = d .1 }
+
 module _ (book : List ℕ) (pass : Pass) (i : ℕ) (block : List ℕ) (there : block ≡ blockAt book i) where
-  pub checks-fault :
-      (passed : Bool) (r : ℕ)
+  pub checks-outcome :
+      (passed : Bool) (r : Tested)
       → pass ≡ Checks
       → passed ≡ checkHolds block
-      → r ≡ firstFailing ((2, passed) ∷ [])
+      → r ≡ firstFailing ((2, i, passed) ∷ [])
       → r ≡ firstFailing (passTests pass book i)
-  unfolding passTests
-  checks-fault passed r p e a = rw (p, ← there, ← e) a
+  unfolding passTests checkTests
+  checks-outcome passed r p e a = rw (p, ← there, ← e) a
 
-  pub kinds-fault :
-      (kind : ℕ) (passed : Bool) (r : ℕ)
+  pub kinds-outcome :
+      (kind : ℕ) (passed : Bool) (r : Tested)
       → pass ≡ Kinds
       → kind ≡ getD block 0 0
       → passed ≡ kindHolds i kind
-      → r ≡ firstFailing ((3, passed) ∷ [])
+      → r ≡ firstFailing ((3, i, passed) ∷ [])
       → r ≡ firstFailing (passTests pass book i)
-  unfolding passTests
-  kinds-fault kind passed r p k e a = rw (p, ← there, ← k, ← e) a
+  unfolding passTests kindTests
+  kinds-outcome kind passed r p k e a = rw (p, ← there, ← k, ← e) a
 
-  -- blocks 0 and 1 have passed where a later block is read
-  counts-hold :
-      ((j : ℕ) → j < i → firstFailing (passTests Contents book j) ≡ 0) → 2 ≤ i → CountsHold (headOf book)
-  unfolding passTests
-  counts-hold h l =
-      let u = users-bound (headOf book) (users-passed (headOf book) (blockAt book 0) (h 0 (omega arith)) .0) in
-      let d = data-bound (headOf book) (data-passed (headOf book) (blockAt book 1) (h 1 (omega arith)) .0) in
-      record { users = omega (arith, u .1); categories = d .1 }
-
-  pub contents-fault :
-      (head : List ℕ) (r : ℕ)
+  pub contents-outcome :
+      (head t : List ℕ) (r : Tested)
       → pass ≡ Contents
       → head ≡ headOf book
-      → ((2 ≤ i → CountsHold head) → r ≡ firstFailing (contentTests head block i))
-      → ((j : ℕ) → j < i → firstFailing (passTests pass book j) ≡ 0)
-      → r ≡ firstFailing (passTests pass book i)
-  unfolding passTests
-  contents-fault head r p e a h =
-      let below : (j : ℕ) → j < i → firstFailing (passTests Contents book j) ≡ 0 =
+      → ContentsAt head t block i r
+      → OutcomeAt pass book t i r
+  unfolding passTests contentTests
+  contents-outcome head t r p e a w h =
+      let below : (j : ℕ) → j < i → Passes (contentTests book j) =
       λ j l. ap (λ (q : Pass). firstFailing (passTests q book j)) (sym p) ∙ h j l in
-      rw (p, ← there, ← e) (a (λ l. rw e (counts-hold below l)))
+      rw (p, ← there, ← e) (a (rw e w) (λ l. rw e (counts-hold book i below l)))

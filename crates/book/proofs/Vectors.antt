@@ -4,7 +4,7 @@ use Prim.Native.Nat.{ℕ}
 use mathlib.Core.Path.{_≡_, refl}
 use mathlib.Core.List.{List, [], _∷_, _++_, map}
 use lib.ListN.{replicate}
-use Rattle.book.specs.Lists.{all, any, upTo, from}
+use Rattle.book.specs.Lists.{all, any, flat, upTo, from}
 use Rattle.book.specs.Sets.{has}
 use Rattle.book.specs.Hierarchies.{upwardIn, upward, under, leaf, covers, properDescendant, ownedBy, support}
 use Rattle.book.specs.Hierarchies.{parentHolds}
@@ -15,12 +15,16 @@ use Rattle.book.specs.Refusals.{between, zeros, lengthHolds, kindHolds, 
 use Rattle.book.specs.Refusals.{functionsCounted, ruleCounts, referenceEnd, ruleZeros, ruleCounted, usersOrdered}
 use Rattle.book.specs.Refusals.{dataOrdered, labelHolds, labelsHold, functionsHold, userNumbersHold}
 use Rattle.book.specs.Refusals.{referenceHolds, numbersHold, leafSetsApart, referencesApart, maskAllows}
-use Rattle.book.specs.Refusals.{maskHolds, masksHold, ruleTests, contentTests, passTests, lengthTests}
-use Rattle.book.specs.Refusals.{firstFailing}
-use Rattle.book.specs.Answers.{refuse, atPlaces, checkAnswer, withCheck, sealBytes}
+use Rattle.book.specs.Refusals.{maskHolds, masksHold, lengthTests, checkTests, kindTests}
+use Rattle.book.specs.Refusals.{usersBlockTests, dataBlockTests, columnsBlockTests, functionsBlockTests}
+use Rattle.book.specs.Refusals.{ruleBlockTests, blockTests, contentTests, blockByBlock, bookTests, sealTests}
+use Rattle.book.specs.Refusals.{BookAccepted}
+use Rattle.book.specs.Tests.{firstFailing, refusedOr, answered}
+use Rattle.book.specs.Answers.{checkAnswer, withCheck, sealBytes}
 use Rattle.book.specs.Shop.{padded, block, users, categories, columns, functions, rule, rule0, rule1, rule2, shop}
 use Rattle.book.specs.declared.Checked.{Checked}
 use Rattle.book.specs.declared.Checked.the-variants.{Accepted}
+use Rattle.book.proofs.CheckLaws.{accepted-passes}
 
 -- "* A block of kind 4, all else zero, has check 4; a block with only byte 509 set, to 255, has 64,529."
 unfoldable pub checkCases : List (List ℕ × ℕ)
@@ -35,7 +39,11 @@ unfolding all any upTo from has upwardIn upward under leaf covers properDescenda
     isUser isDataLeaf supportOf supports inLeafSet weighted checkSum checkHolds between zeros lengthHolds kindHolds
     usersCounted dataCounted columnsCounted functionsCounted ruleCounts referenceEnd ruleZeros ruleCounted
     usersOrdered dataOrdered labelHolds labelsHold functionsHold userNumbersHold referenceHolds numbersHold
-    leafSetsApart referencesApart maskAllows maskHolds masksHold ruleTests contentTests passTests lengthTests
-    firstFailing refuse atPlaces checkAnswer withCheck sealBytes padded block users categories columns functions
+    leafSetsApart referencesApart maskAllows maskHolds masksHold usersBlockTests dataBlockTests columnsBlockTests
+    functionsBlockTests ruleBlockTests blockTests checkTests kindTests contentTests lengthTests blockByBlock bookTests
+    sealTests flat firstFailing refusedOr answered checkAnswer withCheck sealBytes padded block users categories columns functions
     rule rule0 rule1 rule2 shop
 shop-accepted = refl
+
+pub shop-passes : BookAccepted shop
+shop-passes = accepted-passes shop 3 shop-accepted .0

@@ -2,64 +2,53 @@
 -- columns from 1024, functions from 1536. Assumes nothing.
 use Prim.Native.Nat.{ℕ, _+_, _*_}
 use mathlib.Core.Bool.{Bool}
-use mathlib.Core.List.{List}
 use lib.ListN.{getD}
 use Rattle.book.specs.Sets.{has}
 use Rattle.book.specs.Hierarchies.{leaf, support}
-use Rattle.book.specs.declared.Hierarchy.{Hierarchy}
-use Rattle.book.specs.declared.Hierarchy.the-variants.{Users, Data}
+use Rattle.book.specs.Blocks.{Head}
 
 -- "Block 0, kind 1, users: 1 to 32 categories. Byte 2 + i is the parent of category i"
-abbrev pub userCount : List ℕ → ℕ
+abbrev pub userCount : Head → ℕ
 userCount head = getD head 1 0
 
-abbrev pub userParent : List ℕ → ℕ → ℕ
+abbrev pub userParent : Head → ℕ → ℕ
 userParent head i = getD head (2 + i) 0
 
 -- "Block 1, kind 2, data: 1 to 64 categories, three bytes each from byte 2: parent (same law), then the mask of own
 -- operations"
-abbrev pub dataCount : List ℕ → ℕ
+abbrev pub dataCount : Head → ℕ
 dataCount head = getD head 513 0
 
-abbrev pub dataParent : List ℕ → ℕ → ℕ
+abbrev pub dataParent : Head → ℕ → ℕ
 dataParent head i = getD head (514 + 3 * i) 0
 
-abbrev pub ownOperations : List ℕ → ℕ → ℕ
+abbrev pub ownOperations : Head → ℕ → ℕ
 ownOperations head i = 256 * getD head (515 + 3 * i) 0 + getD head (516 + 3 * i) 0
 
 -- "Block 2, kind 3, columns: 0 to 128. Byte 2 + i is the label of column i"
-abbrev pub columnCount : List ℕ → ℕ
+abbrev pub columnCount : Head → ℕ
 columnCount head = getD head 1025 0
 
-abbrev pub label : List ℕ → ℕ → ℕ
+abbrev pub label : Head → ℕ → ℕ
 label head i = getD head (1026 + i) 0
 
 -- "Block 3, kind 4, functions: 0 to 64. Byte 2 + i is the operation 0 to 15 of function i."
-abbrev pub functionCount : List ℕ → ℕ
+abbrev pub functionCount : Head → ℕ
 functionCount head = getD head 1537 0
 
-abbrev pub operation : List ℕ → ℕ → ℕ
+abbrev pub operation : Head → ℕ → ℕ
 operation head i = getD head (1538 + i) 0
 
--- both hierarchies of a book
-abbrev pub countIn : Hierarchy → List ℕ → ℕ
-countIn Users head = userCount head
-countIn Data head = dataCount head
-
-abbrev pub parentIn : Hierarchy → List ℕ → ℕ → ℕ
-parentIn Users head i = userParent head i
-parentIn Data head i = dataParent head i
-
 -- "A user is a leaf of block 0."
-unfoldable pub isUser : List ℕ → ℕ → Bool
+unfoldable pub isUser : Head → ℕ → Bool
 isUser head u = leaf (userCount head) (userParent head) u
 
-unfoldable pub isDataLeaf : List ℕ → ℕ → Bool
+unfoldable pub isDataLeaf : Head → ℕ → Bool
 isDataLeaf head d = leaf (dataCount head) (dataParent head) d
 
 -- the operations that data category d supports, as a mask
-unfoldable pub supportOf : List ℕ → ℕ → ℕ
+unfoldable pub supportOf : Head → ℕ → ℕ
 supportOf head d = support (dataParent head) (ownOperations head) d
 
-unfoldable pub supports : List ℕ → ℕ → ℕ → Bool
+unfoldable pub supports : Head → ℕ → ℕ → Bool
 supports head d k = has (supportOf head d) k

@@ -1,9 +1,11 @@
 pub mod Lists
 pub mod Sets
 pub mod Hierarchies
+pub mod Blocks
 pub mod Head
 pub mod Rule
-pub mod Blocks
+pub mod Tests
 pub mod Refusals
 pub mod Answers
 pub mod Shop
+pub mod Inner

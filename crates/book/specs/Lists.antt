@@ -1,7 +1,7 @@
 -- Quantifiers over finite lists, which compute. Assumes nothing.
 use Prim.Native.Nat.{ℕ, zero, suc}
 use mathlib.Core.Bool.{Bool, true, false, _&&_, _||_}
-use mathlib.Core.List.{List, [], _∷_}
+use mathlib.Core.List.{List, [], _∷_, _++_}
 
 -- the n numbers from i up
 unfoldable pub from : ℕ → ℕ → List ℕ
@@ -19,3 +19,8 @@ all f (x ∷ xs) = f x && all f xs
 unfoldable pub any : {A : Type 0} → (A → Bool) → List A → Bool
 any f [] = false
 any f (x ∷ xs) = f x || any f xs
+
+-- the lists that f gives, one after the other
+unfoldable pub flat : {A B : Type 0} → (A → List B) → List A → List B
+flat f [] = []
+flat f (x ∷ xs) = f x ++ flat f xs

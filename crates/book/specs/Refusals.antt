@@ -1,20 +1,18 @@
--- The tests of the book check, in document 01's order: "Book check", 1 to 9, and Seal's 10. A test is a refusal's
--- number and whether it is passed. Assumes nothing.
-use Prim.Native.Nat.{ℕ, zero, suc, _+_, _*_, _-_, _/_, _%_, _≤_}
+-- The tests of the book check, in document 01's order: "Book check", 1 to 9, and Seal's 10. Assumes nothing.
+use Prim.Native.Nat.{ℕ, zero, suc, _+_, _*_, _-_, _/_, _%_}
 use mathlib.Core.Bool.{Bool, _&&_, _||_, not, cond}
-use mathlib.Core.List.{List, [], _∷_}
+use mathlib.Core.List.{List, [], _∷_, _++_}
 use lib.ListN.{length, getD, take, drop}
 use lib.Dec.{eqb, ltb, leb}
-use Rattle.book.specs.Lists.{all, upTo}
+use Rattle.book.specs.Lists.{all, flat, upTo}
 use Rattle.book.specs.Sets.{has}
 use Rattle.book.specs.Hierarchies.{parentHolds, properDescendant}
 use Rattle.book.specs.Head.{userCount, userParent, dataCount, dataParent, ownOperations, columnCount, label}
 use Rattle.book.specs.Head.{functionCount, operation, isDataLeaf, supports}
 use Rattle.book.specs.Rule.{referenceCount, userCategory, excludedUserCount, excludedUsers, restrictionCount}
 use Rattle.book.specs.Rule.{dataCategory, action, exclusionCount, exclusions, restrictionMask, inLeafSet}
-use Rattle.book.specs.Blocks.{blockAt, headOf, checkHolds}
-use Rattle.book.specs.declared.checking.Pass.{Pass}
-use Rattle.book.specs.declared.checking.Pass.the-variants.{Checks, Kinds, Contents}
+use Rattle.book.specs.Blocks.{Book, Head, Block, Rule, blockAt, headOf, blockCount, checkHolds}
+use Rattle.book.specs.Tests.{Test, Passes}
 
 -- the refusals' numbers
 abbrev pub bookLength : ℕ
@@ -58,11 +56,6 @@ zeros bytes start end = all (λ x. eqb x 0) (take (end - start) (drop start byte
 unfoldable pub lengthHolds : ℕ → Bool
 lengthHolds n = eqb (n % 512) 0 && between 4 36 (n / 512)
 
--- what blocks 0 and 1 have passed when a later block is read: both counts fit a word of 64 bits
-pub record CountsHold (head : List ℕ) : Type 0 where
-  pub users : userCount head ≤ 64
-  pub categories : dataCount head ≤ 64
-
 -- 3: blocks 0 to 3 have kinds 1 to 4, the rules kind 5
 unfoldable pub kindHolds : ℕ → ℕ → Bool
 kindHolds zero kind = eqb kind 1
@@ -72,19 +65,19 @@ kindHolds (suc (suc (suc zero))) kind = eqb kind 4
 kindHolds (suc (suc (suc (suc r)))) kind = eqb kind 5
 
 -- 4: "a count outside its bounds (too low or too high) or a byte that should be zero and isn't"
-unfoldable pub usersCounted : List ℕ → Bool
+unfoldable pub usersCounted : Head → Bool
 usersCounted head = between 1 32 (userCount head) && zeros head (2 + userCount head) 510
 
-unfoldable pub dataCounted : List ℕ → Bool
+unfoldable pub dataCounted : Head → Bool
 dataCounted head = between 1 64 (dataCount head) && zeros head (514 + 3 * dataCount head) 1022
 
-unfoldable pub columnsCounted : List ℕ → Bool
+unfoldable pub columnsCounted : Head → Bool
 columnsCounted head = between 0 128 (columnCount head) && zeros head (1026 + columnCount head) 1534
 
-unfoldable pub functionsCounted : List ℕ → Bool
+unfoldable pub functionsCounted : Head → Bool
 functionsCounted head = between 0 64 (functionCount head) && zeros head (1538 + functionCount head) 2046
 
-unfoldable pub ruleCounts : List ℕ → Bool
+unfoldable pub ruleCounts : Rule → Bool
 ruleCounts rule =
     between 1 3 (referenceCount rule)
     && (between 0 4 (excludedUserCount rule)
@@ -92,102 +85,134 @@ ruleCounts rule =
     && all (λ i. between 0 8 (exclusionCount rule i)) (upTo (referenceCount rule))))
 
 -- the first unused byte of the slot of reference i: an absent reference uses none
-unfoldable pub referenceEnd : List ℕ → ℕ → ℕ
+unfoldable pub referenceEnd : Rule → ℕ → ℕ
 referenceEnd rule i = cond (ltb i (referenceCount rule)) (19 + 16 * i + exclusionCount rule i) (16 + 16 * i)
 
 -- the unused bytes: of the list of excluded users, up to the first reference, of each reference's slot, after the
 -- restrictions
-unfoldable pub ruleZeros : List ℕ → Bool
+unfoldable pub ruleZeros : Rule → Bool
 ruleZeros rule =
     zeros rule (4 + excludedUserCount rule) 8
     && (zeros rule 9 16
     && (all (λ i. zeros rule (referenceEnd rule i) (32 + 16 * i)) (upTo 3)
     && zeros rule (64 + 6 * restrictionCount rule) 510))
 
-unfoldable pub ruleCounted : List ℕ → Bool
+unfoldable pub ruleCounted : Rule → Bool
 ruleCounted rule = ruleCounts rule && ruleZeros rule
 
 -- 5: "parent or own-operation law"
-unfoldable pub usersOrdered : List ℕ → Bool
+unfoldable pub usersOrdered : Head → Bool
 usersOrdered head = all (parentHolds (userParent head)) (upTo (userCount head))
 
-unfoldable pub dataOrdered : List ℕ → Bool
+unfoldable pub dataOrdered : Head → Bool
 dataOrdered head =
     all (parentHolds (dataParent head)) (upTo (dataCount head))
     && all (λ i. not (has (ownOperations head i) 0)) (upTo (dataCount head))
 
 -- 6: "a label that is no leaf and not 255, or a function above 15"
-unfoldable pub labelHolds : List ℕ → ℕ → Bool
+unfoldable pub labelHolds : Head → ℕ → Bool
 labelHolds head d = eqb d 255 || isDataLeaf head d
 
-unfoldable pub labelsHold : List ℕ → Bool
+unfoldable pub labelsHold : Head → Bool
 labelsHold head = all (λ i. labelHolds head (label head i)) (upTo (columnCount head))
 
-unfoldable pub functionsHold : List ℕ → Bool
+unfoldable pub functionsHold : Head → Bool
 functionsHold head = all (λ i. leb (operation head i) 15) (upTo (functionCount head))
 
 -- 7: "a rule's category number, action or exclusion"
-unfoldable pub userNumbersHold : List ℕ → List ℕ → Bool
+unfoldable pub userNumbersHold : Head → Rule → Bool
 userNumbersHold head rule =
     ltb (userCategory rule) (userCount head)
     && all (properDescendant (userCount head) (userParent head) (userCategory rule)) (excludedUsers rule)
 
-unfoldable pub referenceHolds : List ℕ → List ℕ → ℕ → Bool
+unfoldable pub referenceHolds : Head → Rule → ℕ → Bool
 referenceHolds head rule i =
     ltb (dataCategory rule i) (dataCount head)
     && (between 1 3 (action rule i)
     && all (properDescendant (dataCount head) (dataParent head) (dataCategory rule i)) (exclusions rule i))
 
-unfoldable pub numbersHold : List ℕ → List ℕ → Bool
+unfoldable pub numbersHold : Head → Rule → Bool
 numbersHold head rule = userNumbersHold head rule && all (referenceHolds head rule) (upTo (referenceCount rule))
 
 -- 8: "references sharing a leaf"
-unfoldable pub leafSetsApart : List ℕ → List ℕ → ℕ → ℕ → Bool
+unfoldable pub leafSetsApart : Head → Rule → ℕ → ℕ → Bool
 leafSetsApart head rule i j =
     all (λ d. not (inLeafSet head rule i d && inLeafSet head rule j d)) (upTo (dataCount head))
 
-unfoldable pub referencesApart : List ℕ → List ℕ → Bool
+unfoldable pub referencesApart : Head → Rule → Bool
 referencesApart head rule = all (λ i. all (leafSetsApart head rule i) (upTo i)) (upTo (referenceCount rule))
 
 -- 9: "a mask with bit 0, an unsupported operation or a set bit for an absent reference"
-unfoldable pub maskAllows : List ℕ → List ℕ → ℕ → ℕ → Bool
+unfoldable pub maskAllows : Head → Rule → ℕ → ℕ → Bool
 maskAllows head rule i k = not (eqb k 0) && (ltb i (referenceCount rule) && supports head (dataCategory rule i) k)
 
-unfoldable pub maskHolds : List ℕ → List ℕ → ℕ → ℕ → Bool
+unfoldable pub maskHolds : Head → Rule → ℕ → ℕ → Bool
 maskHolds head rule j i = all (λ k. not (has (restrictionMask rule j i) k) || maskAllows head rule i k) (upTo 16)
 
-unfoldable pub masksHold : List ℕ → List ℕ → Bool
+unfoldable pub masksHold : Head → Rule → Bool
 masksHold head rule = all (λ j. all (maskHolds head rule j) (upTo 3)) (upTo (restrictionCount rule))
 
 -- the tests of a block, "in each block in this order"
-unfoldable pub ruleTests : List ℕ → List ℕ → List (ℕ × Bool)
-ruleTests head rule =
-    (countOrZero, ruleCounted rule)
-    ∷ (ruleNumber, numbersHold head rule)
-    ∷ (sharedLeaf, referencesApart head rule)
-    ∷ (maskOperation, masksHold head rule)
+unfoldable pub usersBlockTests : Head → List Test
+usersBlockTests head = (countOrZero, 0, usersCounted head) ∷ (parentOrOwn, 0, usersOrdered head) ∷ []
+
+unfoldable pub dataBlockTests : Head → List Test
+dataBlockTests head = (countOrZero, 1, dataCounted head) ∷ (parentOrOwn, 1, dataOrdered head) ∷ []
+
+unfoldable pub columnsBlockTests : Head → List Test
+columnsBlockTests head = (countOrZero, 2, columnsCounted head) ∷ (labelOrFunction, 2, labelsHold head) ∷ []
+
+unfoldable pub functionsBlockTests : Head → List Test
+functionsBlockTests head = (countOrZero, 3, functionsCounted head) ∷ (labelOrFunction, 3, functionsHold head) ∷ []
+
+unfoldable pub ruleBlockTests : Head → Rule → ℕ → List Test
+ruleBlockTests head rule i =
+    (countOrZero, i, ruleCounted rule)
+    ∷ (ruleNumber, i, numbersHold head rule)
+    ∷ (sharedLeaf, i, referencesApart head rule)
+    ∷ (maskOperation, i, masksHold head rule)
     ∷ []
 
--- the same for block i of a book with this head
-unfoldable pub contentTests : List ℕ → List ℕ → ℕ → List (ℕ × Bool)
-contentTests head block zero = (countOrZero, usersCounted head) ∷ (parentOrOwn, usersOrdered head) ∷ []
-contentTests head block (suc zero) = (countOrZero, dataCounted head) ∷ (parentOrOwn, dataOrdered head) ∷ []
-contentTests head block (suc (suc zero)) =
-    (countOrZero, columnsCounted head) ∷ (labelOrFunction, labelsHold head) ∷ []
-contentTests head block (suc (suc (suc zero))) =
-    (countOrZero, functionsCounted head) ∷ (labelOrFunction, functionsHold head) ∷ []
-contentTests head block (suc (suc (suc (suc r)))) = ruleTests head block
+-- those of block i of a book with this head
+unfoldable pub blockTests : Head → Block → ℕ → List Test
+blockTests head block zero = usersBlockTests head
+blockTests head block (suc zero) = dataBlockTests head
+blockTests head block (suc (suc zero)) = columnsBlockTests head
+blockTests head block (suc (suc (suc zero))) = functionsBlockTests head
+blockTests head block (suc (suc (suc (suc r)))) = ruleBlockTests head block (4 + r)
 
--- the three passes over the blocks: 2, then 3, then 4 to 9
-unfoldable pub passTests : Pass → List ℕ → ℕ → List (ℕ × Bool)
-passTests Checks book i = (blockCheck, checkHolds (blockAt book i)) ∷ []
-passTests Kinds book i = (blockKind, kindHolds i (getD (blockAt book i) 0 0)) ∷ []
-passTests Contents book i = contentTests (headOf book) (blockAt book i) i
+-- 1
+unfoldable pub lengthTests : Book → List Test
+lengthTests book = (bookLength, 0, lengthHolds (length book)) ∷ []
 
-unfoldable pub lengthTests : List ℕ → List (ℕ × Bool)
-lengthTests book = (bookLength, lengthHolds (length book)) ∷ []
+-- 2, of block i
+unfoldable pub checkTests : Book → ℕ → List Test
+checkTests book i = (blockCheck, i, checkHolds (blockAt book i)) ∷ []
 
--- "the number that comes first": of the first failing test, or 0 where all are passed
-unfoldable pub firstFailing : List (ℕ × Bool) → ℕ
-firstFailing [] = 0
-firstFailing (test ∷ tests) = cond (test .1) (firstFailing tests) (test .0)
+-- 3, of block i
+unfoldable pub kindTests : Book → ℕ → List Test
+kindTests book i = (blockKind, i, kindHolds i (getD (blockAt book i) 0 0)) ∷ []
+
+-- 4 to 9, of block i
+unfoldable pub contentTests : Book → ℕ → List Test
+contentTests book i = blockTests (headOf book) (blockAt book i) i
+
+-- the tests of each block of a book, the lowest block first
+unfoldable pub blockByBlock : Book → (ℕ → List Test) → List Test
+blockByBlock book tests = flat tests (upTo (blockCount book))
+
+-- "Book check": 1; 2 over all blocks; 3 over all blocks; "Then block by block, and in each block in this order"
+unfoldable pub bookTests : Book → List Test
+bookTests book =
+    lengthTests book
+    ++ blockByBlock book (checkTests book)
+    ++ blockByBlock book (kindTests book)
+    ++ blockByBlock book (contentTests book)
+
+-- "A book is accepted when the book check refuses nothing"
+abbrev pub BookAccepted : Book → Type 0
+BookAccepted book = Passes (bookTests book)
+
+-- 10: "not 512 bytes"
+unfoldable pub sealTests : Block → List Test
+sealTests block = (blockLength, 0, eqb (length block) 512) ∷ []

@@ -1,6 +1,8 @@
 // Bytes of a slice at any index: nothing here can read past an end.
 ghost use mathlib.Core.Path.{_≡_};
+ghost use mathlib.Core.Bool.{cond};
 ghost use Prim.Native.Nat.{_≤_, _-_};
+ghost use lib.Dec.{ltb};
 ghost use lib.ListN.{getD, take, drop};
 
 // The byte at i, or 0 past the end.
@@ -27,11 +29,20 @@ pub fn part(s: &[u8], start: usize, count: usize) -> &[u8]
 }
 
 // a - b, or 0 where b is larger.
-pub fn less(a: usize, b: usize) -> usize
+pub fn saturating_sub(a: usize, b: usize) -> usize
     ensures { λ r. ⌜ r ≡ a - b ⌝ }
 {
     if a < b {
         return 0;
     }
     a - b
+}
+
+pub fn smaller(a: usize, b: usize) -> usize
+    ensures { λ r. ⌜ (r ≡ cond (ltb a b) a b) × (r ≤ a) × (r ≤ b) ⌝ }
+{
+    if a < b {
+        return a;
+    }
+    b
 }

@@ -1,56 +1,39 @@
-// The two hierarchies of a book. A parent is lower than its child, so that one pass up the numbers
+// The two hierarchies of a book. A parent is lower than its child, so that one pass over the numbers
 // settles each of these.
 use crate::Hierarchy;
+use crate::bytes::smaller;
 use crate::fields::count;
 use crate::fields::own_operations;
 use crate::fields::parent;
 use crate::sets::below;
-use crate::sets::contains;
-use crate::sets::set_of;
 use crate::sets::single;
 ghost use mathlib.Core.Path.{_≡_};
-ghost use mathlib.Core.Bool.{_&&_, _||_, not, cond};
+ghost use mathlib.Core.Bool.{_&&_, _||_, not};
 ghost use Prim.Native.Nat.{ℕ, _<_};
-ghost use lib.Bits.{bitOr};
 ghost use lib.Dec.{eqb, ltb};
-ghost use lib.ListN.{getD};
-ghost use Rattle.book.specs.Lists.{any};
 ghost use Rattle.book.specs.Sets.{has, WordOf};
-ghost use Rattle.book.specs.Hierarchies.{covers, leaf, upward};
-ghost use Rattle.book.specs.Head.{countIn, isDataLeaf, parentIn, supportOf, supports};
+ghost use Rattle.book.specs.Hierarchies.{leaf};
+ghost use Rattle.book.specs.Head.{supportOf};
+ghost use Rattle.book.specs.Inner.Reading.{countIn, parentIn};
+ghost use Rattle.book.specs.Inner.Words.{Subtrees, Supports};
 
-// A set of categories with i added where its parent p is a lower member.
-fn with_child(set: u64, p: usize, i: usize) -> u64
-    ensures { λ r. ⌜ ((j : ℕ) → has r j ≡ (has set j || (ltb j 64 && (eqb j i && (ltb p i && has set p))))) ⌝ }
+// For each category the set of those under it, itself among them. From the highest number down, each
+// adds to its parent what it has: by then all its children have added theirs. A root adds to itself.
+pub fn descendants(head: &[u8], which: Hierarchy) -> [u64; 64]
+    ensures { λ r. ⌜ Subtrees which (now (head .entry)) r ⌝ }
 {
-    if i <= p {
-        return set;
+    let n = smaller(count(head, which), 64);
+    let mut words = [0u64; 64];
+    let mut i = n;
+    while 0 < i {
+        i = i - 1;
+        let p = smaller(parent(head, which, i as u8), i);
+        let one = single(i);
+        let own = words[i] | one;
+        words[i] = own;
+        words[p] = words[p] | own;
     }
-    if contains(set, p) {
-        return set | single(i);
-    }
-    set
-}
-
-// The categories of a set with all their descendants: those from which the way up meets the set.
-pub fn descendants(head: &[u8], which: Hierarchy, set: u64) -> u64
-    ensures { λ r. ⌜ WordOf (λ i. any (has set) (upward (parentIn which (now (head .entry))) i)) r ⌝ }
-{
-    let mut found = set;
-    for i in 0..64usize {
-        let p = parent(head, which, i as u8);
-        found = with_child(found, p, i);
-    }
-    found
-}
-
-// A category with its descendants, less the excluded ones with theirs.
-pub fn covered(head: &[u8], which: Hierarchy, c: usize, excluded: &[u8]) -> u64
-    ensures { λ r. ⌜ WordOf (covers (parentIn which (now (head .entry))) c (now (excluded .entry))) r ⌝ }
-{
-    let inside = descendants(head, which, single(c));
-    let outside = descendants(head, which, set_of(excluded));
-    inside & !outside
+    words
 }
 
 // A set of categories with i's parent p added; a root names itself and does not count.
@@ -87,29 +70,14 @@ pub fn support(head: &[u8], d: u8) -> u64
     own
 }
 
-// Sixteen words, with a leaf added to those whose number is an operation of the mask.
-fn with_leaf(words: [u64; 16], leaf: u64, mask: u64) -> [u64; 16]
-    ensures { λ r. ⌜ ((k : ℕ) → k < 16 → getD r k 0 ≡ bitOr (getD words k 0) (cond (has mask k) leaf 0)) ⌝ }
+// For each data category what it supports.
+pub fn supports(head: &[u8]) -> [u64; 64]
+    ensures { λ r. ⌜ Supports (now (head .entry)) r ⌝ }
 {
-    let mut next = words;
-    for k in 0..16usize {
-        if contains(mask, k) {
-            next[k] = words[k] | leaf;
-        }
-    }
-    next
-}
-
-// For each operation the data leaves that support it.
-pub fn supporters(head: &[u8]) -> [u64; 16]
-    ensures { λ r. ⌜ ((k : ℕ) → k < 16 → WordOf (λ d. isDataLeaf (now (head .entry)) d && supports (now (head .entry)) d k) (getD r k 0)) ⌝ }
-{
-    let all = leaves(head, Hierarchy::Data);
-    let mut words = [0u64; 16];
-    for d in 0..64usize {
-        let leaf = all & single(d);
-        let next = with_leaf(words, leaf, support(head, d as u8));
-        words = next;
+    let n = smaller(count(head, Hierarchy::Data), 64);
+    let mut words = [0u64; 64];
+    for d in 0..n {
+        words[d] = support(head, d as u8);
     }
     words
 }

@@ -3,42 +3,35 @@ use crate::BLOCK_CHECK;
 use crate::BLOCK_KIND;
 use crate::BOOK_LENGTH;
 use crate::Checked;
-use crate::Refusal;
+use crate::Tested;
 use crate::bytes::byte_at;
-use crate::bytes::less;
-use crate::contents::content_fault;
 use crate::fields::block_at;
 use crate::fields::head_of;
+use crate::fields::rule_count;
+use crate::head_tests::test_columns_block;
+use crate::head_tests::test_data_block;
+use crate::head_tests::test_functions_block;
+use crate::head_tests::test_users_block;
+use crate::rule_tests::test_rule_block;
 use crate::sealing::check_holds;
+use crate::testing::or_else;
+use crate::testing::refused;
+use crate::testing::test;
+use crate::words::head_words;
 ghost use mathlib.Core.Path.{_≡_};
-ghost use Prim.Native.Nat.{ℕ, _-_, _<_};
-ghost use mathlib.Core.List.{_∷_, []};
-ghost use Rattle.book.specs.Lists.{upTo};
-ghost use Rattle.book.specs.Refusals.{firstFailing, kindHolds, lengthHolds, passTests};
-ghost use Rattle.book.specs.Answers.{atPlaces, checkAnswer, orElse};
-ghost use Rattle.book.specs.declared.Checked.the-variants.{Accepted};
+ghost use Rattle.book.specs.Lists.{flat, upTo};
+ghost use Rattle.book.specs.Blocks.{headOf};
+ghost use Rattle.book.specs.Tests.{firstFailing};
+ghost use Rattle.book.specs.Refusals.{bookTests, kindHolds, lengthHolds};
+ghost use Rattle.book.specs.Answers.{checkAnswer};
+ghost use Rattle.book.specs.Inner.Words.{HeadWords};
+ghost use Rattle.book.specs.Inner.Testing.{ContentsAt, OutcomeAt, passTests};
 
 // The three passes over the blocks: the checks, the kinds, what the blocks hold.
 pub enum Pass {
     Checks,
     Kinds,
     Contents,
-}
-
-pub fn refused(number: u32, place: u32) -> Checked
-    ensures { λ r. ⌜ r ≡ Checked.Refused (record { number = number; place = place }) ⌝ }
-{
-    Checked::Refused(Refusal { number, place })
-}
-
-// The first of two answers that refuses; the second where none does.
-pub fn or_else(first: Checked, second: Checked) -> Checked
-    ensures { λ r. ⌜ r ≡ orElse first second ⌝ }
-{
-    match first {
-        Checked::Accepted(_) => second,
-        Checked::Refused(refusal) => Checked::Refused(refusal),
-    }
 }
 
 fn kind_holds(i: u8, kind: usize) -> bool
@@ -50,38 +43,43 @@ fn kind_holds(i: u8, kind: usize) -> bool
     kind == 5
 }
 
-fn fault_unless(passed: bool, number: u32) -> u32
-    ensures { λ r. ⌜ r ≡ firstFailing ((number, passed) ∷ []) ⌝ }
+// The tests 4 to 9 of block i.
+fn test_contents(head: &[u8], t: &[u64], block: &[u8], i: u8) -> Tested
+    ensures { λ r. ⌜ ContentsAt (now (head .entry)) (now (t .entry)) (now (block .entry)) i r ⌝ }
 {
-    if passed {
-        return 0;
+    match i {
+        0 => test_users_block(head),
+        1 => test_data_block(head),
+        2 => test_columns_block(head, t),
+        3 => test_functions_block(head),
+        _ => test_rule_block(t, block, i as u32),
     }
-    number
 }
 
-// The first failing test of block i in a pass, or 0, given that the lower blocks have passed.
-fn fault_at(book: &[u8], pass: Pass, i: u8) -> u32
-    ensures { λ r. ⌜ (((j : ℕ) → j < i → firstFailing (passTests pass (now (book .entry)) j) ≡ 0) → r ≡ firstFailing (passTests pass (now (book .entry)) i)) ⌝ }
+// The tests of block i in a pass, given that the lower blocks have passed.
+fn test_block(book: &[u8], t: &[u64], pass: Pass, i: u8) -> Tested
+    ensures { λ r. ⌜ OutcomeAt pass (now (book .entry)) (now (t .entry)) i r ⌝ }
 {
     let block = block_at(book, i);
     match pass {
-        Pass::Checks => fault_unless(check_holds(block), BLOCK_CHECK),
-        Pass::Kinds => fault_unless(kind_holds(i, byte_at(block, 0)), BLOCK_KIND),
-        Pass::Contents => content_fault(head_of(book), block, i),
+        Pass::Checks => test(BLOCK_CHECK, i as u32, check_holds(block)),
+        Pass::Kinds => test(BLOCK_KIND, i as u32, kind_holds(i, byte_at(block, 0))),
+        Pass::Contents => test_contents(head_of(book), t, block, i),
     }
 }
 
 // One pass over n blocks: the lowest that fails is refused.
-fn pass_over(book: &[u8], pass: Pass, n: u8) -> Checked
-    ensures { λ r. ⌜ r ≡ atPlaces (passTests pass (now (book .entry))) (upTo n) (Accepted (n - 4)) ⌝ }
+fn pass_over(book: &[u8], t: &[u64], pass: Pass, n: u8) -> Tested
+    ensures { λ r. ⌜ (HeadWords (headOf (now (book .entry))) (now (t .entry))
+        → r ≡ firstFailing (flat (passTests pass (now (book .entry))) (upTo n))) ⌝ }
 {
     for i in 0..n {
-        let fault = fault_at(book, pass, i);
-        if fault != 0 {
-            return refused(fault, i as u32);
+        let outcome = test_block(book, t, pass, i);
+        if let Tested::Refused(refusal) = outcome {
+            return Tested::Refused(refusal);
         }
     }
-    Checked::Accepted(less(n as usize, 4) as u32)
+    Tested::Passed
 }
 
 fn length_holds(n: usize) -> bool
@@ -90,16 +88,29 @@ fn length_holds(n: usize) -> bool
     (n % 512 == 0) & ((4 <= n / 512) & (n / 512 <= 36))
 }
 
-// Book check. Any bytes are taken, and nothing is written.
-pub fn check(book: &[u8]) -> Checked
-    ensures { λ r. ⌜ r ≡ checkAnswer (now (book .entry)) ⌝ }
+// The tests 1 to 9, by the words of the book's head.
+pub fn test_book(book: &[u8], t: &[u64]) -> Tested
+    ensures { λ r. ⌜ (HeadWords (headOf (now (book .entry))) (now (t .entry))
+        → r ≡ firstFailing (bookTests (now (book .entry)))) ⌝ }
 {
     if !length_holds(book.len()) {
         return refused(BOOK_LENGTH, 0);
     }
     let n = (book.len() / 512) as u8;
-    let checks = pass_over(book, Pass::Checks, n);
-    let kinds = pass_over(book, Pass::Kinds, n);
-    let contents = pass_over(book, Pass::Contents, n);
-    or_else(checks, or_else(kinds, contents))
+    let checks = pass_over(book, t, Pass::Checks, n);
+    let kinds = pass_over(book, t, Pass::Kinds, n);
+    let contents = pass_over(book, t, Pass::Contents, n);
+    or_else(or_else(checks, kinds), contents)
+}
+
+// Book check. Any bytes are taken, and nothing is written.
+pub fn check(book: &[u8]) -> Checked
+    ensures { λ r. ⌜ r ≡ checkAnswer (now (book .entry)) ⌝ }
+{
+    let t = head_words(head_of(book));
+    let outcome = test_book(book, &t);
+    match outcome {
+        Tested::Passed => Checked::Accepted(rule_count(book) as u32),
+        Tested::Refused(refusal) => Checked::Refused(refusal),
+    }
 }

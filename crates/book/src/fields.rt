@@ -1,15 +1,17 @@
-// The blocks of a book, and the fields of the head blocks and of a rule block, read at any index. `head` is the first four
-// blocks of a book, `rule` one rule block; both may have any length. The numbers of a book are
-// bytes, so an index is a u8.
+// The blocks of a book, and the fields of the head blocks and of a rule block, read at any index.
+// `head` is the first four blocks of a book, `rule` one rule block; both may have any length. The
+// numbers of a book are bytes, so an index is a u8.
 use crate::Hierarchy;
 use crate::bytes::byte_at;
 use crate::bytes::part;
+use crate::bytes::saturating_sub;
 ghost use mathlib.Core.Path.{_≡_};
 ghost use Prim.Native.Nat.{_≤_, _<_};
-ghost use Rattle.book.specs.Blocks.{blockAt, headOf, ruleAt};
-ghost use Rattle.book.specs.Head.{columnCount, countIn, functionCount, label, operation, ownOperations, parentIn};
-ghost use Rattle.book.specs.Rule.{action, dataCategory, excludedUserCount, excludedUsers, exclusionCount, exclusions};
-ghost use Rattle.book.specs.Rule.{referenceCount, restrictionCount, restrictionMask, userCategory};
+ghost use Rattle.book.specs.Blocks.{blockAt, headOf, ruleAt, ruleCount};
+ghost use Rattle.book.specs.Head.{columnCount, functionCount, label, operation, ownOperations};
+ghost use Rattle.book.specs.Rule.{action, dataCategory, excludedUserCount, excludedUsers, exclusionCount};
+ghost use Rattle.book.specs.Rule.{exclusions, referenceCount, restrictionCount, restrictionMask, userCategory};
+ghost use Rattle.book.specs.Inner.Reading.{countIn, parentIn};
 
 // The four head blocks.
 pub fn head_of(book: &[u8]) -> &[u8]
@@ -31,6 +33,17 @@ pub fn rule_at(book: &[u8], r: u8) -> &[u8]
 {
     let at = r as usize;
     part(book, 512 * (4 + at), 512)
+}
+
+// The number of rules of an accepted book.
+pub fn rule_count(book: &[u8]) -> u8
+    ensures { λ r. ⌜ (ruleCount (now (book .entry)) ≤ 32 → r ≡ ruleCount (now (book .entry))) × (r ≤ 32) ⌝ }
+{
+    let n = saturating_sub(book.len() / 512, 4);
+    if 32 < n {
+        return 0;
+    }
+    n as u8
 }
 
 pub fn count(head: &[u8], which: Hierarchy) -> usize

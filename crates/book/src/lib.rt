@@ -6,11 +6,14 @@
 pub mod bytes; // bytes of a slice at any index
 pub mod categories; // the two hierarchies: descendants, leaves, support
 pub mod checking; // Book check
-pub mod contents; // the tests of the head blocks and of a rule block
 pub mod fields; // the fields of the head blocks and of a rule block
+pub mod head_tests; // the tests of the head blocks
+pub mod rule_tests; // the tests of a rule block
 pub mod rules; // the leaf set of a reference, the users of a rule
 pub mod sealing; // the check of a block, and Seal
 pub mod sets; // sets of small numbers as words
+pub mod testing; // tests and their outcome
+pub mod words; // the words of a head, filled once a call
 
 pub use checking::check;
 pub use sealing::seal;
@@ -19,6 +22,12 @@ pub use sealing::seal;
 pub struct Refusal {
     pub number: u32,
     pub place: u32,
+}
+
+// The outcome of a list of tests: none fails, or the refusal of the first that does.
+pub enum Tested {
+    Passed,
+    Refused(Refusal),
 }
 
 // What Book check answers: the number of rules, or the refusal that comes first.

@@ -1,7 +1,8 @@
 // Sets of numbers below 64, as words: number i is a member when bit i is set.
 ghost use mathlib.Core.Path.{_≡_};
+ghost use mathlib.Core.Bool.{cond};
 ghost use lib.Dec.{eqb, ltb};
-ghost use Rattle.book.specs.Lists.{any};
+ghost use lib.ListN.{getD};
 ghost use Rattle.book.specs.Sets.{has, WordOf};
 
 pub fn contains(set: u64, i: usize) -> bool
@@ -33,13 +34,22 @@ pub fn below(n: usize) -> u64
     (1u64 << n) - 1
 }
 
-// The bytes of a list that are below 64.
-pub fn set_of(list: &[u8]) -> u64
-    ensures { λ r. ⌜ WordOf (λ j. any (eqb j) (now (list .entry))) r ⌝ }
+// A word, or the empty one.
+pub fn word_if(wanted: bool, word: u64) -> u64
+    ensures { λ r. ⌜ r ≡ cond wanted word 0 ⌝ }
 {
-    let mut set = 0u64;
-    for i in 0..list.len() {
-        set = set | single(list[i] as usize);
+    if wanted {
+        return word;
     }
-    set
+    0
+}
+
+// The word at i, or 0 past the end.
+pub fn word_at(s: &[u64], i: usize) -> u64
+    ensures { λ r. ⌜ r ≡ getD (now (s .entry)) i 0 ⌝ }
+{
+    if i < s.len() {
+        return s[i];
+    }
+    0
 }

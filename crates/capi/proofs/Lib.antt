@@ -1,3 +1,4 @@
 pub mod Bounds
 pub mod PackedLaws
 pub mod Unpacking
+pub mod Headline

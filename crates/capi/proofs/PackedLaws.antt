@@ -21,7 +21,7 @@ use Rattle.search.specs.declared.Idleness.{Idleness}
 use Rattle.search.specs.declared.Idleness.the-variants as idleness
 use Rattle.capi.specs.Packing.{packed, refusalPacked, checkPacked, sealPacked, flowsPacked, judgePacked}
 use Rattle.capi.specs.Packing.{idlePacked}
-use Rattle.capi.proofs.Bounds.{Small, check-bounded, seal-small, flows-small, judge-small, idle-small}
+use Rattle.capi.proofs.Bounds.{Small, check-small, seal-small, flows-small, judge-small, idle-small}
 
 -- below 256 a number is its last byte
 pub refusal-packed :
@@ -42,7 +42,7 @@ small-packs r x s p = p (s .number-small) (s .place-small)
 module _ (book : List ℕ) (a : Checked) (same : a ≡ checkAnswer book) where
   pub check-refused : (x : Refusal) (r : ℕ) → a ≡ checked.Refused x → Packs r x → r ≡ checkPacked (checkAnswer book)
   unfolding checkPacked
-  check-refused x r e p = let h = sym same ∙ e in rw h (small-packs r x (check-bounded book x h) p)
+  check-refused x r e p = let h = sym same ∙ e in rw h (small-packs r x (check-small book x h) p)
 
   pub check-accepted : (n : ℕ) → a ≡ checked.Accepted n → n ≡ checkPacked (checkAnswer book)
   unfolding checkPacked packed
@@ -61,7 +61,7 @@ module _ (book plan words : List ℕ) (a : Flowed) (same : a ≡ flowsAnswer boo
   pub flows-refused :
       (x : Refusal) (r : ℕ) → a ≡ flowed.Refused x → Packs r x → r ≡ flowsPacked (flowsAnswer book plan words)
   unfolding flowsPacked
-  flows-refused x r e p = let h = sym same ∙ e in rw h (small-packs r x (flows-small book x plan words h) p)
+  flows-refused x r e p = let h = sym same ∙ e in rw h (small-packs r x (flows-small book plan words x h) p)
 
   pub flows-done : a ≡ flowed.Done → 0 ≡ flowsPacked (flowsAnswer book plan words)
   unfolding flowsPacked packed
@@ -71,7 +71,7 @@ module _ (book : List ℕ) (user : ℕ) (plan : List ℕ) (a : Judged) (same : a
   pub judge-refused :
       (x : Refusal) (r : ℕ) → a ≡ judged.Refused x → Packs r x → r ≡ judgePacked (judgeAnswer book user plan)
   unfolding judgePacked
-  judge-refused x r e p = let h = sym same ∙ e in rw h (small-packs r x (judge-small book x user plan h) p)
+  judge-refused x r e p = let h = sym same ∙ e in rw h (small-packs r x (judge-small book user plan x h) p)
 
   pub judge-broken : (mask : ℕ) → a ≡ judged.Broken mask → mask ≡ judgePacked (judgeAnswer book user plan)
   unfolding judgePacked packed
@@ -81,7 +81,7 @@ module _ (book : List ℕ) (rule : ℕ) (buffer : List ℕ) (a : Idleness) (same
   pub idle-refused :
       (x : Refusal) (r : ℕ) → a ≡ idleness.Refused x → Packs r x → r ≡ idlePacked (idleAnswer book rule buffer)
   unfolding idlePacked
-  idle-refused x r e p = let h = sym same ∙ e in rw h (small-packs r x (idle-small book x rule buffer h) p)
+  idle-refused x r e p = let h = sym same ∙ e in rw h (small-packs r x (idle-small book rule buffer x h) p)
 
   pub idle-idle : a ≡ idleness.Idle → 0 ≡ idlePacked (idleAnswer book rule buffer)
   unfolding idlePacked packed

@@ -3,42 +3,45 @@
 use Prim.Native.Nat.{ℕ, zero, suc, _+_, _*_, _/_, _%_, _≤_, _<_}
 use native.Mathlib.Nat.{lt-of-lt-of-le}
 use native.Mathlib.Omega.{arith}
-use mathlib.Core.Path.{_≡_, refl}
+use mathlib.Core.Path.{_≡_, refl, sym, _∙_}
 use mathlib.Core.Bool.{Bool, true, false, cond, false≢true}
 use mathlib.Core.List.{List, [], _∷_, _++_}
 use lib.ListN.{length, length-append}
 use lib.Dec.{eqb}
 use lib.Pow.{pow-mono}
-use Rattle.book.specs.Blocks.{headOf, ruleAt}
+use Rattle.book.specs.Blocks.{headOf, ruleAt, ruleCount}
 use Rattle.book.specs.Head.{userCount}
 use Rattle.book.specs.Rule.{referenceCount}
-use Rattle.book.specs.Answers.{checkAnswer, ruleCount, sealAnswer}
+use Rattle.book.specs.Answers.{checkAnswer, sealAnswer}
 use Rattle.book.specs.declared.Refusal.{Refusal}
-use Rattle.book.specs.declared.Checked.{Checked}
 use Rattle.book.specs.declared.Checked.the-variants as checked
 use Rattle.book.specs.declared.Sealed.the-variants as sealed
-use Rattle.book.proofs.Accepted.{accepted-head, accepted-length, accepted-rule, accepted-rules}
+use Rattle.book.proofs.Accepted.{accepted-head, accepted-length, accepted-rule}
+use Rattle.book.proofs.CheckLaws.{accepted-passes}
 use Rattle.lineage.specs.Rows.{rowCount}
 use Rattle.lineage.specs.Answers.{flowsAnswer}
 use Rattle.lineage.specs.declared.Flowed.the-variants as flowed
 use Rattle.lineage.proofs.Words.{word-of}
 use Rattle.verdicts.specs.Accesses.{Access, accessesOf}
 use Rattle.verdicts.specs.Breaking.{breaks, brokenMask}
-use Rattle.verdicts.specs.Answers.{judgeCheck, judgedOf, judgeAnswer}
+use Rattle.verdicts.specs.Answers.{judgeAnswer}
 use Rattle.verdicts.specs.declared.Judged.the-variants as judged
-use Rattle.verdicts.proofs.JudgeLaws.{judge-accepted}
+use Rattle.verdicts.proofs.Gate.{judged-accepted}
+use Rattle.verdicts.proofs.JudgeLaws.{judge-answer, judge-passes}
 use Rattle.verdicts.proofs.Sound.{few-rules}
 use Rattle.search.specs.Choices.{Candidate, isChoice, isChoiceFrom}
 use Rattle.search.specs.Shown.{shownPlan, shownFrom, accessRows, columnRow, applyRow, lastRow, rowsOf}
 use Rattle.search.specs.Alone.{First, none, shown, firstAlone}
-use Rattle.search.specs.Answers.{idleCheck, idlenessOf, refusedOr, idleAnswer}
+use Rattle.search.specs.Answers.{idlenessOf, idleAnswer}
+use Rattle.search.specs.Demand.{IdleAccepted}
 use Rattle.search.specs.declared.Idleness.the-variants as idleness
-use Rattle.search.proofs.IdleLaws.{idle-holds}
+use Rattle.search.proofs.DemandLaws.{idle-answer}
+use Rattle.search.proofs.IdleLaws.{idle-told}
 use Rattle.search.proofs.Orders.{shown-alone, user-below}
 use Rattle.search.proofs.ShownPlans.{shown-few}
 use Rattle.capi.specs.Packing.{packed, refusalPacked, checkPacked, sealPacked, flowsPacked, judgePacked}
 use Rattle.capi.specs.Packing.{idlePacked}
-use Rattle.capi.proofs.Bounds.{Small, check-bounded, seal-small, flows-small, judge-small, idle-small}
+use Rattle.capi.proofs.Bounds.{Small, check-small, seal-small, flows-small, judge-small, idle-small}
 
 -- what is taken out of r: the bits from 40 on, the 8 bits from 32 on, the low 32 bits
 pub record Parts (r number place value : ℕ) : Type 0 where
@@ -66,7 +69,7 @@ module _ (x : Refusal) where
   pub check-refused-parts :
       (book : List ℕ) → checkAnswer book ≡ checked.Refused x → Refuses (checkPacked (checkAnswer book)) x
   unfolding checkPacked
-  check-refused-parts book h = rw h (refusal-parts x (check-bounded book x h))
+  check-refused-parts book h = rw h (refusal-parts x (check-small book x h))
 
   pub seal-refused-parts :
       (block : List ℕ) → sealAnswer block ≡ sealed.Refused x → Refuses (sealPacked (sealAnswer block)) x
@@ -78,21 +81,21 @@ module _ (x : Refusal) where
       → flowsAnswer book plan words ≡ flowed.Refused x
       → Refuses (flowsPacked (flowsAnswer book plan words)) x
   unfolding flowsPacked
-  flows-refused-parts book plan words h = rw h (refusal-parts x (flows-small book x plan words h))
+  flows-refused-parts book plan words h = rw h (refusal-parts x (flows-small book plan words x h))
 
   pub judge-refused-parts :
       (book : List ℕ) (user : ℕ) (plan : List ℕ)
       → judgeAnswer book user plan ≡ judged.Refused x
       → Refuses (judgePacked (judgeAnswer book user plan)) x
   unfolding judgePacked
-  judge-refused-parts book user plan h = rw h (refusal-parts x (judge-small book x user plan h))
+  judge-refused-parts book user plan h = rw h (refusal-parts x (judge-small book user plan x h))
 
   pub idle-refused-parts :
       (book : List ℕ) (r : ℕ) (buffer : List ℕ)
       → idleAnswer book r buffer ≡ idleness.Refused x
       → Refuses (idlePacked (idleAnswer book r buffer)) x
   unfolding idlePacked
-  idle-refused-parts book r buffer h = rw h (refusal-parts x (idle-small book x r buffer h))
+  idle-refused-parts book r buffer h = rw h (refusal-parts x (idle-small book r buffer x h))
 
 -- Book check: the number of rules
 
@@ -102,38 +105,31 @@ pub check-parts :
     → Parts (checkPacked (checkAnswer book)) 0 0 n × (n ≤ 32)
 unfolding checkPacked
 check-parts book n h =
-    let most = accepted-length book n h .1 in
-    (rw h (packed-parts 0 0 n (omega arith) (omega arith)), most)
+    let told = accepted-passes book n h in
+    let most = accepted-length book (told .0) .1 in
+    let e = told .1 in
+    (rw h (packed-parts 0 0 n (omega arith) (omega arith)), omega arith)
 
 -- Judge: the mask has 32 bits
 
-mask-fits :
-    (book : List ℕ) (n : ℕ)
-    → checkAnswer book ≡ checked.Accepted n
-    → (user : ℕ) (plan : List ℕ)
-    → brokenMask book (ruleCount book) user (accessesOf (headOf book) plan) < 4294967296
+pub judge-mask :
+    (book : List ℕ) (user : ℕ) (plan : List ℕ) (mask : ℕ) → judgeAnswer book user plan ≡ judged.Broken mask → mask < 4294967296
 unfolding brokenMask
-mask-fits book n accepted user plan =
+judge-mask book user plan mask h =
+    let given = judged-accepted book user plan mask h in
     let broken : ℕ → Bool = λ r. breaks (headOf book) (ruleAt book r) user (accessesOf (headOf book) plan) in
-    lt-of-lt-of-le (word-of broken (ruleCount book) .0) (pow-mono (few-rules book n accepted))
+    let a : judged.Broken mask ≡ judged.Broken (brokenMask book user (accessesOf (headOf book) plan)) =
+    sym h ∙ judge-answer book user plan (judge-passes book user plan given) in
+    let same : mask ≡ brokenMask book user (accessesOf (headOf book) plan) = cc in
+    rw same
+    (lt-of-lt-of-le (word-of broken (ruleCount book) .0) (pow-mono (few-rules book (given .book-accepted))))
 
 pub judge-parts :
     (book : List ℕ) (user : ℕ) (plan : List ℕ) (mask : ℕ)
     → judgeAnswer book user plan ≡ judged.Broken mask
     → Parts (judgePacked (judgeAnswer book user plan)) 0 0 mask
-unfolding judgePacked judgeAnswer judgedOf
-judge-parts book user plan mask h =
-    rw h (packed-parts 0 0 mask (omega arith) (go (judgeCheck book user plan) refl h))
-  where
-    go : (a : Checked)
-        → judgeCheck book user plan ≡ a
-        → judgedOf a (brokenMask book (ruleCount book) user (accessesOf (headOf book) plan)) ≡ judged.Broken mask
-        → mask < 4294967296
-    go (checked.Accepted n) e a =
-        let same : brokenMask book (ruleCount book) user (accessesOf (headOf book) plan) ≡ mask = cc in
-        let both = judge-accepted book user plan n e in
-        rw same at (mask-fits book (both .0 .0) (both .0 .1) user plan)
-    go (checked.Refused refusal) e a = let z : _≡_ {A = ℕ} 0 1 = cc in absurd (omega arith)
+unfolding judgePacked
+judge-parts book user plan mask h = rw h (packed-parts 0 0 mask (omega arith) (judge-mask book user plan mask h))
 
 -- Idle: user and rows are small, and there are rows, so that r is not idle's 0
 
@@ -167,28 +163,30 @@ pub idle-parts :
     × (user < 32)
     × (2 ≤ rows)
     × (rows ≤ 9)
-unfolding idlePacked idleAnswer refusedOr idlenessOf
+unfolding idlePacked idlenessOf
 idle-parts book r buffer user rows h =
-    let s = go (idleCheck book r buffer) (firstAlone book r) refl refl h in
+    let given = idle-told book r buffer (λ x e. unlike x (sym h ∙ e)) in
+    let s = go (firstAlone book r) refl given (sym (idle-answer book r buffer given) ∙ h) in
     (rw h (packed-parts 0 0 (256 * user + rows) (omega arith) (omega arith)), s .0, s .1, s .2)
   where
-    go : (a : Checked) (f : First Candidate)
-        → idleCheck book r buffer ≡ a
+    unlike : (x : Refusal) → idleness.Needed user rows ≡ idleness.Refused x → ⊥
+    unlike x e = let z : _≡_ {A = ℕ} 0 1 = cc in omega arith
+
+    go :
+        (f : First Candidate)
         → firstAlone book r ≡ f
-        → refusedOr a (idlenessOf (headOf book) f) ≡ idleness.Needed user rows
+        → IdleAccepted book r buffer
+        → idlenessOf (headOf book) f ≡ idleness.Needed user rows
         → (user < 32) × (2 ≤ rows) × (rows ≤ 9)
-    go (checked.Refused refusal) f e g a = let z : _≡_ {A = ℕ} 0 1 = cc in absurd (omega arith)
-    go (checked.Accepted n) none e g a = let z : _≡_ {A = ℕ} 0 1 = cc in absurd (omega arith)
-    go (checked.Accepted n) (shown c) e g a =
+    go none g given a = let z : _≡_ {A = ℕ} 0 1 = cc in absurd (omega arith)
+    go (shown c) g given a =
         let eu : c .user ≡ user = cc in
         let er : rowCount (shownPlan (headOf book) (c .choice)) ≡ rows = cc in
-        let holds = idle-holds book r buffer n e in
-        let accepted = holds .book-accepted in
-        let there : r < ruleCount book = holds .rule-there in
-        let count = accepted-rules book (holds .rules) accepted in
-        let rule = accepted-rule book (holds .rules) accepted r (omega arith) in
-        let head = accepted-head book (holds .rules) accepted in
-        let s = shown-alone book (holds .rules) accepted r there c g in
+        let accepted = given .book-accepted in
+        let there : r < ruleCount book = given .rule-there in
+        let rule = accepted-rule book accepted r there in
+        let head = accepted-head book accepted in
+        let s = shown-alone book accepted r there c g in
         let below = user-below (headOf book) (c .user) (s .0) in
         let most : userCount (headOf book) ≤ 32 = head .users-most in
         let some = rows-some (headOf book) (ruleAt book r) (c .choice) (rule .references-some) (s .1) in

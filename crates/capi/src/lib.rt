@@ -1,5 +1,6 @@
-// The five calls for C and Rust, each answer packed in one number (specs/Packing.antt). A slice is a
-// pointer and a length in elements. No call asks anything of the bytes or the numbers it is given.
+// The five calls for C and Rust, each answer packed in one number (specs/Packing.antt). What the
+// numbers of Judge and Idle mean is specs/Demands.antt. A slice is a pointer and a length in elements.
+// No call asks anything of the bytes or the numbers it is given.
 use book::Checked;
 use book::Refusal;
 use book::Sealed;
@@ -17,7 +18,9 @@ ghost use Rattle.book.specs.Answers.{checkAnswer, sealAnswer, sealBytes};
 ghost use Rattle.lineage.specs.Answers.{flowsAnswer, flowsWords};
 ghost use Rattle.verdicts.specs.Answers.{judgeAnswer};
 ghost use Rattle.search.specs.Answers.{idleAnswer, idleBuffer};
-ghost use Rattle.capi.specs.Packing.{refusalPacked, checkPacked, sealPacked, flowsPacked, judgePacked, idlePacked};
+ghost use Rattle.capi.specs.Demands.{IdleSays, JudgeSays};
+ghost use Rattle.capi.specs.Packing.{checkPacked, flowsPacked, idlePacked, judgePacked, refusalPacked};
+ghost use Rattle.capi.specs.Packing.{sealPacked};
 
 // A refusal's number and place, above the value's 32 bits.
 fn packed(refusal: Refusal) -> u64
@@ -40,7 +43,8 @@ pub extern "C" fn pspec_check(book: &[u8]) -> u64
 
 #[no_mangle]
 pub extern "C" fn pspec_seal(block: &mut [u8]) -> u64
-    ensures { λ r. ⌜ (r ≡ sealPacked (sealAnswer (now (block .entry)))) × (now (block .exit) ≡ sealBytes (now (block .entry))) ⌝ }
+    ensures { λ r. ⌜ (r ≡ sealPacked (sealAnswer (now (block .entry))))
+        × (now (block .exit) ≡ sealBytes (now (block .entry))) ⌝ }
 {
     let answer = seal(block);
     match answer {
@@ -51,7 +55,8 @@ pub extern "C" fn pspec_seal(block: &mut [u8]) -> u64
 
 #[no_mangle]
 pub extern "C" fn pspec_flows(book: &[u8], plan: &[u8], words: &mut [u64]) -> u64
-    ensures { λ r. ⌜ (r ≡ flowsPacked (flowsAnswer (now (book .entry)) (now (plan .entry)) (now (words .entry)))) × (now (words .exit) ≡ flowsWords (now (book .entry)) (now (plan .entry)) (now (words .entry))) ⌝ }
+    ensures { λ r. ⌜ (r ≡ flowsPacked (flowsAnswer (now (book .entry)) (now (plan .entry)) (now (words .entry))))
+        × (now (words .exit) ≡ flowsWords (now (book .entry)) (now (plan .entry)) (now (words .entry))) ⌝ }
 {
     let answer = flows(book, plan, words);
     match answer {
@@ -62,7 +67,8 @@ pub extern "C" fn pspec_flows(book: &[u8], plan: &[u8], words: &mut [u64]) -> u6
 
 #[no_mangle]
 pub extern "C" fn pspec_judge(book: &[u8], user: u32, plan: &[u8]) -> u64
-    ensures { λ r. ⌜ r ≡ judgePacked (judgeAnswer (now (book .entry)) user (now (plan .entry))) ⌝ }
+    ensures { λ r. ⌜ (r ≡ judgePacked (judgeAnswer (now (book .entry)) user (now (plan .entry))))
+        × JudgeSays (now (book .entry)) user (now (plan .entry)) r ⌝ }
 {
     match judge(book, user, plan) {
         Judged::Refused(refusal) => packed(refusal),
@@ -72,7 +78,9 @@ pub extern "C" fn pspec_judge(book: &[u8], user: u32, plan: &[u8]) -> u64
 
 #[no_mangle]
 pub extern "C" fn pspec_idle(book: &[u8], rule: u32, buffer: &mut [u8]) -> u64
-    ensures { λ r. ⌜ (r ≡ idlePacked (idleAnswer (now (book .entry)) rule (now (buffer .entry)))) × (now (buffer .exit) ≡ idleBuffer (now (book .entry)) rule (now (buffer .entry))) ⌝ }
+    ensures { λ r. ⌜ (r ≡ idlePacked (idleAnswer (now (book .entry)) rule (now (buffer .entry))))
+        × (now (buffer .exit) ≡ idleBuffer (now (book .entry)) rule (now (buffer .entry)))
+        × IdleSays (now (book .entry)) rule (now (buffer .entry)) (now (buffer .exit)) r ⌝ }
 {
     let answer = idle(book, rule, buffer);
     match answer {

@@ -8,22 +8,18 @@ use mathlib.Core.List.{List, [], _∷_, _++_}
 use lib.ListN.{length, List·getD-eq-default}
 use lib.Dec.{eqb, ltb}
 use borrow.Author.Tests.{ltb-true, ltb-false, lt-ltb, eqb-true}
-use Rattle.book.specs.Lists.{upTo, all, any}
+use Rattle.book.specs.Lists.{flat, upTo, all, any}
 use Rattle.book.specs.Head.{operation, label, columnCount, functionCount, isDataLeaf}
-use Rattle.book.specs.Refusals.{labelHolds, firstFailing}
-use Rattle.book.specs.Answers.{atPlaces}
-use Rattle.book.specs.declared.Checked.{Checked}
-use Rattle.book.specs.declared.Checked.the-variants.{Accepted}
+use Rattle.book.specs.Refusals.{labelHolds}
 use Rattle.book.proofs.Lists.{and-true, and-left, and-both, or-end, append-all, all-one, map-all, any-found}
-use Rattle.book.proofs.Answers.{refuse-accepted, at-accepted}
-use Rattle.book.proofs.Tests.{first-passed}
+use Rattle.book.proofs.Answers.{first-passed, last-passed, passed-flat}
 use Rattle.book.proofs.Accepted.{HeadHolds}
 use Rattle.lineage.specs.Rows.{Kind, Column, Apply, Choose, Output, Condition, Unknown}
 use Rattle.lineage.specs.Rows.{rowCount, kindAt, kindOf, rowA, rowB, rowC, isValue, names, soundAs, rowHolds}
 use Rattle.lineage.specs.Paths.{Path, through, pathsBy, paths, labels, takes, firstOperation, carries}
 use Rattle.lineage.specs.Accesses.{reaches, gives}
-use Rattle.lineage.specs.Table.{Given, PlanSound}
-use Rattle.lineage.specs.Answers.{planLengthHolds, rowTests, planAnswer}
+use Rattle.lineage.specs.Inner.Table.{Given, PlanSound}
+use Rattle.lineage.specs.Answers.{PlanAccepted, planLengthHolds, rowTests, planTests}
 use Rattle.lineage.proofs.PlanLaws.{plan-length}
 use Rattle.lineage.proofs.Paths.{paths-step, reaches-past}
 
@@ -55,16 +51,6 @@ module _ (head plan : List ℕ) (i : ℕ) (holds : rowHolds head plan i ≡ true
       let b = and-both (names plan i (rowB plan i)) last (a .1) in
       (ltb-true (rowA plan i) (functionCount head) (a .0), b .0, b .1)
 
-  pub choose-holds :
-      kindAt plan i ≡ Choose →
-      (names plan i (rowA plan i) ≡ true) × (names plan i (rowB plan i) ≡ true) × (names plan i (rowC plan i) ≡ true)
-  unfolding rowHolds soundAs
-  choose-holds e =
-      let a =
-      and-both (names plan i (rowA plan i)) (names plan i (rowB plan i) && names plan i (rowC plan i)) (rw e at holds) in
-      let b = and-both (names plan i (rowB plan i)) (names plan i (rowC plan i)) (a .1) in
-      (a .0, b .0, b .1)
-
   -- a row that gives accesses gives those of a row that it names
   pub gives-names : (s : ℕ) → gives (kindAt plan i) s ≡ true → names plan i (rowA plan i) ≡ true
   unfolding rowHolds soundAs gives
@@ -92,24 +78,17 @@ pub record PlanHolds (head plan : List ℕ) : Type 0 where
   pub short : length plan ≤ 256
   pub rows : (i : ℕ) → i < rowCount plan → rowHolds head plan i ≡ true
 
-pub accepted-plan :
-    (head plan : List ℕ) (n : ℕ) → planAnswer head plan ≡ Accepted n → (n ≡ rowCount plan) × PlanHolds head plan
-unfolding planAnswer rowTests
-accepted-plan head plan n h =
-    let long = planLengthHolds (length plan) in
-    let last : Checked = Accepted (rowCount plan) in
-    let blocks = atPlaces (rowTests head plan) (upTo (rowCount plan)) last in
-    let first = refuse-accepted (firstFailing ((21, long) ∷ [])) 0 blocks n h in
-    let each = at-accepted (rowTests head plan) (rowCount plan) last n (first .1) in
-    let e : Accepted (rowCount plan) ≡ Accepted n = each .1 in
-    let bounds = plan-length (length plan) (first-passed 20 long [] (first .0) .0) in (
-      cc,
-      record {
-        whole = bounds .0;
-        short = bounds .1;
-        rows = λ i l. first-passed 21 (rowHolds head plan i) [] (each .0 i l) .0;
-      },
-    )
+pub accepted-plan : (head plan : List ℕ) → PlanAccepted head plan → PlanHolds head plan
+unfolding planTests rowTests
+accepted-plan head plan h =
+    let first = first-passed 21 0 (planLengthHolds (length plan)) (flat (rowTests head plan) (upTo (rowCount plan))) h in
+    let each = passed-flat (rowTests head plan) (rowCount plan) (first .1) in
+    let bounds = plan-length (length plan) (first .0) in
+    record {
+      whole = bounds .0;
+      short = bounds .1;
+      rows = λ i l. last-passed 22 i (rowHolds head plan i) (each i l);
+    }
 
 -- The paths of an accepted plan
 

@@ -1,4 +1,4 @@
--- Laws of a plan's tests: of kinds by their number, of a row by its kind, and of the answer for a plan. Assumes nothing.
+-- Laws of a plan's tests: of kinds by their number, of a row by its kind, and of a plan. Assumes nothing.
 use Prim.Native.Nat.{ℕ, zero, suc, _%_, _≤_}
 use native.Mathlib.Omega.{arith}
 use mathlib.Core.Path.{_≡_, refl}
@@ -7,14 +7,13 @@ use mathlib.Core.List.{List}
 use lib.ListN.{length}
 use lib.Dec.{eqb, leb}
 use borrow.Author.Tests.{lt-leb, leb-true, eqb-true}
-use Rattle.book.specs.Lists.{upTo}
-use Rattle.book.specs.Refusals.{firstFailing}
-use Rattle.book.specs.Answers.{refuse, atPlaces}
-use Rattle.book.specs.declared.Checked.the-variants.{Accepted, Refused}
+use Rattle.book.specs.Lists.{flat, upTo}
+use Rattle.book.specs.Tests.{Passes, firstFailing}
+use Rattle.book.specs.declared.Tested.the-variants.{Refused}
 use Rattle.book.proofs.Lists.{and-both, and-false}
 use Rattle.lineage.specs.Rows.{Unknown}
 use Rattle.lineage.specs.Rows.{rowCount, kindByte, kindOf, kindAt, rowA, rowB, rowC, isValue, soundAs, rowHolds}
-use Rattle.lineage.specs.Answers.{planLengthHolds, rowTests, planAnswer}
+use Rattle.lineage.specs.Answers.{planLengthHolds, rowTests, planTests}
 
 -- Kinds
 
@@ -51,15 +50,16 @@ module _ (head plan : List ℕ) (i : ℕ) where
   unfolding rowHolds kindAt
   holds-as n e = rw e
 
-  pub row-passed : rowHolds head plan i ≡ true → firstFailing (rowTests head plan i) ≡ 0
+  pub row-passed : rowHolds head plan i ≡ true → Passes (rowTests head plan i)
   unfolding firstFailing rowTests
   row-passed h = rw h
 
-  pub row-failed : rowHolds head plan i ≡ false → firstFailing (rowTests head plan i) ≡ 22
+  pub row-failed :
+      rowHolds head plan i ≡ false → firstFailing (rowTests head plan i) ≡ Refused (record { number = 22; place = i })
   unfolding firstFailing rowTests
   row-failed h = rw h
 
--- The answer
+-- The tests of a plan
 
 -- "not a multiple of 4 or above 256"
 pub plan-length : (n : ℕ) → planLengthHolds n ≡ true → (n % 4 ≡ 0) × (n ≤ 256)
@@ -70,12 +70,13 @@ plan-length n h =
 
 module _ (head plan : List ℕ) where
   pub plan-refused :
-      planLengthHolds (length plan) ≡ false → planAnswer head plan ≡ Refused (record { number = 21; place = 0 })
-  unfolding planAnswer firstFailing refuse
+      planLengthHolds (length plan) ≡ false
+      → firstFailing (planTests head plan) ≡ Refused (record { number = 21; place = 0 })
+  unfolding planTests firstFailing
   plan-refused h = rw h
 
   pub plan-rows :
-      planLengthHolds (length plan) ≡ true →
-      planAnswer head plan ≡ atPlaces (rowTests head plan) (upTo (rowCount plan)) (Accepted (rowCount plan))
-  unfolding planAnswer firstFailing refuse
+      planLengthHolds (length plan) ≡ true
+      → firstFailing (planTests head plan) ≡ firstFailing (flat (rowTests head plan) (upTo (rowCount plan)))
+  unfolding planTests firstFailing
   plan-rows h = rw h

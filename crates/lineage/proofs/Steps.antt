@@ -18,7 +18,8 @@ use Rattle.book.proofs.Members.{has-zero, has-and, has-or, has-minus}
 use Rattle.lineage.specs.Rows.{Column, Apply, Choose, isValue, kindAt, kindByte, kindOf, rowA, rowB, rowC}
 use Rattle.lineage.specs.Paths.{labels, takes}
 use Rattle.lineage.specs.Accesses.{reaches}
-use Rattle.lineage.specs.Table.{Moved, PlanSound, Reached, RowReached, Stored, Supporting}
+use Rattle.lineage.specs.Inner.Table.{Brought, Moved, PlanSound, Reached, RowReached, Stored}
+use Rattle.book.specs.Inner.Reading.{Supporting}
 use Rattle.lineage.proofs.Paths.{reaches-column, reaches-choose, reaches-apply, reaches-none}
 
 -- Column
@@ -180,21 +181,17 @@ module _ (head plan : List ℕ) (i : ℕ) where
       (ltb (rowB plan i) i && reaches head plan (rowB plan i) d k)
       || (ltb (rowC plan i) i && reaches head plan (rowC plan i) d k)
 
-  pub joined-words :
-      (table first second both : List ℕ) →
+  pub brought-words :
+      (table both : List ℕ) →
       Reached head plan i table →
-      ((k : ℕ) → k < 16 → getD first k 0 ≡ getD table (16 * rowB plan i + k) 0) →
-      ((k : ℕ) → k < 16 → getD second k 0 ≡ getD table (16 * rowC plan i + k) 0) →
-      ((k : ℕ) → k < 16 → getD both k 0 ≡ bitOr (getD first k 0) (getD second k 0)) →
+      Brought plan table i both →
       (k : ℕ) → k < 16 → WordOf (λ d. brought d k) (getD both k 0)
-  joined-words table first second both reached p q r k small d =
+  brought-words table both reached joined k small d =
       rw (
-        r k small,
-        p k small,
-        q k small,
+        joined (reached .whole) k small,
         has-or (getD table (16 * rowB plan i + k) 0) (getD table (16 * rowC plan i + k) 0) d,
-        reached (rowB plan i) k small d,
-        reached (rowC plan i) k small d,
+        reached .at (rowB plan i) k small d,
+        reached .at (rowC plan i) k small d,
       )
       (sym (and-or (ltb d 64) (ltb (rowB plan i) i && reaches head plan (rowB plan i) d k)
       (ltb (rowC plan i) i && reaches head plan (rowC plan i) d k)))
@@ -275,9 +272,14 @@ getD-zeros n j = go (ltb j n) refl
     go false t = List·getD-eq-default {A = ℕ} (replicate n 0) 0 (rw length-replicate (ltb-false j n t))
 
 module _ (head plan : List ℕ) where
-  pub reached-none : (n : ℕ) → Reached head plan 0 (replicate n 0)
-  reached-none n r k small d =
-      rw (getD-zeros n (16 * r + k), has-zero d, le-ltb r 0 (omega arith), and-false (ltb d 64))
+  pub reached-none : Reached head plan 0 (replicate 1024 0)
+  reached-none =
+      record {
+        whole = refl;
+        at =
+            λ r k small d.
+            rw (getD-zeros 1024 (16 * r + k), has-zero d, le-ltb r 0 (omega arith), and-false (ltb d 64));
+      }
 
   pub reached-more :
       (i : ℕ) (row before after : List ℕ) →
@@ -287,32 +289,37 @@ module _ (head plan : List ℕ) where
       RowReached head plan i row →
       Stored i row before after →
       Reached head plan (i + 1) after
-  reached-more i row before after size few reached row-at stored r k small d = go (ltb (16 * r + k) 1024) refl (eqb r i) refl
+  reached-more i row before after size few reached row-at stored =
+      record { whole = rw (stored .0) (reached .whole); at = each }
     where
-      whole : (16 * r + k) / 16 ≡ r
-      whole = omega arith
-
-      rest : (16 * r + k) % 16 ≡ k
-      rest = omega arith
-
       there :
+          (r k : ℕ) →
+          k < 16 →
           16 * r + k < 1024 →
           getD after (16 * r + k) 0 ≡ cond (eqb r i) (getD row k 0) (getD before (16 * r + k) 0)
-      there l = stored .1 (16 * r + k) (rw size l) ∙ rw (whole, rest)
+      there r k small l =
+          let quotient : (16 * r + k) / 16 ≡ r = omega arith in
+          let rest : (16 * r + k) % 16 ≡ k = omega arith in
+          stored .1 (reached .whole) (16 * r + k) (rw size l) ∙ rw (quotient, rest)
 
-      go :
-          (b : Bool) →
-          ltb (16 * r + k) 1024 ≡ b →
-          (t : Bool) →
-          eqb r i ≡ t →
-          has (getD after (16 * r + k) 0) d ≡ (ltb d 64 && (ltb r (i + 1) && reaches head plan r d k))
-      go true b true t =
-          let e : r ≡ i = eqb-true r i t in
-          rw (there (ltb-true (16 * r + k) 1024 b), t, lt-ltb r (i + 1) (omega arith)) (row-at k small d ∙ rw e)
-      go true b false t =
-          rw (there (ltb-true (16 * r + k) 1024 b), t, ltb-more r i (eqb-false r i t)) (reached r k small d)
-      go false b t q =
-          let l : 1024 ≤ 16 * r + k = ltb-false (16 * r + k) 1024 b in
-          let s : length after ≡ length before = stored .0 in
-          let past : length after ≤ 16 * r + k = omega arith in
-          rw (List·getD-eq-default after 0 past, has-zero d, le-ltb r (i + 1) (omega arith), and-false (ltb d 64))
+      each : (r k : ℕ) → k < 16 → WordOf (λ d. ltb r (i + 1) && reaches head plan r d k) (getD after (16 * r + k) 0)
+      each r k small d = go (ltb (16 * r + k) 1024) refl (eqb r i) refl
+        where
+          go :
+              (b : Bool) →
+              ltb (16 * r + k) 1024 ≡ b →
+              (t : Bool) →
+              eqb r i ≡ t →
+              has (getD after (16 * r + k) 0) d ≡ (ltb d 64 && (ltb r (i + 1) && reaches head plan r d k))
+          go true b true t =
+              let e : r ≡ i = eqb-true r i t in
+              rw (there r k small (ltb-true (16 * r + k) 1024 b), t, lt-ltb r (i + 1) (omega arith))
+              (row-at k small d ∙ rw e)
+          go true b false t =
+              rw (there r k small (ltb-true (16 * r + k) 1024 b), t, ltb-more r i (eqb-false r i t))
+              (reached .at r k small d)
+          go false b t q =
+              let l : 1024 ≤ 16 * r + k = ltb-false (16 * r + k) 1024 b in
+              let s : length after ≡ length before = stored .0 in
+              let past : length after ≤ 16 * r + k = omega arith in
+              rw (List·getD-eq-default after 0 past, has-zero d, le-ltb r (i + 1) (omega arith), and-false (ltb d 64))

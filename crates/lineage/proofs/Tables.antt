@@ -1,4 +1,4 @@
--- Laws of the loops that fill words: one element a turn, and one row of sixteen. Assumes nothing.
+-- Laws of the loops that fill words: one word a turn, and one row of sixteen. Assumes nothing.
 use Prim.Native.Nat.{ℕ, _+_, _*_, _/_, _%_, _≤_, _<_}
 use native.Mathlib.Omega.{arith}
 use native.Mathlib.Nat.{eq-or-lt-of-le}
@@ -6,43 +6,38 @@ use mathlib.Core.Path.{_≡_, refl, sym, ap, _∙_}
 use mathlib.Core.Logic.{⊎-elim}
 use mathlib.Core.Bool.{Bool, true, false, _&&_, cond}
 use mathlib.Core.List.{List}
-use lib.ListN.{length, getD, set, length-set}
+use lib.ListN.{length, getD, set, length-set, List·getD-eq-default}
 use lib.Seq.{getD-set-same, getD-set-other}
 use lib.Bits.{bitOr, or-zero-r}
 use lib.Dec.{eqb, ltb}
 use borrow.Author.Tests.{lt-ltb, le-ltb, eqb-true, eqb-false, eq-eqb, ne-eqb}
 use Rattle.book.proofs.Lists.{and-end, and-false, ltb-more}
 
--- the first k of n elements are f's
+-- the first k of n words have a property
 
-pub record Filled (n : ℕ) (f : ℕ → ℕ) (l : List ℕ) (k : ℕ) : Type 0 where
+pub record Filled (n : ℕ) (P : ℕ → ℕ → Type 0) (l : List ℕ) (k : ℕ) : Type 0 where
   pub bound : k ≤ n
   pub size : length l ≡ n
-  pub at : (j : ℕ) → j < k → getD l j 0 ≡ f j
+  pub at : (j : ℕ) → j < k → P j (getD l j 0)
 
-pub fill-none : {n : ℕ} {f : ℕ → ℕ} {l : List ℕ} → length l ≡ n → Filled n f l 0
+pub fill-none : {n : ℕ} {P : ℕ → ℕ → Type 0} {l : List ℕ} → length l ≡ n → Filled n P l 0
 fill-none e = record { bound = omega arith; size = e; at = λ j h. absurd (omega arith) }
 
 pub fill-more :
-    {n : ℕ} {f : ℕ → ℕ} {l : List ℕ} {k v : ℕ} → Filled n f l k → k < n → v ≡ f k → Filled n f (set l k v) (k + 1)
-fill-more {n} {f} {l} {k} {v} old h e =
-    let s : length l ≡ n = old .size in
+    {n : ℕ} {P : ℕ → ℕ → Type 0} {l : List ℕ} {k v : ℕ} →
+    Filled n P l k → k < n → P k v → Filled n P (set l k v) (k + 1)
+fill-more {n} {P} {l} {k} {v} old h p =
     record {
       bound = omega arith;
-      size = rw length-set s;
+      size = length-set l k v ∙ old .size;
       at = λ j m. go j (omega arith);
     }
   where
-    here : getD (set l k v) k 0 ≡ f k
-    here =
-        let s : length l ≡ n = old .size in
-        getD-set-same l k v 0 (omega arith) ∙ e
-
-    go : (j : ℕ) → j ≤ k → getD (set l k v) j 0 ≡ f j
+    go : (j : ℕ) → j ≤ k → P j (getD (set l k v) j 0)
     go j m =
         ⊎-elim
-        (λ (q : j ≡ k). rw q here)
-        (λ (q : j < k). getD-set-other l k j v 0 (λ z. omega arith) ∙ old .at j q)
+        (λ (q : j ≡ k). rw (q, getD-set-same l k v 0 (omega (arith, old .size))) p)
+        (λ (q : j < k). rw (getD-set-other l k j v 0 (λ z. omega arith)) (old .at j q))
         (eq-or-lt-of-le m)
 
 -- the first k elements of row i are new, all others old
@@ -100,15 +95,18 @@ row-more {i} {new} {old} {n} {l} {k} {v} r small m e =
         ∙ r .at j q
         ∙ rw (beside i k j (eqb-false j (16 * i + k) t) small)
 
-pub row-skip :
-    {i : ℕ} {new old : ℕ → ℕ} {n : ℕ} {l : List ℕ} {k : ℕ} →
-    Rowed i new old n l k → k < 16 → n ≤ 16 * i + k → Rowed i new old n l (k + 1)
-row-skip {i} {k = k} r small m =
-    record {
-      bound = omega arith;
-      size = r .size;
-      at = λ j q. r .at j q ∙ rw (beside i k j (λ z. omega arith) small);
-    }
+-- a table of whole rows that has no row i
+pub row-past : (i n j x y : ℕ) → n < 16 * i + 16 → n % 16 ≡ 0 → j < n → y ≡ cond (eqb (j / 16) i) x y
+row-past i n j x y past whole h = rw (ne-eqb (j / 16) i (λ e. omega arith))
+
+pub word-past :
+    (table : List ℕ) (r k : ℕ)
+    → length table < 16 * r + 16
+    → length table % 16 ≡ 0
+    → _≡_ {A = ℕ} 0 (getD table (16 * r + k) 0)
+word-past table r k past whole =
+    let out : length table ≤ 16 * r + k = omega arith in
+    sym (List·getD-eq-default table 0 out)
 
 pub row-end :
     {i : ℕ} {new old : ℕ → ℕ} {n : ℕ} {l : List ℕ} {k : ℕ} →

@@ -5,20 +5,21 @@ use mathlib.Core.Path.{_≡_, refl}
 use mathlib.Core.Bool.{Bool, true, false}
 use mathlib.Core.List.{List, [], _∷_, _++_, map}
 use lib.ListN.{length, getD, take, replicate}
-use Rattle.book.specs.Lists.{any, upTo, from}
+use Rattle.book.specs.Lists.{flat, any, upTo, from}
 use Rattle.book.specs.Sets.{has}
 use Rattle.book.specs.Hierarchies.{upwardIn, upward, ownedBy, support}
 use Rattle.book.specs.Head.{supportOf, supports}
 use Rattle.book.specs.Blocks.{headOf, weighted, checkSum}
-use Rattle.book.specs.Refusals.{firstFailing}
-use Rattle.book.specs.Answers.{refuse, atPlaces, withCheck, sealBytes}
+use Rattle.book.specs.Tests.{firstFailing, refusedOr, answered}
+use Rattle.book.specs.Refusals.{sealTests}
+use Rattle.book.specs.Answers.{withCheck, sealBytes}
 use Rattle.book.specs.Shop.{padded, block, users, categories, columns, functions, shop}
-use Rattle.book.specs.declared.Checked.{Checked}
-use Rattle.book.specs.declared.Checked.the-variants.{Accepted}
+use Rattle.book.specs.declared.Tested.{Tested}
+use Rattle.book.specs.declared.Tested.the-variants.{Passed}
 use Rattle.lineage.specs.Rows.{kindOf, kindAt, isValue, names, soundAs, rowHolds}
 use Rattle.lineage.specs.Paths.{through, pathsBy, pathsIn, paths, labels, takes, firstOperation, carries}
 use Rattle.lineage.specs.Accesses.{reaches, gives, isAccess, wordOf, accessWords}
-use Rattle.lineage.specs.Answers.{planLengthHolds, rowTests, planAnswer}
+use Rattle.lineage.specs.Answers.{planLengthHolds, rowTests, planTests}
 
 -- Rows of a plan
 
@@ -122,7 +123,7 @@ cases =
 pub shop-accesses :
     _≡_ {A = List (List Access)} (map (λ c. accesses (headOf shop) (c .0)) cases) (map (λ c. c .1) cases)
 unfolding plan triples keep accesses cases any upTo from has upwardIn upward ownedBy support supportOf supports
-    weighted checkSum withCheck sealBytes padded block users categories columns functions shop kindOf kindAt
+    weighted checkSum withCheck sealBytes answered refusedOr sealTests firstFailing padded block users categories columns functions shop kindOf kindAt
     through pathsBy pathsIn paths labels takes firstOperation carries reaches gives isAccess
 shop-accesses = refl
 
@@ -132,18 +133,17 @@ pub passed-over :
     (accesses (take 1536 shop ++ (4 ∷ 4 ∷ 0 ∷ 1 ∷ 2 ∷ 3 ∷ [])) (price ∷ apply 3 0 ∷ avg 1 ∷ output 2 ∷ []))
     ((0, 4, 1) ∷ [])
 unfolding plan triples keep accesses any upTo from has upwardIn upward ownedBy support supportOf supports weighted
-    checkSum withCheck sealBytes padded block users categories columns functions shop kindOf kindAt through pathsBy
+    checkSum withCheck sealBytes answered refusedOr sealTests firstFailing padded block users categories columns functions shop kindOf kindAt through pathsBy
     pathsIn paths labels takes firstOperation carries reaches gives isAccess
 passed-over = refl
 
 -- each of the cases' plans is accepted
 pub shop-plans :
-    _≡_ {A = List Checked}
-    (map (λ c. planAnswer (headOf shop) (plan (c .0))) cases)
-    (map (λ c. Accepted (length (c .0))) cases)
-unfolding plan cases upTo from weighted checkSum withCheck sealBytes padded block users categories columns
-    functions shop kindOf kindAt isValue names soundAs rowHolds firstFailing refuse atPlaces planLengthHolds
-    rowTests planAnswer
+    _≡_ {A = List Tested}
+    (map (λ c. firstFailing (planTests (headOf shop) (plan (c .0)))) cases)
+    (map (λ c. Passed) cases)
+unfolding plan cases upTo from weighted checkSum withCheck sealBytes answered refusedOr sealTests firstFailing padded block users categories columns
+    functions shop kindOf kindAt isValue names soundAs rowHolds flat planLengthHolds rowTests planTests
 shop-plans = refl
 
 -- bit d of word 16 × s + k: avg(Price) output, and Choose on sum(Price) between State and City output
@@ -153,6 +153,6 @@ pub shop-words :
     (plan (price ∷ avg 0 ∷ sum 0 ∷ state ∷ city ∷ choose 2 3 4 ∷ output 1 ∷ output 5 ∷ [])))
     (12 ∷ 16 ∷ (replicate 16 0 ++ (16 ∷ replicate 13 0)))
 unfolding plan any upTo from has upwardIn upward ownedBy support supportOf supports weighted checkSum withCheck
-    sealBytes padded block users categories columns functions shop kindOf kindAt through pathsBy pathsIn paths
+    sealBytes answered refusedOr sealTests firstFailing padded block users categories columns functions shop kindOf kindAt through pathsBy pathsIn paths
     labels takes firstOperation carries reaches gives isAccess wordOf accessWords
 shop-words = refl

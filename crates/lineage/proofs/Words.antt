@@ -18,7 +18,7 @@ use Rattle.book.proofs.Lists.{and-end, and-false, and-or, or-end, any-more, any
 use Rattle.book.proofs.Members.{has-zero, has-or, has-single, same-members, has-cond}
 use Rattle.lineage.specs.Rows.{kindAt, kindByte, kindOf, rowA, rowCount}
 use Rattle.lineage.specs.Accesses.{accessWords, gives, isAccess, reaches, wordOf}
-use Rattle.lineage.specs.Table.{Gathered, Given, Reached}
+use Rattle.lineage.specs.Inner.Table.{Gathered, Given, Reached, RowOf}
 use Rattle.lineage.proofs.Steps.{getD-zeros, kind-is}
 
 -- A word by its members
@@ -114,7 +114,7 @@ module _ (head plan : List ℕ) where
         Reached head plan n table →
         Given plan n i →
         ((t : ℕ) → gives (kindAt plan i) t ≡ eqb t s) →
-        ((k : ℕ) → k < 16 → getD row k 0 ≡ getD table (16 * rowA plan i + k) 0) →
+        RowOf table (rowA plan i) row →
         ((w : ℕ) → w < 32 → getD next w 0 ≡ bitOr (getD words w 0) (cond (eqb (w / 16) s) (getD row (w % 16) 0) 0)) →
         Gathered head plan (i + 1) next
     gathered-more s n row table reached given action row-at next-at w small d =
@@ -136,7 +136,7 @@ module _ (head plan : List ℕ) where
         row-word true e =
             let l : rowA plan i < n = given (w / 16) (action (w / 16) ∙ e) in
             let k : w % 16 < 16 = omega arith in
-            rw (row-at (w % 16) k, reached (rowA plan i) (w % 16) k d, lt-ltb (rowA plan i) n l)
+            rw (row-at (reached .whole) (w % 16) k, reached .at (rowA plan i) (w % 16) k d, lt-ltb (rowA plan i) n l)
         row-word false e = rw (has-zero d, and-false (ltb d 64))
 
     -- a row that gives none

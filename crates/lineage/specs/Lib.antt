@@ -1,5 +1,5 @@
 pub mod Rows
 pub mod Paths
 pub mod Accesses
-pub mod Table
 pub mod Answers
+pub mod Inner

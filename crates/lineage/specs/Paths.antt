@@ -5,7 +5,9 @@ use mathlib.Core.Bool.{Bool, true, false, _&&_, not, cond}
 use mathlib.Core.List.{List, [], _∷_, _++_, map}
 use lib.Dec.{eqb, ltb}
 use Rattle.book.specs.Lists.{any}
+use Rattle.book.specs.Blocks.{Head}
 use Rattle.book.specs.Head.{label, operation, supports}
+use Rattle.lineage.specs.Rows.{Plan}
 use Rattle.lineage.specs.Rows.{Kind, Column, Apply, Choose, Output, Condition, Unknown, kindAt, rowA, rowB, rowC}
 
 -- a path: its column, and the functions on it counted upward from the column
@@ -28,31 +30,32 @@ pathsBy Condition lower a b c = []
 pathsBy Unknown lower a b c = []
 
 -- `paths` with at most `steps` steps down
-unfoldable pub pathsIn : ℕ → List ℕ → ℕ → List Path
+unfoldable pub pathsIn : ℕ → Plan → ℕ → List Path
 pathsIn zero plan i = []
 pathsIn (suc steps) plan i =
     pathsBy (kindAt plan i)
     (λ r. elim (ltb r i) as (λ b. List Path) [ true ↦ pathsIn steps plan r | false ↦ [] ])
     (rowA plan i) (rowB plan i) (rowC plan i)
 
--- "A path goes from a row down to a Column row": every row on it is lower than the one before, so it has at most i + 1 rows
-unfoldable pub paths : List ℕ → ℕ → List Path
+-- "A path goes from a row down to a Column row": every row on it is lower than the one before, so it has at most i + 1
+-- rows
+unfoldable pub paths : Plan → ℕ → List Path
 paths plan i = pathsIn (suc i) plan i
 
 -- "It carries the column's label, if any."
-unfoldable pub labels : List ℕ → ℕ → List ℕ
+unfoldable pub labels : (head : Head) (column : ℕ) → List ℕ
 labels head column = cond (eqb (label head column) 255) [] (label head column ∷ [])
 
 -- "whose operation is not 0 and is supported by the label"
-unfoldable pub takes : List ℕ → ℕ → ℕ → Bool
+unfoldable pub takes : (head : Head) (label operation : ℕ) → Bool
 takes head d k = not (eqb k 0) && supports head d k
 
 -- "that of the first function, counted upward from the column, whose operation [is taken]; if there is none, 0"
-unfoldable pub firstOperation : List ℕ → ℕ → List ℕ → ℕ
+unfoldable pub firstOperation : (head : Head) (label : ℕ) (functions : List ℕ) → ℕ
 firstOperation head d [] = 0
 firstOperation head d (f ∷ fs) =
     cond (takes head d (operation head f)) (operation head f) (firstOperation head d fs)
 
 -- a path carries label d with operation k
-unfoldable pub carries : List ℕ → ℕ → ℕ → Path → Bool
+unfoldable pub carries : (head : Head) (label operation : ℕ) → Path → Bool
 carries head d k p = any (eqb d) (labels head (p .column)) && eqb k (firstOperation head d (p .functions))

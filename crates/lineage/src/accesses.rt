@@ -5,22 +5,15 @@ use crate::rows::kind;
 use crate::rows::row_a;
 use book::fields::head_of;
 ghost use mathlib.Core.Path.{_≡_};
-ghost use mathlib.Core.Bool.{cond};
-ghost use mathlib.Core.List.{List};
-ghost use Prim.Native.Nat.{ℕ, _+_, _/_, _%_, _<_};
-ghost use lib.Bits.{bitOr};
-ghost use lib.Dec.{eqb};
-ghost use lib.ListN.{getD};
-ghost use Rattle.book.specs.Answers.{checkAnswer};
 ghost use Rattle.book.specs.Blocks.{headOf};
-ghost use Rattle.book.specs.declared.Checked.the-variants.{Accepted};
+ghost use Rattle.book.specs.Inner.Words.{HeadWords};
 ghost use Rattle.lineage.specs.Accesses.{accessWords};
-ghost use Rattle.lineage.specs.Answers.{planAnswer};
-ghost use Rattle.lineage.specs.Table.{Gathered, Given, Reached};
+ghost use Rattle.lineage.specs.Answers.{BothAccepted};
+ghost use Rattle.lineage.specs.Inner.Table.{GatheredAll, GatheredStep, RowAdded};
 
 // The words with a row's words added to those of action s.
 fn with_row(words: [u64; 32], s: usize, row: [u64; 16]) -> [u64; 32]
-    ensures { λ r. ⌜ ((w : ℕ) → w < 32 → getD r w 0 ≡ bitOr (getD words w 0) (cond (eqb (w / 16) s) (getD row (w % 16) 0) 0)) ⌝ }
+    ensures { λ r. ⌜ RowAdded words s row r ⌝ }
 {
     if 2 <= s {
         return words;
@@ -34,21 +27,21 @@ fn with_row(words: [u64; 32], s: usize, row: [u64; 16]) -> [u64; 32]
 
 // The words with what row i gives.
 fn with_given(words: [u64; 32], plan: &[u8], table: &[u64], i: u8) -> [u64; 32]
-    ensures { λ r. ⌜ ((head : List ℕ) (n : ℕ) → Reached head (now (plan .entry)) n (now (table .entry)) → Given (now (plan .entry)) n i → Gathered head (now (plan .entry)) i words → Gathered head (now (plan .entry)) (i + 1) r) ⌝ }
+    ensures { λ r. ⌜ GatheredStep (now (plan .entry)) (now (table .entry)) i words r ⌝ }
 {
-    let row = row_words(table, row_a(plan, i));
+    let a = row_a(plan, i);
     let kind = kind(plan, i);
     match kind {
-        3 => with_row(words, 1, row),
-        4 => with_row(words, 0, row),
-        5 => with_row(words, 1, row),
+        3 => with_row(words, 1, row_words(table, a)),
+        4 => with_row(words, 0, row_words(table, a)),
+        5 => with_row(words, 1, row_words(table, a)),
         _ => words,
     }
 }
 
 // What the first n rows give.
 fn gathered(plan: &[u8], table: &[u64], n: u8) -> [u64; 32]
-    ensures { λ r. ⌜ ((head : List ℕ) → Reached head (now (plan .entry)) n (now (table .entry)) → ((i : ℕ) → i < n → Given (now (plan .entry)) n i) → Gathered head (now (plan .entry)) n r) ⌝ }
+    ensures { λ r. ⌜ GatheredAll (now (plan .entry)) (now (table .entry)) n r ⌝ }
 {
     let mut words = [0u64; 32];
     for i in 0..n {
@@ -59,13 +52,15 @@ fn gathered(plan: &[u8], table: &[u64], n: u8) -> [u64; 32]
 }
 
 // The accesses of an accepted plan for an accepted book.
-pub fn accesses(book: &[u8], plan: &[u8]) -> [u64; 32]
-    ensures { λ r. ⌜ ((n m : ℕ) → checkAnswer (now (book .entry)) ≡ Accepted n → planAnswer (headOf (now (book .entry))) (now (plan .entry)) ≡ Accepted m → r ≡ accessWords (headOf (now (book .entry))) (now (plan .entry))) ⌝ }
+pub fn accesses(book: &[u8], t: &[u64], plan: &[u8]) -> [u64; 32]
+    ensures { λ r. ⌜ (HeadWords (headOf (now (book .entry))) (now (t .entry))
+        → BothAccepted (now (book .entry)) (now (plan .entry))
+        → r ≡ accessWords (headOf (now (book .entry))) (now (plan .entry))) ⌝ }
 {
     if 256 < plan.len() {
         return [0u64; 32];
     }
     let n = (plan.len() / 4) as u8;
-    let table = reach_table(head_of(book), plan, n);
+    let table = reach_table(head_of(book), t, plan, n);
     gathered(plan, &table, n)
 }

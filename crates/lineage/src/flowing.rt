@@ -2,31 +2,27 @@
 use crate::Flowed;
 use crate::WORD_COUNT;
 use crate::accesses::accesses;
-use crate::rows::plan_check;
-use book::Checked;
-use book::check;
-use book::checking::or_else;
-use book::checking::refused;
+use crate::rows::test_plan;
+use book::Tested;
+use book::checking::test_book;
 use book::fields::head_of;
+use book::testing::or_else;
+use book::testing::test;
+use book::words::head_words;
 ghost use mathlib.Core.Path.{_≡_};
 ghost use lib.ListN.{length};
-ghost use Rattle.lineage.specs.Answers.{flowsAnswer, flowsCheck, flowsWords, wordsAnswer};
+ghost use Rattle.book.specs.Blocks.{headOf};
+ghost use Rattle.book.specs.Tests.{firstFailing};
+ghost use Rattle.book.specs.Inner.Words.{HeadWords};
+ghost use Rattle.lineage.specs.Answers.{flowsAnswer, flowsTests, flowsWords};
 
-fn words_check(n: usize) -> Checked
-    ensures { λ r. ⌜ r ≡ wordsAnswer n ⌝ }
+// The tests of the book, of the plan, of the buffer.
+fn test_flows(book: &[u8], t: &[u64], plan: &[u8], words: &[u64]) -> Tested
+    ensures { λ r. ⌜ (HeadWords (headOf (now (book .entry))) (now (t .entry))
+        → r ≡ firstFailing (flowsTests (now (book .entry)) (now (plan .entry)) (now (words .entry)))) ⌝ }
 {
-    if n == 32 {
-        return Checked::Accepted(32);
-    }
-    refused(WORD_COUNT, 0)
-}
-
-// The refusal that comes first, of the book, of the plan, of the buffer.
-fn flows_check(book: &[u8], plan: &[u8], words: &[u64]) -> Checked
-    ensures { λ r. ⌜ r ≡ flowsCheck (now (book .entry)) (now (plan .entry)) (now (words .entry)) ⌝ }
-{
-    let rest = or_else(plan_check(head_of(book), plan), words_check(words.len()));
-    or_else(check(book), rest)
+    let both = or_else(test_book(book, t), test_plan(head_of(book), plan));
+    or_else(both, test(WORD_COUNT, 0, words.len() == 32))
 }
 
 // All 32 words written.
@@ -43,13 +39,15 @@ fn write_words(words: &mut [u64], from: [u64; 32])
 // Flows: bit d of word 16 × s + k is set exactly when (s, d, k) is an access of the plan. A refusal
 // leaves the words as they were.
 pub fn flows(book: &[u8], plan: &[u8], words: &mut [u64]) -> Flowed
-    ensures { λ r. ⌜ (r ≡ flowsAnswer (now (book .entry)) (now (plan .entry)) (now (words .entry))) × (now (words .exit) ≡ flowsWords (now (book .entry)) (now (plan .entry)) (now (words .entry))) ⌝ }
+    ensures { λ r. ⌜ (r ≡ flowsAnswer (now (book .entry)) (now (plan .entry)) (now (words .entry)))
+        × (now (words .exit) ≡ flowsWords (now (book .entry)) (now (plan .entry)) (now (words .entry))) ⌝ }
 {
-    let checked = flows_check(book, plan, words);
-    match checked {
-        Checked::Refused(refusal) => Flowed::Refused(refusal),
-        Checked::Accepted(_) => {
-            write_words(words, accesses(book, plan));
+    let t = head_words(head_of(book));
+    let outcome = test_flows(book, &t, plan, words);
+    match outcome {
+        Tested::Refused(refusal) => Flowed::Refused(refusal),
+        Tested::Passed => {
+            write_words(words, accesses(book, &t, plan));
             Flowed::Done
         }
     }

@@ -4,39 +4,34 @@ use crate::rows::kind;
 use crate::rows::row_a;
 use crate::rows::row_b;
 use crate::rows::row_c;
-use book::categories::supporters;
 use book::fields::label;
 use book::fields::operation;
 use book::sets::single;
+use book::words::supporters;
 ghost use mathlib.Core.Path.{_≡_};
-ghost use mathlib.Core.Bool.{_&&_};
-ghost use Prim.Native.Nat.{ℕ, _+_, _*_, _≤_, _<_};
+ghost use Prim.Native.Nat.{ℕ, _≤_, _<_};
 ghost use lib.Bits.{bitOr};
-ghost use lib.Dec.{eqb, ltb};
+ghost use lib.Dec.{eqb};
 ghost use lib.ListN.{getD};
 ghost use Rattle.book.specs.Lists.{any};
 ghost use Rattle.book.specs.Sets.{WordOf};
+ghost use Rattle.book.specs.Inner.Words.{HeadWords};
 ghost use Rattle.lineage.specs.Paths.{labels};
-ghost use Rattle.lineage.specs.Table.{Moved, PlanSound, Reached, RowReached, Stored, Supporting};
+ghost use Rattle.lineage.specs.Inner.Table.{Brought, ColumnReached, Moved, PlanSound, Reached};
+ghost use Rattle.lineage.specs.Inner.Table.{RowOf, RowStep, Stored};
 
-// The word at i, or 0 past the end.
-pub fn word_at(s: &[u64], i: usize) -> u64
-    ensures { λ r. ⌜ r ≡ getD (now (s .entry)) i 0 ⌝ }
-{
-    if i < s.len() {
-        return s[i];
-    }
-    0
-}
-
-// The words of row r; all zero past the table's end.
+// The words of row r; all zero past the table's end. One test a row, so that its words are copied
+// with none.
 pub fn row_words(table: &[u64], r: u8) -> [u64; 16]
-    ensures { λ w. ⌜ ((k : ℕ) → k < 16 → getD w k 0 ≡ getD (now (table .entry)) (16 * r + k) 0) ⌝ }
+    ensures { λ w. ⌜ RowOf (now (table .entry)) r w ⌝ }
 {
     let at = r as usize;
     let mut row = [0u64; 16];
+    if table.len() < 16 * at + 16 {
+        return row;
+    }
     for k in 0..16usize {
-        row[k] = word_at(table, 16 * at + k);
+        row[k] = table[16 * at + k];
     }
     row
 }
@@ -77,26 +72,32 @@ fn moved(row: [u64; 16], o: usize, supporting: [u64; 16]) -> [u64; 16]
 
 // The words of a Column row.
 fn column_reach(head: &[u8], column: u8) -> [u64; 16]
-    ensures { λ r. ⌜ ((k : ℕ) → k < 16 → WordOf (λ d. any (eqb d) (labels (now (head .entry)) column) && eqb k 0) (getD r k 0)) ⌝ }
+    ensures { λ r. ⌜ ColumnReached (now (head .entry)) column r ⌝ }
 {
     let mut row = [0u64; 16];
     row[0] = label_set(head, column);
     row
 }
 
-// The words of row i, given those of the lower rows.
-fn row_reach(head: &[u8], plan: &[u8], supporting: [u64; 16], table: &[u64], i: u8) -> [u64; 16]
-    ensures { λ r. ⌜ (Supporting (now (head .entry)) supporting → PlanSound (now (head .entry)) (now (plan .entry)) → Reached (now (head .entry)) (now (plan .entry)) i (now (table .entry)) → RowReached (now (head .entry)) (now (plan .entry)) i r) ⌝ }
+// The words of the two rows that row i names, joined.
+fn brought(plan: &[u8], table: &[u64], i: u8) -> [u64; 16]
+    ensures { λ r. ⌜ Brought (now (plan .entry)) (now (table .entry)) i r ⌝ }
 {
     let b = row_words(table, row_b(plan, i));
     let c = row_words(table, row_c(plan, i));
-    let both = joined(b, c);
+    joined(b, c)
+}
+
+// The words of row i, given those of the lower rows: no other row is read where the kind names none.
+fn row_reach(head: &[u8], plan: &[u8], supporting: [u64; 16], table: &[u64], i: u8) -> [u64; 16]
+    ensures { λ r. ⌜ RowStep (now (head .entry)) (now (plan .entry)) supporting (now (table .entry)) i r ⌝ }
+{
     let a = row_a(plan, i);
     let kind = kind(plan, i);
     match kind {
         1 => column_reach(head, a),
-        2 => moved(both, operation(head, a), supporting),
-        3 => both,
+        2 => moved(brought(plan, table, i), operation(head, a), supporting),
+        3 => brought(plan, table, i),
         _ => [0u64; 16],
     }
 }
@@ -105,18 +106,20 @@ fn store_row(table: &mut [u64], i: u8, row: [u64; 16])
     ensures { λ _. ⌜ Stored i row (now (table .entry)) (now (table .exit)) ⌝ }
 {
     let at = i as usize;
+    if table.len() < 16 * at + 16 {
+        return;
+    }
     for k in 0..16usize {
-        if 16 * at + k < table.len() {
-            table[16 * at + k] = row[k];
-        }
+        table[16 * at + k] = row[k];
     }
 }
 
 // The words of the first n rows, from row 0 up.
-pub fn reach_table(head: &[u8], plan: &[u8], n: u8) -> [u64; 1024]
-    ensures { λ r. ⌜ (PlanSound (now (head .entry)) (now (plan .entry)) → n ≤ 64 → Reached (now (head .entry)) (now (plan .entry)) n r) ⌝ }
+pub fn reach_table(head: &[u8], t: &[u64], plan: &[u8], n: u8) -> [u64; 1024]
+    ensures { λ r. ⌜ (HeadWords (now (head .entry)) (now (t .entry)) → PlanSound (now (head .entry)) (now (plan .entry))
+        → n ≤ 64 → Reached (now (head .entry)) (now (plan .entry)) n r) ⌝ }
 {
-    let supporting = supporters(head);
+    let supporting = supporters(t, head);
     let mut table = [0u64; 1024];
     for i in 0..n {
         let row = row_reach(head, plan, supporting, &table, i);

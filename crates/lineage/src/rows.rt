@@ -1,18 +1,17 @@
 // The rows of a plan, read at any index, and the faulty ones. A plan may have any length.
 use crate::FAULTY_ROW;
 use crate::PLAN_LENGTH;
-use book::Checked;
+use book::Tested;
 use book::bytes::byte_at;
-use book::checking::refused;
 use book::fields::column_count;
 use book::fields::function_count;
+use book::testing::refused;
 ghost use mathlib.Core.Path.{_≡_};
 ghost use Prim.Native.Nat.{_≤_};
 ghost use Rattle.lineage.specs.Rows.{isValue, kindByte, kindOf, names, rowA, rowB, rowC, rowHolds};
-ghost use Rattle.lineage.specs.Answers.{planAnswer, planLengthHolds, rowTests};
-ghost use Rattle.book.specs.Lists.{upTo};
-ghost use Rattle.book.specs.Answers.{atPlaces};
-ghost use Rattle.book.specs.declared.Checked.the-variants.{Accepted};
+ghost use Rattle.lineage.specs.Answers.{planLengthHolds, planTests, rowTests};
+ghost use Rattle.book.specs.Lists.{flat, upTo};
+ghost use Rattle.book.specs.Tests.{firstFailing};
 
 pub fn kind(plan: &[u8], i: u8) -> usize
     ensures { λ r. ⌜ (r ≡ kindByte (now (plan .entry)) i) × (r ≤ 255) ⌝ }
@@ -74,16 +73,16 @@ pub fn row_holds(head: &[u8], plan: &[u8], i: u8) -> bool
     }
 }
 
-// The lowest faulty row of the first n is refused; otherwise n is accepted.
-fn faulty_row(head: &[u8], plan: &[u8], n: u8) -> Checked
-    ensures { λ r. ⌜ r ≡ atPlaces (rowTests (now (head .entry)) (now (plan .entry))) (upTo n) (Accepted n) ⌝ }
+// The test 22 of the first n rows: the lowest faulty row is refused.
+fn test_rows(head: &[u8], plan: &[u8], n: u8) -> Tested
+    ensures { λ r. ⌜ r ≡ firstFailing (flat (rowTests (now (head .entry)) (now (plan .entry))) (upTo n)) ⌝ }
 {
     for i in 0..n {
         if !row_holds(head, plan, i) {
             return refused(FAULTY_ROW, i as u32);
         }
     }
-    Checked::Accepted(n as u32)
+    Tested::Passed
 }
 
 fn plan_length_holds(n: usize) -> bool
@@ -92,12 +91,12 @@ fn plan_length_holds(n: usize) -> bool
     (n % 4 == 0) & (n <= 256)
 }
 
-// 21, then 22; otherwise the number of rows.
-pub fn plan_check(head: &[u8], plan: &[u8]) -> Checked
-    ensures { λ r. ⌜ r ≡ planAnswer (now (head .entry)) (now (plan .entry)) ⌝ }
+// The tests 21 and 22.
+pub fn test_plan(head: &[u8], plan: &[u8]) -> Tested
+    ensures { λ r. ⌜ r ≡ firstFailing (planTests (now (head .entry)) (now (plan .entry))) ⌝ }
 {
     if !plan_length_holds(plan.len()) {
         return refused(PLAN_LENGTH, 0);
     }
-    faulty_row(head, plan, (plan.len() / 4) as u8)
+    test_rows(head, plan, (plan.len() / 4) as u8)
 }

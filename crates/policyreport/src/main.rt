@@ -8,9 +8,6 @@ use libc::STDOUT_FILENO;
 use search::Idleness;
 use search::idle;
 
-// One byte more than the longest book: a longer file is refused for its length.
-const MOST: usize = 18433;
-
 fn text(bytes: &[u8]) {
     io::write_all(STDOUT_FILENO, bytes);
 }
@@ -82,6 +79,7 @@ fn report(book: &[u8]) {
 }
 
 fn main() {
+    // one byte more than the longest book: a longer file is refused for its length
     let mut bytes = [0u8; 18433];
     let file = os::open_read(b"small.book");
     let n = io::read_full(file, &mut bytes);

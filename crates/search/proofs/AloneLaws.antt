@@ -8,12 +8,11 @@ use mathlib.Core.List.{List}
 use lib.Dec.{eqb}
 use borrow.Author.Tests.{eqb-false, eq-eqb, ne-eqb, not-true}
 use Rattle.book.specs.Lists.{all, any, upTo}
-use Rattle.book.specs.Blocks.{headOf, ruleAt}
+use Rattle.book.specs.Blocks.{headOf, ruleAt, ruleCount}
 use Rattle.book.specs.Head.{columnCount, functionCount, operation, supports}
 use Rattle.book.specs.Rule.{coversUser, referenceCount}
-use Rattle.book.specs.Answers.{checkAnswer, ruleCount}
-use Rattle.book.specs.declared.Checked.the-variants.{Accepted}
-use Rattle.book.proofs.Accepted.{HeadHolds, accepted-head, accepted-rule, accepted-rules}
+use Rattle.book.specs.Refusals.{BookAccepted}
+use Rattle.book.proofs.Accepted.{HeadHolds, accepted-head, accepted-rule}
 use Rattle.book.proofs.Lists.{all-at, all-same, and-both, and-left, and-right, and-true, any-found, at-all, or-rest, or-true}
 use Rattle.lineage.specs.Rows.{kindAt, rowA, rowCount}
 use Rattle.lineage.specs.Paths.{labels, takes}
@@ -21,14 +20,14 @@ use Rattle.lineage.specs.Accesses.{gives, isAccess, reaches}
 use Rattle.lineage.proofs.Accepted.{Had, PlanHolds, Taken, accepted-plan, reaches-had}
 use Rattle.verdicts.specs.Accesses.{Access, Accesses, accessesOf, fitting, same}
 use Rattle.verdicts.specs.Breaking.{breaks, choicesFrom, operations, refusesAll, someChoiceRefused}
-use Rattle.verdicts.proofs.Closing.{same-equal, same-self}
+use Rattle.verdicts.proofs.Accesses.{same-equal, same-self}
 use Rattle.verdicts.proofs.Monotone.{breaks-monotone, refused-same}
 use Rattle.verdicts.proofs.Quantifiers.{any-at, at-any}
 use Rattle.search.specs.Obtainable.{canBeHad, labelled, operated}
 use Rattle.search.specs.Choices.{isChoice, isChoiceFrom}
 use Rattle.search.specs.Shown.{shownPlan}
 use Rattle.search.specs.Alone.{breaksAlone, candidateAlone, planBreaksAlone}
-use Rattle.search.specs.Demand.{AcceptedPlan}
+use Rattle.lineage.specs.Answers.{PlanAccepted}
 use Rattle.search.proofs.Rising.{member-all, member-any}
 use Rattle.search.proofs.Orders.{candidate, choice-in, choices-pass}
 use Rattle.search.proofs.ShownPlans.{shown-accesses}
@@ -166,7 +165,7 @@ module _ (book : List ℕ) (r user : ℕ) (D : Accesses) where
 
 -- A plan's choice
 
-module _ (book : List ℕ) (n : ℕ) (accepted : checkAnswer book ≡ Accepted n) (r : ℕ) (l : r < ruleCount book) where
+module _ (book : List ℕ) (accepted : BookAccepted book) (r : ℕ) (l : r < ruleCount book) where
   -- a choice breaks r alone when its members do
   pub candidate-members :
       (user : ℕ) (c : List Access)
@@ -174,14 +173,13 @@ module _ (book : List ℕ) (n : ℕ) (accepted : checkAnswer book ≡ Accepted n
       → candidateAlone book r (candidate user c) ≡ breaksAlone book r user (members c)
   unfolding candidateAlone planBreaksAlone
   candidate-members user c h =
-      let e = accepted-rules book n accepted in
-      let rule = accepted-rule book n accepted r (omega arith) in
+      let rule = accepted-rule book accepted r l in
       alone-same book r user (accessesOf (headOf book) (shownPlan (headOf book) c)) (members c)
-      (shown-accesses (headOf book) (ruleAt book r) (accepted-head book n accepted) (rule .references-most) c h)
+      (shown-accesses (headOf book) (ruleAt book r) (accepted-head book accepted) (rule .references-most) c h)
 
   pub plan-candidate :
       (user : ℕ) (plan : List ℕ)
-      → AcceptedPlan (headOf book) plan
+      → PlanAccepted (headOf book) plan
       → planBreaksAlone book r user plan ≡ true
       → (c : List Access)
       × (isChoice (headOf book) (ruleAt book r) c ≡ true)
@@ -193,12 +191,12 @@ module _ (book : List ℕ) (n : ℕ) (accepted : checkAnswer book ≡ Accepted n
       let b =
       and-both (coversUser head (ruleAt book r) user) (someChoiceRefused head (ruleAt book r) D)
       (alone-breaks book r user D h) in
-      let holds = accepted-plan head plan (plans .0) (plans .1) .1 in
+      let holds = accepted-plan head plan plans in
       let found = refused-choice head (ruleAt book r) D (plan-had head plan holds) (b .1) in
       let c = found .0 in
       let own =
       and-true (coversUser head (ruleAt book r) user) (someChoiceRefused head (ruleAt book r) (members c)) (b .0)
-      (own-refused head (ruleAt book r) (accepted-head book n accepted) c (found .1) (found .3)) in (
+      (own-refused head (ruleAt book r) (accepted-head book accepted) c (found .1) (found .3)) in (
         c,
         found .1,
         candidate-members user c (found .1)

@@ -13,13 +13,13 @@ use Rattle.book.specs.Sets.{has}
 use Rattle.book.proofs.Lists.{and-true, and-left, and-both, or-neither, same-test}
 use Rattle.book.proofs.Members.{has-zero, has-and, has-minus, has-single}
 use Rattle.lineage.proofs.Tables.{Filled, fill-none, fill-more}
-use Rattle.search.specs.Places.{inPlaces}
-use Rattle.search.specs.Table.{meets}
-use Rattle.search.specs.Closing.{acceptedAt, closes, Sifted}
-use Rattle.search.specs.Search.{candidate, refuses, drops, solves, solvesIn}
-use Rattle.search.specs.Search.{Thirds, Possible}
+use Rattle.search.specs.Inner.Places.{inPlaces, PlacesOf}
+use Rattle.search.specs.Inner.Table.{meets}
+use Rattle.search.specs.Inner.Closing.{acceptedAt, closes, Within, Grown, Sifted}
+use Rattle.search.specs.Inner.Search.{candidate, refuses, drops, solves, solvesIn}
+use Rattle.search.specs.Inner.Search.{Thirds, Possible}
 use Rattle.search.specs.declared.sifting.Remaining.{Remaining}
-use Rattle.search.proofs.Solutions.{Grown, Within, dropIn, grown-join, grown-within, passes, passing}
+use Rattle.search.proofs.Solutions.{dropIn, grown-join, grown-within, passes, passing}
 use Rattle.search.proofs.Solutions.{place-below, unmarked}
 
 -- The places that can be chosen
@@ -73,7 +73,7 @@ candidate-absent t r n had i reference zeros p same absent size none l =
 -- the words of a reference's places that can be had; the last word stays empty
 pub record Candidates (t had : List ℕ) (r reference : ℕ) (found : List ℕ) (w : ℕ) : Type 0 where
   pub short : w ≤ 32
-  pub filled : Filled 33 (λ k. bitAnd (getD had k 0) (getD t (128 * r + 33 * reference + k) 0)) found w
+  pub filled : Filled 33 (λ k x. x ≡ bitAnd (getD had k 0) (getD t (128 * r + 33 * reference + k) 0)) found w
   pub last : getD found 32 0 ≡ 0
 
 module _ (t had : List ℕ) (r reference : ℕ) where
@@ -120,25 +120,23 @@ module _ (t had : List ℕ) (r reference : ℕ) where
           let k : p / 64 ≡ 32 = omega arith in
           rw (k, all .last, has-zero)
 
--- a set less some operations
-pub less-operations :
+-- a set without some operations
+pub without-operations :
     (places rest : List ℕ) (operations w p : ℕ)
     → operations < 2 ^ 64
     → getD places (p / 64) 0 < 2 ^ 64
-    → Filled 33 (λ k. bitAnd (getD places k 0) ((2 ^ 64 - 1) - operations)) rest w
+    → Filled 33 (λ k x. x ≡ bitAnd (getD places k 0) ((2 ^ 64 - 1) - operations)) rest w
     → p / 64 < w
     → inPlaces rest p ≡ (inPlaces places p && not (has operations (p % 64)))
 unfolding inPlaces
-less-operations places rest operations w p small fits filled l =
+without-operations places rest operations w p small fits filled l =
     rw (filled .at (p / 64) l, has-minus 64 (getD places (p / 64) 0) operations (p % 64) fits small)
 
 -- less what some restriction accepts beside a and y, and what breaks a rule
 pub thirds-made :
     (t : List ℕ) (r n rules a y : ℕ) (before refused after : Remaining) (accepted : ℕ)
     → ((p : ℕ) → has accepted (p % 64) ≡ acceptedAt t r ((2 + n) % 3) ((0 + n) % 3) ((1 + n) % 3) a y p)
-    → ((p : ℕ)
-    → p < 2112
-    → inPlaces (refused .places) p ≡ (inPlaces (before .places) p && not (has accepted (p % 64))))
+    → PlacesOf (λ p. inPlaces (before .places) p && not (has accepted (p % 64))) (refused .places)
     → refused .rules ≡ before .rules
     → Sifted t rules (has rules) a y refused after
     → Thirds t r n rules a y before after
@@ -166,7 +164,7 @@ thirds-made t r n rules a y before refused after accepted e less same sifted =
 
 pub possible-made :
     (t : List ℕ) (r n : ℕ) (had : List ℕ) (rules i : ℕ) (before after : Remaining)
-    → ((p : ℕ) → p < 2112 → inPlaces (before .places) p ≡ candidate t r n had i p)
+    → PlacesOf (candidate t r n had i) (before .places)
     → Sifted t rules (has rules) 2048 2048 before after
     → Possible t r n had rules i (before .rules) after
 possible-made t r n had rules i before after same sifted =

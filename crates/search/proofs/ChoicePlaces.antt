@@ -12,12 +12,11 @@ use Rattle.book.specs.Head.{dataCount}
 use Rattle.book.proofs.Accepted.{HeadHolds}
 use Rattle.book.proofs.Lists.{and-both, and-false, and-left, and-right, or-either, or-end, or-true}
 use Rattle.verdicts.specs.Accesses.{Access, fits, same}
-use Rattle.verdicts.proofs.Accesses.{access, fits-bounds}
-use Rattle.verdicts.proofs.Closing.{same-equal}
+use Rattle.verdicts.proofs.Accesses.{access, fits-bounds, same-equal}
 use Rattle.search.specs.Obtainable.{canBeHad}
 use Rattle.search.specs.Choices.{accessBefore, choiceBefore, isChoiceFrom}
-use Rattle.search.specs.Places.{accessAt, choiceAt, chosenAt, nowhere, placeOf}
-use Rattle.search.specs.Search.{referenceAt, tripleBefore}
+use Rattle.search.specs.Inner.Places.{accessAt, choiceAt, chosenAt, nowhere, placeOf}
+use Rattle.search.specs.Inner.Search.{referenceAt, tripleBefore}
 use Rattle.search.proofs.Orders.{had-small}
 
 -- Places

@@ -15,17 +15,17 @@ use Rattle.book.specs.Rule.{referenceCount, restrictionCount, restrictionMask}
 use Rattle.book.proofs.Accepted.{HeadHolds}
 use Rattle.book.proofs.Lists.{and-both, and-end, and-false, any-from-same, any-same, or-rest, same-test}
 use Rattle.verdicts.specs.Accesses.{Access, fits, same}
-use Rattle.verdicts.specs.Words.{RuleSound, maskTakes}
+use Rattle.verdicts.specs.Inner.Words.{RuleSound, maskTakes}
 use Rattle.verdicts.specs.Breaking.{operations, refusesAll, someChoiceRefused}
 use Rattle.verdicts.proofs.Choices.{onThree, refuses-padded, refusesThree}
-use Rattle.verdicts.proofs.Closing.{Apart, fits-one, same-equal, same-self}
+use Rattle.verdicts.proofs.Accesses.{Apart, fits-one, same-equal, same-self}
 use Rattle.verdicts.proofs.Quantifiers.{any-below}
 use Rattle.search.specs.Obtainable.{canBeHad}
 use Rattle.search.specs.Choices.{isChoice, isChoiceFrom}
-use Rattle.search.specs.Places.{accessAt, choiceAt, nowhere}
-use Rattle.search.specs.Table.{HadHolds, TableHolds, meets, takesAt, takesOperation}
-use Rattle.search.specs.Closing.{acceptedAt}
-use Rattle.search.specs.Search.{candidate, referenceAt, refuses}
+use Rattle.search.specs.Inner.Places.{accessAt, choiceAt, nowhere}
+use Rattle.search.specs.Inner.Table.{HadHolds, TableHolds, meets, takesAt, takesOperation}
+use Rattle.search.specs.Inner.Closing.{acceptedAt}
+use Rattle.search.specs.Inner.Search.{candidate, referenceAt, refuses}
 use Rattle.search.proofs.Rising.{all-member, member-all, member-any}
 use Rattle.search.proofs.Orders.{choice-had}
 use Rattle.search.proofs.AloneLaws.{members, members-within, own-refused, refused-choice}

@@ -1,23 +1,32 @@
 -- Laws of the tables: the operations that some restriction takes beside two places, those that break a rule, and sets
 -- less the places that do. Assumes nothing.
-use Prim.Native.Nat.{ℕ, _+_, _*_, _-_, _/_, _%_, _^_, _<_}
+use Prim.Native.Nat.{ℕ, _+_, _*_, _-_, _/_, _%_, _^_, _≤_, _<_}
 use native.Mathlib.Omega.{arith}
 use native.Mathlib.Nat.{lt-of-le-of-lt}
-use mathlib.Core.Path.{_≡_, refl, sym, ap}
-use mathlib.Core.Bool.{Bool, true, false, _&&_, _||_, not, cond, false≢true}
+use mathlib.Core.Path.{_≡_, refl, ap}
+use mathlib.Core.Bool.{Bool, true, false, _&&_, _||_, not, cond}
 use mathlib.Core.List.{List}
 use lib.ListN.{getD}
 use lib.Bits.{bitAnd, bitOr, and-le-r, or-lt}
-use borrow.Author.Tests.{lt-ltb}
+use lib.Dec.{ltb}
+use borrow.Author.Tests.{lt-ltb, ltb-false}
 use Rattle.book.specs.Lists.{any, upTo}
 use Rattle.book.specs.Sets.{has}
-use Rattle.book.proofs.Lists.{and-left, and-right, any-none, any-more, or-assoc}
+use Rattle.book.proofs.Lists.{any-none, any-more, or-neither, or-assoc, and-assoc}
 use Rattle.book.proofs.Members.{has-zero, has-or, has-and, has-not, has-minus}
 use Rattle.lineage.proofs.Tables.{Filled}
 use Rattle.verdicts.proofs.Marks.{has-if}
-use Rattle.search.specs.Places.{inPlaces}
-use Rattle.search.specs.Table.{meets, takesAt}
-use Rattle.search.specs.Closing.{acceptedAt, closesAt}
+use Rattle.search.specs.Inner.Places.{inPlaces}
+use Rattle.search.specs.Inner.Table.{meets, takesAt}
+use Rattle.search.specs.Inner.Closing.{acceptedAt, closesAt, closesBy, meetsWith}
+
+-- the code's test of the length
+pub room-for :
+    (n x y z : ℕ) → (ltb n x || (ltb n y || ltb n z)) ≡ false → (x ≤ n) × (y ≤ n) × (z ≤ n)
+room-for n x y z e =
+    let one = or-neither (ltb n x) (ltb n y || ltb n z) e in
+    let two = or-neither (ltb n y) (ltb n z) (one .1) in
+    (ltb-false n x (one .0), ltb-false n y (two .0), ltb-false n z (two .1))
 
 module _ (t : List ℕ) (q i k l b c : ℕ) where
   -- The restrictions
@@ -63,64 +72,50 @@ module _ (t : List ℕ) (q i k l b c : ℕ) where
   -- What breaks the rule
 
   pub closing-taken :
-      (x y : Bool) (word p : ℕ)
-      → x ≡ meets t q k b
-      → y ≡ meets t q l c
-      → (x && y) ≡ true
+      (met : Bool) (word p : ℕ)
+      → met ≡ true
       → word < 2 ^ 64
       → has word (p % 64) ≡ acceptedAt t q i k l b c p
-      → has ((2 ^ 64 - 1) - word) (p % 64) ≡ closesAt t q i k l b c p
-  unfolding closesAt
-  closing-taken x y word p ex ey both fits e =
-      rw (
-        has-not 64 word (p % 64) fits,
-        lt-ltb (p % 64) 64 (omega arith),
-        ← ex,
-        ← ey,
-        and-left x y both,
-        and-right x y both,
-        e,
-      )
+      → has ((2 ^ 64 - 1) - word) (p % 64) ≡ (met && not (acceptedAt t q i k l b c p))
+  closing-taken met word p taken fits e =
+      rw (has-not 64 word (p % 64) fits, lt-ltb (p % 64) 64 (omega arith), taken, e)
 
-  pub closing-left :
-      (x y : Bool) (p : ℕ)
-      → x ≡ meets t q k b
-      → y ≡ meets t q l c
-      → (x && y) ≡ false
-      → has 0 (p % 64) ≡ closesAt t q i k l b c p
-  unfolding closesAt
-  closing-left x y p ex ey both = rw (has-zero, ← ex, ← ey) (go x y both)
-    where
-      go : (u v : Bool) → (u && v) ≡ false → false ≡ (u && (v && not (acceptedAt t q i k l b c p)))
-      go true true e = absurd (false≢true (sym e))
-      go true false e = refl
-      go false v e = refl
+  -- in either order
+  pub closing-either :
+      (kb lc kc lb : Bool) (first second p : ℕ)
+      → kb ≡ meets t q k b
+      → lc ≡ meets t q l c
+      → kc ≡ meets t q k c
+      → lb ≡ meets t q l b
+      → has first (p % 64) ≡ ((kb && lc) && not (acceptedAt t q i k l b c p))
+      → has second (p % 64) ≡ ((kc && lb) && not (acceptedAt t q i k l c b p))
+      → has (bitOr first second) (p % 64) ≡ closesBy t q i k l b c p
+  unfolding closesBy closesAt
+  closing-either kb lc kc lb first second p ekb elc ekc elb ef es =
+      rw (has-or, ef, es, ← ekb, ← elc, ← ekc, ← elb, and-assoc, and-assoc)
 
--- Sets less what breaks a rule
+-- Sets without what breaks a rule
 
 module _ (t : List ℕ) (q first second third : ℕ) where
-  -- word w of a set, less the places that meet a reference with one of the operations given for it
-  abbrev pub lessWord : List ℕ → ℕ → ℕ
-  lessWord set w =
+  -- word w of a set, without the places that meet a reference with one of the operations given for it
+  abbrev pub wordWithout : List ℕ → ℕ → ℕ
+  wordWithout set w =
       bitAnd (getD set w 0) ((2 ^ 64 - 1)
       - bitOr (bitOr (bitAnd (getD t (128 * q + w) 0) first) (bitAnd (getD t (128 * q + 33 + w) 0) second))
       (bitAnd (getD t (128 * q + 66 + w) 0) third))
 
-  pub less-places :
+  pub without-places :
       (set rest : List ℕ) (w p : ℕ)
       → first < 2 ^ 64
       → second < 2 ^ 64
       → third < 2 ^ 64
       → getD set (p / 64) 0 < 2 ^ 64
-      → Filled 33 (lessWord set) rest w
+      → Filled 33 (λ k x. x ≡ wordWithout set k) rest w
       → p / 64 < w
       → inPlaces rest p
-      ≡ (inPlaces set p
-      && not
-      ((meets t q 0 p && has first (p % 64))
-      || ((meets t q 1 p && has second (p % 64)) || (meets t q 2 p && has third (p % 64)))))
+      ≡ (inPlaces set p && not (meetsWith t q first second third p))
   unfolding inPlaces meets
-  less-places set rest w p lf ls lt fits filled below =
+  without-places set rest w p lf ls lt fits filled below =
       let a = getD t (128 * q + p / 64) 0 in
       let b = getD t (128 * q + 33 + p / 64) 0 in
       let c = getD t (128 * q + 66 + p / 64) 0 in

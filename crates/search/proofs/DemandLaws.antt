@@ -10,30 +10,29 @@ use lib.Seq.{take-append-seam, drop-append-seam}
 use lib.Dec.{eqb}
 use lib.Pow.{pow-lt}
 use borrow.Author.Tests.{eqb-true, eqb-false, le-leb, lt-ltb}
-use Rattle.book.specs.Blocks.{headOf, ruleAt}
+use Rattle.book.specs.Blocks.{headOf, ruleAt, ruleCount}
 use Rattle.book.specs.Head.{isUser}
-use Rattle.book.specs.Refusals.{firstFailing}
-use Rattle.book.specs.Answers.{checkAnswer, orElse, refuse, ruleCount}
-use Rattle.book.specs.declared.Checked.the-variants.{Accepted}
-use Rattle.book.proofs.Accepted.{accepted-head, accepted-rule, accepted-rules}
+use Rattle.book.specs.Tests.{Passes, firstFailing}
+use Rattle.book.specs.Refusals.{BookAccepted, bookTests}
+use Rattle.book.specs.Inner.Testing.{orElse}
+use Rattle.book.proofs.Accepted.{accepted-head, accepted-rule}
+use Rattle.book.proofs.Answers.{answered-passed, first-append}
 use Rattle.book.proofs.Members.{has-single, same-members}
 use Rattle.lineage.specs.Rows.{rowCount}
-use Rattle.lineage.specs.Answers.{leaving}
+use Rattle.lineage.specs.Answers.{PlanAccepted}
 use Rattle.lineage.proofs.Words.{word-of}
 use Rattle.verdicts.specs.Accesses.{Accesses, accessesOf}
 use Rattle.verdicts.specs.Breaking.{breaks, brokenMask}
-use Rattle.verdicts.specs.Answers.{judgeAnswer, judgeCheck}
+use Rattle.verdicts.specs.Answers.{judgeAnswer}
 use Rattle.verdicts.specs.declared.Judged.the-variants.{Broken}
-use Rattle.verdicts.proofs.JudgeLaws.{judge-broken}
-use Rattle.verdicts.proofs.Users.{user-accepted}
+use Rattle.verdicts.proofs.JudgeLaws.{judge-answer, judge-passes}
 use Rattle.verdicts.proofs.Verdict.{mask-bit}
 use Rattle.search.specs.Choices.{Candidate, candidateBefore}
 use Rattle.search.specs.Shown.{shownPlan}
 use Rattle.search.specs.Alone.{First, none, shown, breaksAlone, candidateAlone, firstAlone, planBreaksAlone}
-use Rattle.search.specs.Answers.{bufferAnswer, idleAnswer, idleBuffer, idleCheck, idlenessOf, refusedOr, ruleAnswer}
-use Rattle.search.specs.Answers.{written}
-use Rattle.search.specs.Demand.{AcceptedPlan, Demand3, NobodyAlone, ShownFirst, ShownIn}
-use Rattle.search.specs.declared.Idleness.the-variants.{Idle, Needed}
+use Rattle.search.specs.Answers.{ruleTests, bufferTests, idleTests, idlenessOf, idleAnswer, written, idleBuffer}
+use Rattle.search.specs.Demand.{IdleAccepted, Demand3, NobodyAlone, ShownFirst, ShownIn}
+use Rattle.search.specs.declared.Idleness.the-variants.{Idle, Needed, Refused}
 use Rattle.search.proofs.ShownPlans.{shown-accepted, shown-few, shown-whole}
 use Rattle.search.proofs.Orders.{candidate, none-alone, shown-alone}
 use Rattle.search.proofs.AloneLaws.{alone-breaks, alone-spares, plan-candidate}
@@ -45,61 +44,60 @@ pub alone-mask :
     (book : List ℕ) (r user : ℕ) (D : Accesses)
     → r < ruleCount book
     → breaksAlone book r user D ≡ true
-    → brokenMask book (ruleCount book) user D ≡ 2 ^ r
+    → brokenMask book user D ≡ 2 ^ r
 unfolding brokenMask
 alone-mask book r user D l h =
     let n = ruleCount book in
     let broken : ℕ → Bool = λ q. breaks (headOf book) (ruleAt book q) user D in
-    same-members n (brokenMask book n user D) (2 ^ r) (word-of broken n .0) (pow-lt l)
-    (λ q k. mask-bit book n user D q ∙ rw (lt-ltb q n k, has-single q r) (bit q k (eqb q r) refl))
+    same-members n (brokenMask book user D) (2 ^ r) (word-of broken n .0) (pow-lt l)
+    (λ q k. mask-bit book user D q ∙ rw (lt-ltb q n k, has-single q r) (bit q k (eqb q r) refl))
   where
     bit : (q : ℕ) → q < ruleCount book → (b : Bool) → eqb q r ≡ b → breaks (headOf book) (ruleAt book q) user D ≡ b
     bit q k true e = rw (eqb-true q r e) (alone-breaks book r user D h)
     bit q k false e = alone-spares book r user D h q k (eqb-false q r e)
 
 pub judged-alone :
-    (book : List ℕ) (n : ℕ)
-    → checkAnswer book ≡ Accepted n
+    (book : List ℕ)
+    → BookAccepted book
     → (r user : ℕ) (plan : List ℕ)
     → r < ruleCount book
     → isUser (headOf book) user ≡ true
-    → AcceptedPlan (headOf book) plan
+    → PlanAccepted (headOf book) plan
     → planBreaksAlone book r user plan ≡ true
     → judgeAnswer book user plan ≡ Broken (2 ^ r)
-unfolding judgeCheck orElse planBreaksAlone
-judged-alone book n accepted r user plan l u plans h =
-    let check : judgeCheck book user plan ≡ Accepted (plans .0) =
-    rw (accepted, ← user-accepted (headOf book) user u) (plans .1) in
-    sym
-    (judge-broken book user plan (plans .0) (2 ^ r) check
-    (sym (alone-mask book r user (accessesOf (headOf book) plan) l h)))
+unfolding planBreaksAlone
+judged-alone book accepted r user plan l u plans h =
+    judge-answer book user plan
+    (judge-passes book user plan (record { book-accepted = accepted; a-user = u; plan-accepted = plans }))
+    ∙ ap Broken (alone-mask book r user (accessesOf (headOf book) plan) l h)
 
 -- The answer and the buffer of an accepted call
 
-module _
-    (book : List ℕ)
-    (n : ℕ)
-    (accepted : checkAnswer book ≡ Accepted n)
-    (r : ℕ)
-    (l : r < ruleCount book)
-    (buffer : List ℕ)
-    (long : 36 ≤ length buffer)
-  where
-    pub idle-accepted : idleCheck book r buffer ≡ Accepted 0
-    unfolding idleCheck orElse ruleAnswer bufferAnswer refuse firstFailing
-    idle-accepted = rw (accepted, lt-ltb r (ruleCount book) l, le-leb 36 (length buffer) long)
+module _ (book : List ℕ) (r : ℕ) (buffer : List ℕ) (accepted : IdleAccepted book r buffer) where
+  pub idle-passes : Passes (idleTests book r buffer)
+  unfolding idleTests ruleTests bufferTests firstFailing orElse
+  idle-passes =
+      rw (
+        first-append (bookTests book ++ ruleTests book r) (bufferTests buffer),
+        first-append (bookTests book) (ruleTests book r),
+        accepted .book-accepted,
+        lt-ltb r (ruleCount book) (accepted .rule-there),
+        le-leb 36 (length buffer) (accepted .long),
+      )
 
-    pub idle-answer : idleAnswer book r buffer ≡ idlenessOf (headOf book) (firstAlone book r)
-    unfolding idleAnswer refusedOr
-    idle-answer = rw idle-accepted
+  pub idle-answer : idleAnswer book r buffer ≡ idlenessOf (headOf book) (firstAlone book r)
+  unfolding idleAnswer
+  idle-answer = answered-passed (idleTests book r buffer) Refused (idlenessOf (headOf book) (firstAlone book r)) idle-passes
 
-    pub idle-buffer : idleBuffer book r buffer ≡ written (headOf book) (firstAlone book r) buffer
-    unfolding idleBuffer leaving
-    idle-buffer = rw idle-accepted
+  pub idle-buffer : idleBuffer book r buffer ≡ written (headOf book) (firstAlone book r) buffer
+  unfolding idleBuffer
+  idle-buffer =
+      answered-passed (idleTests book r buffer) (λ refusal. buffer) (written (headOf book) (firstAlone book r) buffer)
+      idle-passes
 
 -- What is shown
 
-module _ (book : List ℕ) (n : ℕ) (accepted : checkAnswer book ≡ Accepted n) (r : ℕ) (l : r < ruleCount book) where
+module _ (book : List ℕ) (accepted : BookAccepted book) (r : ℕ) (l : r < ruleCount book) where
   -- no choice breaks r alone, so no accepted plan does
   pub none-nobody : firstAlone book r ≡ none → NobodyAlone book r
   none-nobody e user plan u plans = go (planBreaksAlone book r user plan) refl
@@ -107,21 +105,18 @@ module _ (book : List ℕ) (n : ℕ) (accepted : checkAnswer book ≡ Accepted n
       go : (b : Bool) → planBreaksAlone book r user plan ≡ b → b ≡ false
       go false h = refl
       go true h =
-          let c = plan-candidate book n accepted r l user plan plans h in
-          absurd (false≢true (sym (none-alone book n accepted r l e (candidate user (c .0)) u (c .1)) ∙ c .2))
+          let c = plan-candidate book accepted r l user plan plans h in
+          absurd (false≢true (sym (none-alone book accepted r l e (candidate user (c .0)) u (c .1)) ∙ c .2))
 
   module _ (c : Candidate) (e : firstAlone book r ≡ shown c) where
     pub shown-plan : ShownFirst book r (c .user) (shownPlan (headOf book) (c .choice))
     unfolding candidateAlone
     shown-plan =
-        let s = shown-alone book n accepted r l c e in
-        let m = accepted-rules book n accepted in
-        let most = accepted-rule book n accepted r (omega arith) .references-most in
+        let s = shown-alone book accepted r l c e in
+        let most = accepted-rule book accepted r l .references-most in
         let plan = shownPlan (headOf book) (c .choice) in
-        let plans : AcceptedPlan (headOf book) plan = (
-          rowCount plan,
-          shown-accepted (headOf book) (ruleAt book r) (accepted-head book n accepted) most (c .choice) (s .1),
-        ) in
+        let plans =
+        shown-accepted (headOf book) (ruleAt book r) (accepted-head book accepted) most (c .choice) (s .1) in
         record {
           a-user = s .0;
           accepted = plans;
@@ -138,7 +133,7 @@ module _ (book : List ℕ) (n : ℕ) (accepted : checkAnswer book ≡ Accepted n
               (λ (b : candidateBefore c (candidate other (form .choice)) ≡ true). inr b)
               (s .3 (candidate other (form .choice)) u (form .chosen)
               (subst (λ (p : List ℕ). planBreaksAlone book r other p ≡ true) (form .rows) h));
-          judged = judged-alone book n accepted r (c .user) plan l (s .0) plans (s .2);
+          judged = judged-alone book accepted r (c .user) plan l (s .0) plans (s .2);
         }
 
     pub shown-in :
@@ -147,10 +142,9 @@ module _ (book : List ℕ) (n : ℕ) (accepted : checkAnswer book ≡ Accepted n
         (rowCount (shownPlan (headOf book) (c .choice)))
     unfolding written
     shown-in buffer =
-        let s = shown-alone book n accepted r l c e in
-        let m = accepted-rules book n accepted in
-        let most = accepted-rule book n accepted r (omega arith) .references-most in
-        let holds = accepted-head book n accepted in
+        let s = shown-alone book accepted r l c e in
+        let most = accepted-rule book accepted r l .references-most in
+        let holds = accepted-head book accepted in
         in-front (shownPlan (headOf book) (c .choice)) buffer
         (shown-whole (headOf book) (ruleAt book r) holds most (c .choice) (s .1))
         (shown-few (headOf book) (ruleAt book r) holds most (c .choice) (s .1)) shown-plan
@@ -179,36 +173,34 @@ unlike user rows e =
     omega arith
 
 pub demand :
-    (book : List ℕ) (n : ℕ)
-    → checkAnswer book ≡ Accepted n
-    → (r : ℕ)
-    → r < ruleCount book
-    → (buffer : List ℕ)
-    → 36 ≤ length buffer
+    (book : List ℕ) (r : ℕ) (buffer : List ℕ)
+    → IdleAccepted book r buffer
     → Demand3 book r buffer (idleBuffer book r buffer) (idleAnswer book r buffer)
 unfolding written idlenessOf
-demand book n accepted r l buffer long =
-    rw (idle-buffer book n accepted r l buffer long, idle-answer book n accepted r l buffer long)
-    (go (firstAlone book r) refl)
+demand book r buffer given =
+    rw (idle-buffer book r buffer given, idle-answer book r buffer given)
+    (go (firstAlone book r) refl (given .book-accepted) (given .rule-there))
   where
     go :
         (f : First Candidate)
         → firstAlone book r ≡ f
+        → BookAccepted book
+        → r < ruleCount book
         → Demand3 book r buffer (written (headOf book) f buffer) (idlenessOf (headOf book) f)
-    go none e =
+    go none e accepted l =
         record {
-          idle-nobody = λ i. none-nobody book n accepted r l e;
+          idle-nobody = λ i. none-nobody book accepted r l e;
           nobody-idle = λ h. refl;
           idle-keeps = λ i. refl;
           otherwise = λ h. absurd (h refl);
         }
-    go (shown c) e =
+    go (shown c) e accepted l =
         let plan = shownPlan (headOf book) (c .choice) in
-        let first = shown-plan book n accepted r l c e in
+        let first = shown-plan book accepted r l c e in
         record {
           idle-nobody = λ i. absurd (unlike (c .user) (rowCount plan) i);
           nobody-idle =
               λ h. absurd (false≢true (sym (h (c .user) plan (first .a-user) (first .accepted)) ∙ first .alone));
           idle-keeps = λ i. absurd (unlike (c .user) (rowCount plan) i);
-          otherwise = λ h. (c .user, rowCount plan, refl, shown-in book n accepted r l c e buffer);
+          otherwise = λ h. (c .user, rowCount plan, refl, shown-in book accepted r l c e buffer);
         }

@@ -5,6 +5,7 @@ pub mod Sieves
 pub mod Solutions
 pub mod SearchSteps
 pub mod Candidates
+pub mod SettlingLaws
 pub mod UserLaws
 pub mod LowestLaws
 pub mod OneRow
@@ -14,7 +15,6 @@ pub mod Rising
 pub mod Orders
 pub mod AloneLaws
 pub mod DemandLaws
-pub mod Building
 pub mod Obtained
 pub mod RuleWords
 pub mod Placements

@@ -11,27 +11,25 @@ use lib.Dec.{eqb, ltb}
 use borrow.Author.Tests.{eqb-true, lt-ltb, ltb-true}
 use Rattle.book.specs.Lists.{all, any, upTo}
 use Rattle.book.specs.Sets.{has}
-use Rattle.book.specs.Blocks.{headOf, ruleAt}
+use Rattle.book.specs.Blocks.{headOf, ruleAt, ruleCount}
 use Rattle.book.specs.Hierarchies as hierarchies
 use Rattle.book.specs.Head.{isUser, userCount, userParent}
 use Rattle.book.specs.Rule.{coversUser, excludedUsers, referenceCount, userCategory}
-use Rattle.book.specs.Answers.{checkAnswer, ruleCount}
-use Rattle.book.specs.declared.Checked.the-variants.{Accepted}
-use Rattle.book.proofs.Accepted.{RuleHolds, accepted-head, accepted-rule, accepted-rules}
+use Rattle.book.specs.Refusals.{BookAccepted}
+use Rattle.book.proofs.Accepted.{RuleHolds, accepted-head, accepted-rule}
 use Rattle.book.proofs.Lists.{all-same, and-assoc, and-both, and-left, any-from-same, not-any, or-either}
 use Rattle.verdicts.specs.Accesses.{Access}
-use Rattle.verdicts.specs.Words.{RuleSound}
+use Rattle.verdicts.specs.Inner.Words.{RuleSound}
 use Rattle.verdicts.specs.Breaking.{breaks, someChoiceRefused}
-use Rattle.verdicts.proofs.Accesses.{leaf-set-below}
-use Rattle.verdicts.proofs.Closing.{Apart}
+use Rattle.verdicts.proofs.Accesses.{leaf-set-below, Apart}
 use Rattle.verdicts.proofs.Quantifiers.{any-below}
 use Rattle.verdicts.proofs.Sound.{few-rules, rules-sound}
 use Rattle.search.specs.Choices.{Candidate, candidateBefore, choiceBefore, isChoice}
 use Rattle.search.specs.Alone.{breaksAlone, candidateAlone}
-use Rattle.search.specs.Places.{choiceAt}
-use Rattle.search.specs.Table.{CoversHold, HadHolds, TableHolds}
-use Rattle.search.specs.Search.{NeedsFirst, NeedsUser, candidate, drops, othersFor, refuses, solves, solvesFor}
-use Rattle.search.specs.First.{FirstNeeds, foundOf}
+use Rattle.search.specs.Inner.Places.{choiceAt}
+use Rattle.search.specs.Inner.Table.{CoversHold, HadHolds, TableHolds}
+use Rattle.search.specs.Inner.Search.{NeedsFirst, NeedsUser, candidate, drops, othersFor, refuses, solves, solvesFor}
+use Rattle.search.specs.Inner.First.{FirstNeeds, foundOf}
 use Rattle.search.specs.declared.users.Needs.{Needs}
 use Rattle.search.specs.declared.users.Needs.the-variants.{Nobody, User}
 use Rattle.search.proofs.Orders as orders
@@ -41,7 +39,7 @@ use Rattle.search.proofs.ChoicePlaces.{Stand, before-triple, choice-pla
 use Rattle.search.proofs.ChoicePlaces.{stands-most}
 use Rattle.search.proofs.ChoiceTables.{candidate-stands, refused-own, refuses-places}
 
-module _ (book : List ℕ) (n : ℕ) (accepted : checkAnswer book ≡ Accepted n) (bytes : (i : ℕ) → getD book i 0 < 256)
+module _ (book : List ℕ) (accepted : BookAccepted book) (bytes : (i : ℕ) → getD book i 0 < 256)
     (r : ℕ) (l : r < ruleCount book) (t had covered : List ℕ)
     (tables : TableHolds book (ruleCount book) t) (hads : HadHolds (headOf book) had)
     (covers : CoversHold book (ruleCount book) covered) where
@@ -49,20 +47,19 @@ module _ (book : List ℕ) (n : ℕ) (accepted : checkAnswer book ≡ Accepted n
 
   holding : (q : ℕ) → q < ruleCount book → RuleHolds (headOf book) (ruleAt book q)
   holding q k =
-      let e = accepted-rules book n accepted in
-      accepted-rule book n accepted q (omega arith)
+      accepted-rule book accepted q (omega arith)
 
   leaves-apart : (q : ℕ) → q < ruleCount book → Apart (headOf book) (ruleAt book q)
   leaves-apart q k i j d li lj h =
       holding q k .apart i j d li lj (leaf-set-below (headOf book) (ruleAt book q) i d h) h
 
   sound : (q : ℕ) → q < ruleCount book → RuleSound (headOf book) (ruleAt book q)
-  sound q k = rules-sound book n accepted bytes q k
+  sound q k = rules-sound book accepted bytes q k
 
   covers-rule : (u : ℕ) → u < 32 → has (getD covered r 0) u ≡ coversUser (headOf book) (ruleAt book r) u
   covers-rule u lu =
-      let m = few-rules book n accepted in
-      covers r u (omega arith) lu ∙ rw (lt-ltb r (ruleCount book) l)
+      let m = few-rules book accepted in
+      covers r (omega arith) u lu ∙ rw (lt-ltb r (ruleCount book) l)
 
   -- Places that stand for a choice, and a user
 
@@ -80,7 +77,7 @@ module _ (book : List ℕ) (n : ℕ) (accepted : checkAnswer book ≡ Accepted n
         refuses-places book (ruleCount book) r l t tables (sound r l) (holding r l .restrictions-most) a y x
         (referenceCount (ruleAt book r)) (sound r l .some) (sound r l .few) stand
         ∙ sym
-        (refused-own (headOf book) (ruleAt book r) (leaves-apart r l) (accepted-head book n accepted) (choiceAt a y x)
+        (refused-own (headOf book) (ruleAt book r) (leaves-apart r l) (accepted-head book accepted) (choiceAt a y x)
         stand-choice)
 
     drops-broken :
@@ -105,7 +102,7 @@ module _ (book : List ℕ) (n : ℕ) (accepted : checkAnswer book ≡ Accepted n
           any-from-same (λ q. othersFor r covered u q && drops t q a y x)
           (λ q. ltb q (ruleCount book) && (not (eqb q r) && broken q)) 0 32
           (λ q lo hi. go q (omega arith) (ltb q (ruleCount book)) refl)
-          ∙ any-below (λ q. not (eqb q r) && broken q) (ruleCount book) 32 (few-rules book n accepted)
+          ∙ any-below (λ q. not (eqb q r) && broken q) (ruleCount book) 32 (few-rules book accepted)
         where
           turn : (c o s : Bool) → ((c && o) && s) ≡ (o && (c && s))
           turn true true s = refl
@@ -121,10 +118,10 @@ module _ (book : List ℕ) (n : ℕ) (accepted : checkAnswer book ≡ Accepted n
               → ((has (getD covered q 0) u && not (eqb q r)) && drops t q a y x)
               ≡ (b && (not (eqb q r) && broken q))
           go q lq true e =
-              rw (covers q u lq lu, e, drops-broken q (ltb-true q (ruleCount book) e))
+              rw (covers q lq u lu, e, drops-broken q (ltb-true q (ruleCount book) e))
               (turn (coversUser (headOf book) (ruleAt book q) u) (not (eqb q r))
               (someChoiceRefused (headOf book) (ruleAt book q) (members (choiceAt a y x))))
-          go q lq false e = rw (covers q u lq lu, e)
+          go q lq false e = rw (covers q lq u lu, e)
 
       others-spared :
           not (any (λ q. othersFor r covered u q && drops t q a y x) (upTo 32))
@@ -160,7 +157,7 @@ module _ (book : List ℕ) (n : ℕ) (accepted : checkAnswer book ≡ Accepted n
           (and-assoc (coversUser (headOf book) (ruleAt book r) u)
           (someChoiceRefused (headOf book) (ruleAt book r) (members (choiceAt a y x)))
           (all (λ q. eqb q r || not (broken q)) (upTo (ruleCount book)))))
-          ∙ sym (candidate-members book n accepted r l u (choiceAt a y x) stand-choice)
+          ∙ sym (candidate-members book accepted r l u (choiceAt a y x) stand-choice)
 
   -- what solves stands for a choice, and its user is one
   solves-parts :
@@ -208,7 +205,7 @@ module _ (book : List ℕ) (n : ℕ) (accepted : checkAnswer book ≡ Accepted n
       → candidateAlone book r c ≡ false
   unfolding isChoice
   fails c user h none =
-      let holds = accepted-head book n accepted in
+      let holds = accepted-head book accepted in
       let most : userCount (headOf book) ≤ 32 = holds .users-most in
       let below : c .user < 32 = omega (arith, orders.user-below (headOf book) (c .user) user) in
       let p =
@@ -244,11 +241,11 @@ module _ (book : List ℕ) (n : ℕ) (accepted : checkAnswer book ≡ Accepted n
       → FirstNeeds book r found
   unfolding NeedsFirst FirstNeeds foundOf
   lifted Nobody h =
-      orders.first-none book n accepted r l
+      orders.first-none book accepted r l
       (λ c user choice. fails c user choice (λ b z w below e s. h (c .user) b z w below))
   lifted (User u a y x) h =
       let p = solves-parts u a y x (h .below) (h .found .solution) in
-      orders.first-shown book n accepted r l (orders.candidate u (choiceAt a y x)) (p .0) (stand-choice a y x (p .1))
+      orders.first-shown book accepted r l (orders.candidate u (choiceAt a y x)) (p .0) (stand-choice a y x (p .1))
       (sym (solves-alone a y x (p .1) u (h .below)) ∙ h .found .solution)
       (λ c user choice before.
       fails c user choice (λ b z w below e s. earlier c u a y x b z w h (p .1) e s before))

@@ -7,20 +7,18 @@ use mathlib.Core.Logic.{_⊎_}
 use mathlib.Core.Bool.{Bool, true, false, _&&_, _||_, not, false≢true}
 use mathlib.Core.List.{List, [], _∷_, map, List·Memᴰ, List·Memᴰ·head, Memᴰ·cast, Memᴰ·map}
 use lib.Dec.{eqb, ltb}
-use borrow.Author.Tests.{eqb-true, eq-eqb, ltb-true, le-ltb}
-use Rattle.book.specs.Lists.{all, any, upTo}
-use Rattle.book.specs.Blocks.{headOf, ruleAt}
+use borrow.Author.Tests.{eqb-true, eq-eqb, ltb-true}
+use Rattle.book.specs.Lists.{flat, all, any, upTo}
+use Rattle.book.specs.Blocks.{headOf, ruleAt, ruleCount}
 use Rattle.book.specs.Hierarchies.{leaf}
 use Rattle.book.specs.Head.{dataCount, functionCount, isUser, operation, supports, userCount, userParent}
 use Rattle.book.specs.Rule.{referenceCount}
-use Rattle.book.specs.Answers.{checkAnswer, ruleCount}
-use Rattle.book.specs.declared.Checked.the-variants.{Accepted}
+use Rattle.book.specs.Refusals.{BookAccepted}
 use Rattle.book.proofs.Accepted.{HeadHolds, accepted-head}
-use Rattle.book.proofs.Lists.{and-true, and-left, and-right, and-both, and-false, or-true, map-all}
-use Rattle.verdicts.specs.Accesses.{Access, Accesses, everyAccess, fits, fitting, flat, keep, same}
+use Rattle.book.proofs.Lists.{and-true, and-left, and-right, and-both, or-true, map-all}
+use Rattle.verdicts.specs.Accesses.{Access, Accesses, everyAccess, fits, fitting, keep, same}
 use Rattle.verdicts.specs.Breaking.{choicesFrom}
-use Rattle.verdicts.proofs.Accesses.{access, in-fitting}
-use Rattle.verdicts.proofs.Closing.{same-equal, same-self}
+use Rattle.verdicts.proofs.Accesses.{access, in-fitting, same-equal, same-self}
 use Rattle.verdicts.proofs.Quantifiers.{any-at, any-keep, at-any, flat-all}
 use Rattle.search.specs.Obtainable.{canBeHad, labelled, operated}
 use Rattle.search.specs.Choices.{Candidate, accessBefore, candidateBefore, candidates, choiceBefore, choicesOf}
@@ -31,26 +29,6 @@ use Rattle.search.proofs.Rising.{flat-member, keep-passes, map-every, n
 use Rattle.search.proofs.Rising.{rising-keep, rising-map, shown-first, upTo-rising}
 
 -- The orders
-
--- nothing is before itself
-not-below : (n : ℕ) → ltb n n ≡ false
-not-below n = le-ltb n n (omega arith)
-
-pub access-irreflexive : (x : Access) → accessBefore x x ≡ false
-unfolding accessBefore
-access-irreflexive x =
-    rw (not-below (x .channel), not-below (x .leaf), not-below (x .operation), and-false (eqb (x .leaf) (x .leaf)))
-    (and-false (eqb (x .channel) (x .channel)))
-
-pub choice-irreflexive : (c : List Access) → choiceBefore c c ≡ false
-unfolding choiceBefore
-choice-irreflexive [] = refl
-choice-irreflexive (x ∷ c) = rw (access-irreflexive x, choice-irreflexive c) (and-false (same x x))
-
-pub candidate-irreflexive : (c : Candidate) → candidateBefore c c ≡ false
-unfolding candidateBefore
-candidate-irreflexive c =
-    rw (not-below (c .user), choice-irreflexive (c .choice)) (and-false (eqb (c .user) (c .user)))
 
 -- by the first part that differs
 module _ (x y : Access) where
@@ -300,7 +278,7 @@ module _ (head rule : List ℕ) (holds : HeadHolds head) where
 
 -- The first candidate that breaks a rule alone
 
-module _ (book : List ℕ) (n : ℕ) (accepted : checkAnswer book ≡ Accepted n) (r : ℕ) (l : r < ruleCount book) where
+module _ (book : List ℕ) (accepted : BookAccepted book) (r : ℕ) (l : r < ruleCount book) where
   pub first-none :
       ((c : Candidate)
       → isUser (headOf book) (c .user) ≡ true
@@ -329,7 +307,7 @@ module _ (book : List ℕ) (n : ℕ) (accepted : checkAnswer book ≡ Accepted n
   first-shown c u h p lower =
       shown-first (candidateAlone book r) candidateBefore (candidates (headOf book) (ruleAt book r)) c
       (candidates-rising (headOf book) (ruleAt book r))
-      (candidate-in (headOf book) (ruleAt book r) (accepted-head book n accepted) c u h) p
+      (candidate-in (headOf book) (ruleAt book r) (accepted-head book accepted) c u h) p
       (λ d m.
       let q = candidate-parts (headOf book) (ruleAt book r) d m in
       lower d (q .0) (q .1))
@@ -344,7 +322,7 @@ module _ (book : List ℕ) (n : ℕ) (accepted : checkAnswer book ≡ Accepted n
   unfolding firstAlone
   none-alone e c u h =
       first-nothing (candidateAlone book r) (candidates (headOf book) (ruleAt book r)) e c
-      (candidate-in (headOf book) (ruleAt book r) (accepted-head book n accepted) c u h)
+      (candidate-in (headOf book) (ruleAt book r) (accepted-head book accepted) c u h)
 
   pub shown-alone :
       (c : Candidate)
@@ -367,5 +345,5 @@ module _ (book : List ℕ) (n : ℕ) (accepted : checkAnswer book ≡ Accepted n
         p .0,
         p .1,
         s .1,
-        λ d u h. s .2 d (candidate-in head rule (accepted-head book n accepted) d u h),
+        λ d u h. s .2 d (candidate-in head rule (accepted-head book accepted) d u h),
       )

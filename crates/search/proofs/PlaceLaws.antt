@@ -15,7 +15,7 @@ use borrow.Author.Tests.{ltb-true, ltb-false, lt-ltb, le-ltb, eq-eqb, ne-eqb}
 use Rattle.book.specs.Sets.{has, WordOf}
 use Rattle.book.proofs.Members.{has-low, has-high, has-zero, has-above}
 use Rattle.verdicts.specs.Accesses.{Access}
-use Rattle.search.specs.Places.{FirstFrom, accessAt, inPlaces, rowsAt}
+use Rattle.search.specs.Inner.Places.{FirstFrom, accessAt, inPlaces, rowsAt}
 use Rattle.search.specs.Shown.{rowsOf}
 
 -- The lowest member of a word

@@ -13,17 +13,16 @@ use Rattle.book.specs.Rule.{inLeafSet, action, referenceCount, restrictionCount
 use Rattle.book.proofs.Lists.{and-true, and-right, and-both, and-or, or-left, or-right, same-test}
 use Rattle.book.proofs.Lists.{any-same, any-append, any-from-same, any-one}
 use Rattle.verdicts.specs.Accesses.{Access, Accesses, actionFits, fits, same}
-use Rattle.verdicts.specs.Words.{RuleSound, maskTakes, offersOrNone}
+use Rattle.verdicts.specs.Inner.Words.{RuleSound, beside, maskTakes, offersOrNone}
 use Rattle.verdicts.specs.Breaking.{someChoiceRefused}
 use Rattle.verdicts.proofs.Quantifiers.{any-at, at-any, any-below}
-use Rattle.verdicts.proofs.Masks.{beside}
 use Rattle.verdicts.proofs.Offers.{in-offers, found-offers, offers-present, offers-absent}
 use Rattle.verdicts.proofs.Choices.{refusesThree, refused-by-operations}
-use Rattle.verdicts.proofs.Closing.{Apart, same-equal, same-self}
-use Rattle.search.specs.Places.{accessAt, chosenAt, choiceAt, nowhere}
-use Rattle.search.specs.Table.{meets, takesAt, takesOperation, TableHolds}
-use Rattle.search.specs.Closing.{acceptedAt, closesAt, closesBy, closes}
-use Rattle.search.specs.Search.{drops}
+use Rattle.verdicts.proofs.Accesses.{Apart, same-equal, same-self}
+use Rattle.search.specs.Inner.Places.{accessAt, chosenAt, choiceAt, nowhere}
+use Rattle.search.specs.Inner.Table.{meets, takesAt, takesOperation, TableHolds}
+use Rattle.search.specs.Inner.Closing.{acceptedAt, closesAt, closesBy, closes}
+use Rattle.search.specs.Inner.Search.{drops}
 use Rattle.search.proofs.AloneLaws.{members}
 
 -- Tests in another order
@@ -572,130 +571,85 @@ module _
       unfolding Standing
       absent-place i p k past h = (h, λ c. absurd (omega arith))
 
-      -- the six ways in which three places drop a rule
-      drop-alone : (w : Which) → closes t q nowhere nowhere (placeAt w) ≡ true → drops t q a y x ≡ true
-      unfolding drops placeAt
-      drop-alone First h = rw h
-      drop-alone Second h =
-          or-left
-          (closes t q nowhere nowhere a || (closes t q nowhere nowhere y || closes t q nowhere nowhere x))
-          ((closes t q a nowhere y || closes t q a nowhere x) || closes t q a y x)
-          (or-right (closes t q nowhere nowhere a) (closes t q nowhere nowhere y || closes t q nowhere nowhere x)
-          (or-left (closes t q nowhere nowhere y) (closes t q nowhere nowhere x) h))
-      drop-alone Third h =
-          or-left
-          (closes t q nowhere nowhere a || (closes t q nowhere nowhere y || closes t q nowhere nowhere x))
-          ((closes t q a nowhere y || closes t q a nowhere x) || closes t q a y x)
-          (or-right (closes t q nowhere nowhere a) (closes t q nowhere nowhere y || closes t q nowhere nowhere x)
-          (or-right (closes t q nowhere nowhere y) (closes t q nowhere nowhere x) h))
-
-      drop-rest :
-          ((closes t q a nowhere y || closes t q a nowhere x) || closes t q a y x) ≡ true → drops t q a y x ≡ true
-      unfolding drops
-      drop-rest h =
-          or-right
-          (closes t q nowhere nowhere a || (closes t q nowhere nowhere y || closes t q nowhere nowhere x))
-          ((closes t q a nowhere y || closes t q a nowhere x) || closes t q a y x) h
-
-      drop-second : closes t q a nowhere y ≡ true → drops t q a y x ≡ true
-      drop-second h =
-          drop-rest
-          (or-left (closes t q a nowhere y || closes t q a nowhere x) (closes t q a y x)
-          (or-left (closes t q a nowhere y) (closes t q a nowhere x) h))
-
-      drop-third : closes t q a nowhere x ≡ true → drops t q a y x ≡ true
-      drop-third h =
-          drop-rest
-          (or-left (closes t q a nowhere y || closes t q a nowhere x) (closes t q a y x)
-          (or-right (closes t q a nowhere y) (closes t q a nowhere x) h))
-
-      drop-all : closes t q a y x ≡ true → drops t q a y x ≡ true
-      drop-all h = drop-rest (or-right (closes t q a nowhere y || closes t q a nowhere x) (closes t q a y x) h)
-
       module _ (k0 k1 k2 : ℕ) (none : refusesThree (ruleAt book q) k0 k1 k2 ≡ true) where
         -- a rule of one reference
-        drops-one : referenceCount (ruleAt book q) ≤ 1 → (w : Which) → Standing 0 (placeAt w) k0 → drops t q a y x ≡ true
-        drops-one past w s =
-            drop-alone w
-            (first-closes t q nowhere nowhere (placeAt w)
-            (placed (placeAt w) nowhere nowhere k0 k1 k2 s (absent-place 1 nowhere k1 (omega arith) (omega arith))
-            (absent-place 2 nowhere k2 (omega arith) (omega arith)) none))
+        closes-one : referenceCount (ruleAt book q) ≤ 1 → (w : Which) → Standing 0 (placeAt w) k0 → closes t q a y x ≡ true
+        unfolding placeAt
+        closes-one past First s =
+            third-closes t q a y x
+            (placed a y x k0 k1 k2 s (absent-place 1 y k1 past hy) (absent-place 2 x k2 (omega arith) hx) none)
+        closes-one past Second s =
+            third-turned t q a y x
+            (placed y a x k0 k1 k2 s (absent-place 1 a k1 past ha) (absent-place 2 x k2 (omega arith) hx) none)
+        closes-one past Third s =
+            first-closes t q a y x
+            (placed x a y k0 k1 k2 s (absent-place 1 a k1 past ha) (absent-place 2 y k2 (omega arith) hy) none)
 
         -- of two
-        drops-two :
+        closes-two :
             1 < referenceCount (ruleAt book q)
             → referenceCount (ruleAt book q) ≤ 2
             → (v w : Which)
             → Standing 0 (placeAt v) k0
             → Standing 1 (placeAt w) k1
-            → drops t q a y x ≡ true
+            → closes t q a y x ≡ true
         unfolding placeAt
-        drops-two li past First First s0 s1 = absurd (apart-places 1 0 k1 k0 a li (omega arith) s1 s0)
-        drops-two li past Second Second s0 s1 = absurd (apart-places 1 0 k1 k0 y li (omega arith) s1 s0)
-        drops-two li past Third Third s0 s1 = absurd (apart-places 1 0 k1 k0 x li (omega arith) s1 s0)
-        drops-two li past First Second s0 s1 =
-            drop-second
-            (second-closes t q a nowhere y
-            (placed a y nowhere k0 k1 k2 s0 s1 (absent-place 2 nowhere k2 past (omega arith)) none))
-        drops-two li past Second First s0 s1 =
-            drop-second
-            (first-closes t q a nowhere y
-            (placed y a nowhere k0 k1 k2 s0 s1 (absent-place 2 nowhere k2 past (omega arith)) none))
-        drops-two li past First Third s0 s1 =
-            drop-third
-            (second-closes t q a nowhere x
-            (placed a x nowhere k0 k1 k2 s0 s1 (absent-place 2 nowhere k2 past (omega arith)) none))
-        drops-two li past Third First s0 s1 =
-            drop-third
-            (first-closes t q a nowhere x
-            (placed x a nowhere k0 k1 k2 s0 s1 (absent-place 2 nowhere k2 past (omega arith)) none))
-        drops-two li past Second Third s0 s1 =
-            drop-all
-            (second-turned t q a y x (placed y x a k0 k1 k2 s0 s1 (absent-place 2 a k2 past ha) none))
-        drops-two li past Third Second s0 s1 =
-            drop-all
-            (first-turned t q a y x (placed x y a k0 k1 k2 s0 s1 (absent-place 2 a k2 past ha) none))
+        closes-two li past First First s0 s1 = absurd (apart-places 1 0 k1 k0 a li (omega arith) s1 s0)
+        closes-two li past Second Second s0 s1 = absurd (apart-places 1 0 k1 k0 y li (omega arith) s1 s0)
+        closes-two li past Third Third s0 s1 = absurd (apart-places 1 0 k1 k0 x li (omega arith) s1 s0)
+        closes-two li past First Second s0 s1 =
+            third-closes t q a y x (placed a y x k0 k1 k2 s0 s1 (absent-place 2 x k2 past hx) none)
+        closes-two li past Second First s0 s1 =
+            third-turned t q a y x (placed y a x k0 k1 k2 s0 s1 (absent-place 2 x k2 past hx) none)
+        closes-two li past First Third s0 s1 =
+            second-closes t q a y x (placed a x y k0 k1 k2 s0 s1 (absent-place 2 y k2 past hy) none)
+        closes-two li past Third First s0 s1 =
+            first-closes t q a y x (placed x a y k0 k1 k2 s0 s1 (absent-place 2 y k2 past hy) none)
+        closes-two li past Second Third s0 s1 =
+            second-turned t q a y x (placed y x a k0 k1 k2 s0 s1 (absent-place 2 a k2 past ha) none)
+        closes-two li past Third Second s0 s1 =
+            first-turned t q a y x (placed x y a k0 k1 k2 s0 s1 (absent-place 2 a k2 past ha) none)
 
         -- of three
-        drops-three :
+        closes-three :
             2 < referenceCount (ruleAt book q)
             → (u v w : Which)
             → Standing 0 (placeAt u) k0
             → Standing 1 (placeAt v) k1
             → Standing 2 (placeAt w) k2
-            → drops t q a y x ≡ true
+            → closes t q a y x ≡ true
         unfolding placeAt
-        drops-three li First First w s0 s1 s2 = absurd (apart-places 1 0 k1 k0 a (omega arith) (omega arith) s1 s0)
-        drops-three li Second Second w s0 s1 s2 = absurd (apart-places 1 0 k1 k0 y (omega arith) (omega arith) s1 s0)
-        drops-three li Third Third w s0 s1 s2 = absurd (apart-places 1 0 k1 k0 x (omega arith) (omega arith) s1 s0)
-        drops-three li First Second First s0 s1 s2 = absurd (apart-places 2 0 k2 k0 a li (omega arith) s2 s0)
-        drops-three li First Third First s0 s1 s2 = absurd (apart-places 2 0 k2 k0 a li (omega arith) s2 s0)
-        drops-three li Second First Second s0 s1 s2 = absurd (apart-places 2 0 k2 k0 y li (omega arith) s2 s0)
-        drops-three li Second Third Second s0 s1 s2 = absurd (apart-places 2 0 k2 k0 y li (omega arith) s2 s0)
-        drops-three li Third First Third s0 s1 s2 = absurd (apart-places 2 0 k2 k0 x li (omega arith) s2 s0)
-        drops-three li Third Second Third s0 s1 s2 = absurd (apart-places 2 0 k2 k0 x li (omega arith) s2 s0)
-        drops-three li First Second Second s0 s1 s2 = absurd (apart-places 2 1 k2 k1 y li (omega arith) s2 s1)
-        drops-three li First Third Third s0 s1 s2 = absurd (apart-places 2 1 k2 k1 x li (omega arith) s2 s1)
-        drops-three li Second First First s0 s1 s2 = absurd (apart-places 2 1 k2 k1 a li (omega arith) s2 s1)
-        drops-three li Second Third Third s0 s1 s2 = absurd (apart-places 2 1 k2 k1 x li (omega arith) s2 s1)
-        drops-three li Third First First s0 s1 s2 = absurd (apart-places 2 1 k2 k1 a li (omega arith) s2 s1)
-        drops-three li Third Second Second s0 s1 s2 = absurd (apart-places 2 1 k2 k1 y li (omega arith) s2 s1)
-        drops-three li First Second Third s0 s1 s2 =
-            drop-all (third-closes t q a y x (placed a y x k0 k1 k2 s0 s1 s2 none))
-        drops-three li Second First Third s0 s1 s2 =
-            drop-all (third-turned t q a y x (placed y a x k0 k1 k2 s0 s1 s2 none))
-        drops-three li First Third Second s0 s1 s2 =
-            drop-all (second-closes t q a y x (placed a x y k0 k1 k2 s0 s1 s2 none))
-        drops-three li Second Third First s0 s1 s2 =
-            drop-all (second-turned t q a y x (placed y x a k0 k1 k2 s0 s1 s2 none))
-        drops-three li Third First Second s0 s1 s2 =
-            drop-all (first-closes t q a y x (placed x a y k0 k1 k2 s0 s1 s2 none))
-        drops-three li Third Second First s0 s1 s2 =
-            drop-all (first-turned t q a y x (placed x y a k0 k1 k2 s0 s1 s2 none))
+        closes-three li First First w s0 s1 s2 = absurd (apart-places 1 0 k1 k0 a (omega arith) (omega arith) s1 s0)
+        closes-three li Second Second w s0 s1 s2 = absurd (apart-places 1 0 k1 k0 y (omega arith) (omega arith) s1 s0)
+        closes-three li Third Third w s0 s1 s2 = absurd (apart-places 1 0 k1 k0 x (omega arith) (omega arith) s1 s0)
+        closes-three li First Second First s0 s1 s2 = absurd (apart-places 2 0 k2 k0 a li (omega arith) s2 s0)
+        closes-three li First Third First s0 s1 s2 = absurd (apart-places 2 0 k2 k0 a li (omega arith) s2 s0)
+        closes-three li Second First Second s0 s1 s2 = absurd (apart-places 2 0 k2 k0 y li (omega arith) s2 s0)
+        closes-three li Second Third Second s0 s1 s2 = absurd (apart-places 2 0 k2 k0 y li (omega arith) s2 s0)
+        closes-three li Third First Third s0 s1 s2 = absurd (apart-places 2 0 k2 k0 x li (omega arith) s2 s0)
+        closes-three li Third Second Third s0 s1 s2 = absurd (apart-places 2 0 k2 k0 x li (omega arith) s2 s0)
+        closes-three li First Second Second s0 s1 s2 = absurd (apart-places 2 1 k2 k1 y li (omega arith) s2 s1)
+        closes-three li First Third Third s0 s1 s2 = absurd (apart-places 2 1 k2 k1 x li (omega arith) s2 s1)
+        closes-three li Second First First s0 s1 s2 = absurd (apart-places 2 1 k2 k1 a li (omega arith) s2 s1)
+        closes-three li Second Third Third s0 s1 s2 = absurd (apart-places 2 1 k2 k1 x li (omega arith) s2 s1)
+        closes-three li Third First First s0 s1 s2 = absurd (apart-places 2 1 k2 k1 a li (omega arith) s2 s1)
+        closes-three li Third Second Second s0 s1 s2 = absurd (apart-places 2 1 k2 k1 y li (omega arith) s2 s1)
+        closes-three li First Second Third s0 s1 s2 =
+            third-closes t q a y x (placed a y x k0 k1 k2 s0 s1 s2 none)
+        closes-three li Second First Third s0 s1 s2 =
+            third-turned t q a y x (placed y a x k0 k1 k2 s0 s1 s2 none)
+        closes-three li First Third Second s0 s1 s2 =
+            second-closes t q a y x (placed a x y k0 k1 k2 s0 s1 s2 none)
+        closes-three li Second Third First s0 s1 s2 =
+            second-turned t q a y x (placed y x a k0 k1 k2 s0 s1 s2 none)
+        closes-three li Third First Second s0 s1 s2 =
+            first-closes t q a y x (placed x a y k0 k1 k2 s0 s1 s2 none)
+        closes-three li Third Second First s0 s1 s2 =
+            first-turned t q a y x (placed x y a k0 k1 k2 s0 s1 s2 none)
 
-      drops-complete : refused ≡ true → drops t q a y x ≡ true
+      closes-complete : refused ≡ true → closes t q a y x ≡ true
       unfolding refused
-      drops-complete h =
+      closes-complete h =
           let offer = offersOrNone (headOf book) (ruleAt book q) chosen in
           let last : ℕ → ℕ → Bool =
           λ u v. any (λ w. offer 2 w && refusesThree (ruleAt book q) u v w) (upTo 16) in
@@ -720,27 +674,44 @@ module _
               → (second third : Bool)
               → ltb 1 (referenceCount (ruleAt book q)) ≡ second
               → ltb 2 (referenceCount (ruleAt book q)) ≡ third
-              → drops t q a y x ≡ true
+              → closes t q a y x ≡ true
           go k0 k1 k2 o0 o1 o2 none second true c1 c2 =
               let li : 2 < referenceCount (ruleAt book q) = ltb-true 2 (referenceCount (ruleAt book q)) c2 in
               let w0 = found 0 k0 (omega arith) o0 in
               let w1 = found 1 k1 (omega arith) o1 in
               let w2 = found 2 k2 li o2 in
-              drops-three k0 k1 k2 none li (w0 .0) (w1 .0) (w2 .0) (w0 .1) (w1 .1) (w2 .1)
+              closes-three k0 k1 k2 none li (w0 .0) (w1 .0) (w2 .0) (w0 .1) (w1 .1) (w2 .1)
           go k0 k1 k2 o0 o1 o2 none true false c1 c2 =
               let li : 1 < referenceCount (ruleAt book q) = ltb-true 1 (referenceCount (ruleAt book q)) c1 in
               let w0 = found 0 k0 (omega arith) o0 in
               let w1 = found 1 k1 li o1 in
-              drops-two k0 k1 k2 none li (ltb-false 2 (referenceCount (ruleAt book q)) c2) (w0 .0) (w1 .0) (w0 .1)
+              closes-two k0 k1 k2 none li (ltb-false 2 (referenceCount (ruleAt book q)) c2) (w0 .0) (w1 .0) (w0 .1)
               (w1 .1)
           go k0 k1 k2 o0 o1 o2 none false false c1 c2 =
               let some : 1 ≤ referenceCount (ruleAt book q) = sound .some in
               let w0 = found 0 k0 some o0 in
-              drops-one k0 k1 k2 none (ltb-false 1 (referenceCount (ruleAt book q)) c1) (w0 .0) (w0 .1)
+              closes-one k0 k1 k2 none (ltb-false 1 (referenceCount (ruleAt book q)) c1) (w0 .0) (w0 .1)
 
+      -- three places break a rule exactly when the last does beside the two others
+      pub closes-broken :
+          closes t q a y x ≡ someChoiceRefused (headOf book) (ruleAt book q) (members (choiceAt a y x))
+      unfolding refused chosen
+      closes-broken =
+          same-test (closes t q a y x) (someChoiceRefused (headOf book) (ruleAt book q) (members (choiceAt a y x)))
+          (closes-refused a y x among-first among-second among-third) closes-complete
+
+      drop-all : closes t q a y x ≡ true → drops t q a y x ≡ true
+      unfolding drops
+      drop-all h =
+          or-right
+          (closes t q nowhere nowhere a || (closes t q nowhere nowhere y || closes t q nowhere nowhere x))
+          ((closes t q a nowhere y || closes t q a nowhere x) || closes t q a y x)
+          (or-right (closes t q a nowhere y || closes t q a nowhere x) (closes t q a y x) h)
+
+      -- so the turns before the last drop nothing more
       pub drops-refused :
           drops t q a y x ≡ someChoiceRefused (headOf book) (ruleAt book q) (members (choiceAt a y x))
       unfolding refused chosen
       drops-refused =
           same-test (drops t q a y x) (someChoiceRefused (headOf book) (ruleAt book q) (members (choiceAt a y x)))
-          drops-sound drops-complete
+          drops-sound (λ h. drop-all (closes-complete h))

@@ -12,7 +12,8 @@ use lib.Dec.{eqb, ltb, leb}
 use borrow.Author.Tests.{ltb-true, ltb-false, lt-ltb, le-ltb, leb-true, leb-false, lt-leb, eq-eqb, ne-eqb}
 use Rattle.book.proofs.Lists.{and-true, and-left, or-rest, or-neither}
 use Rattle.verdicts.specs.Accesses.{Access}
-use Rattle.search.specs.Places.{accessAt, chosenAt, choiceAt, rowsAt}
+use Rattle.search.specs.Inner.Places.{accessAt, chosenAt, choiceAt, rowsAt, rowsFor}
+use Rattle.search.specs.Inner.First.{WithAccess}
 use Rattle.search.specs.Shown.{columnFor, functionFor, columnRow, applyRow, lastRow, rowsOf, accessRows}
 use Rattle.search.specs.Shown.{shownFrom, shownPlan}
 use Rattle.search.proofs.PlaceLaws.{rows-nowhere, rows-plain, rows-applied, rows-some, rows-most}
@@ -91,8 +92,7 @@ module _ (head : List ℕ) (n p : ℕ) where
   pub access-kept :
       (plan : List ℕ)
       → (leb 2048 p || leb 8 n) ≡ true
-      → n + rowsAt p ≤ 9
-      → take (4 * (n + rowsAt p)) plan ≡ take (4 * n) plan ++ shownFrom head n (chosenAt p)
+      → WithAccess head n p plan plan
   access-kept plan h few = go (ltb p 2048) refl
     where
       go :
@@ -116,8 +116,7 @@ module _ (head : List ℕ) (n p : ℕ) where
       → (p / 16 % 64 < 64 → column ≡ columnFor head (p / 16 % 64))
       → (n < 9 → take (4 * n + 4) first ≡ take (4 * n) plan ++ (1 ∷ column ∷ 0 ∷ 0 ∷ []))
       → (n < 8 → take (4 * n + 8) r ≡ take (4 * n + 4) first ++ lastRow n (p / 1024))
-      → n + rowsAt p ≤ 9
-      → take (4 * (n + rowsAt p)) r ≡ take (4 * n) plan ++ shownFrom head n (chosenAt p)
+      → WithAccess head n p plan r
   unfolding columnRow
   access-plain plan first r column l z c one two few =
       let m : 2 ≡ rowsAt p = rows-plain p l z in
@@ -133,8 +132,7 @@ module _ (head : List ℕ) (n p : ℕ) where
       → (n < 9 → take (4 * n + 4) first ≡ take (4 * n) plan ++ (1 ∷ column ∷ 0 ∷ 0 ∷ []))
       → (n + 1 < 9 → take (4 * (n + 1) + 4) second ≡ take (4 * (n + 1)) first ++ (2 ∷ function ∷ n ∷ 255 ∷ []))
       → (n + 1 < 8 → take (4 * (n + 1) + 8) r ≡ take (4 * (n + 1) + 4) second ++ lastRow (n + 1) (p / 1024))
-      → n + rowsAt p ≤ 9
-      → take (4 * (n + rowsAt p)) r ≡ take (4 * n) plan ++ shownFrom head n (chosenAt p)
+      → WithAccess head n p plan r
   unfolding columnRow applyRow
   access-applied plan first second r column function l z c f one two three few =
       let m : 3 ≡ rowsAt p = rows-applied p l z in
@@ -163,10 +161,9 @@ pub plan-shown :
     → one ≡ rowsAt a
     → more ≡ rowsAt y
     → (0 + rowsAt a ≤ 9 → take (4 * (0 + rowsAt a)) first ≡ shownFrom head 0 (chosenAt a))
-    → (one + rowsAt y ≤ 9 → take (4 * (one + rowsAt y)) second ≡ take (4 * one) first ++ shownFrom head one (chosenAt y))
-    → (one + more + rowsAt x ≤ 9
-    → take (4 * (one + more + rowsAt x)) r ≡ take (4 * (one + more)) second ++ shownFrom head (one + more) (chosenAt x))
-    → take (4 * (rowsAt a + (rowsAt y + rowsAt x))) r ≡ shownPlan head (choiceAt a y x)
+    → WithAccess head one y first second
+    → WithAccess head (one + more) x second r
+    → take (4 * rowsFor a y x) r ≡ shownPlan head (choiceAt a y x)
 unfolding shownPlan choiceAt
 plan-shown head first second r a y x one more e d h i j =
     let la = rows-most a in

@@ -8,9 +8,9 @@ use mathlib.Core.List.{List, [], _∷_, _++_, map, List·Memᴰ, List·Memᴰ·h
 use mathlib.Core.List.{List·Memᴰ·cases-cons, Memᴰ·append-left, Memᴰ·append-right}
 use lib.Dec.{ltb}
 use borrow.Author.Tests.{lt-ltb}
-use Rattle.book.specs.Lists.{all, any, from, upTo}
+use Rattle.book.specs.Lists.{flat, all, any, from, upTo}
 use Rattle.book.proofs.Lists.{and-true, and-both, append-all, map-all, from-all, or-true}
-use Rattle.verdicts.specs.Accesses.{flat, keep}
+use Rattle.verdicts.specs.Accesses.{keep}
 use Rattle.search.specs.Alone.{First, none, shown, firstIn}
 
 -- Tests of a whole list

@@ -1,22 +1,23 @@
 -- What the words of a rule say, and the tables of them. Assumes nothing.
-use Prim.Native.Nat.{ℕ, _+_, _-_, _*_, _/_, _%_, _≤_, _<_}
+use Prim.Native.Nat.{ℕ, zero, suc, _+_, _-_, _*_, _/_, _%_, _≤_, _<_}
 use native.Mathlib.Omega.{arith}
-use mathlib.Core.Path.{_≡_, ap, _∙_}
-use mathlib.Core.Bool.{Bool, true, _&&_, cond}
+use mathlib.Core.Path.{_≡_, refl, ap, _∙_}
+use mathlib.Core.Bool.{Bool, true, false, _&&_, cond}
 use mathlib.Core.List.{List}
 use lib.ListN.{getD}
 use lib.Dec.{ltb}
-use borrow.Author.Tests.{lt-ltb, le-ltb}
+use borrow.Author.Tests.{lt-ltb, le-ltb, ltb-true, ltb-false}
 use Rattle.book.specs.Sets.{has, WordOf}
 use Rattle.book.specs.Blocks.{headOf, ruleAt}
-use Rattle.book.specs.Rule.{action, referenceCount, restrictionCount, restrictionMask, coversUser, inLeafSet}
+use Rattle.book.specs.Rule.{action, referenceCount, restrictionCount, restrictionMask, inLeafSet}
 use Rattle.book.proofs.Lists.{and-end}
 use Rattle.book.proofs.Members.{has-cond, has-below, has-zero}
+use Rattle.lineage.proofs.Tables.{Filled}
 use Rattle.verdicts.specs.Accesses.{actionFits, fits}
-use Rattle.verdicts.specs.Words.{maskTakes}
-use Rattle.search.specs.Places.{accessAt, nowhere}
-use Rattle.search.specs.Table.{meets, takesAt, meetsReference, takesOperation, RuleWord, TableHolds}
-use Rattle.search.proofs.Building.{Built}
+use Rattle.verdicts.specs.Inner.Words.{maskTakes}
+use Rattle.search.specs.Inner.Places.{accessAt, nowhere}
+use Rattle.search.specs.Inner.Table.{meets, takesAt, meetsReference, takesOperation, TableHolds}
+use Rattle.search.specs.Inner.Table.{FittingWord, ReferenceWords, RestrictionWord, RuleWord, RuleWords, LeafSets}
 
 -- Words
 
@@ -29,30 +30,46 @@ leaf-mask t word k e l =
 pub all-ones : (i : ℕ) → i < 64 → has 18446744073709551615 i ≡ true
 all-ones i l = has-below 64 i ∙ lt-ltb i 64 l
 
+-- there are two channels
+no-channel : (a : ℕ) → actionFits a 2 ≡ false
+unfolding actionFits
+no-channel zero = refl
+no-channel (suc zero) = refl
+no-channel (suc (suc zero)) = refl
+no-channel (suc (suc (suc zero))) = refl
+no-channel (suc (suc (suc (suc a)))) = refl
+
 module _ (rule : List ℕ) (leaves i p : ℕ) where
   pub meets-absent : referenceCount rule ≤ i → has 18446744073709551615 (p % 64) ≡ meetsReference rule leaves i p
   unfolding meetsReference
   meets-absent h = rw (le-ltb i (referenceCount rule) h) (all-ones (p % 64) (omega arith))
 
-  -- a word of the places of the first 32 words
+  -- the place of an absent reference meets none that is there
   pub meets-word :
       (word w a : ℕ)
       → i < referenceCount rule
       → a ≡ action rule i
+      → p ≤ nowhere
       → p / 64 ≡ w
-      → w < 32
-      → has word (p % 64) ≡ (actionFits a (w / 16) && has leaves (w % 16 * 4 + p % 64 / 16))
+      → FittingWord a leaves w word
       → has word (p % 64) ≡ meetsReference rule leaves i p
   unfolding meetsReference
-  meets-word word w a h e at l said =
-      let d : w % 16 * 4 + p % 64 / 16 ≡ p / 16 % 64 = omega arith in
-      let s : w / 16 ≡ p / 1024 = omega arith in
-      said ∙ rw (lt-ltb i (referenceCount rule) h, lt-ltb p nowhere (omega arith), d, s, e)
-
-  -- the place of an absent reference meets none that is there
-  pub meets-past : i < referenceCount rule → nowhere ≤ p → has 0 (p % 64) ≡ meetsReference rule leaves i p
-  unfolding meetsReference
-  meets-past h l = rw (has-zero (p % 64), lt-ltb i (referenceCount rule) h, le-ltb p nowhere l)
+  meets-word word w a h e l at said = said (p % 64) (omega arith) ∙ go (ltb p nowhere) refl
+    where
+      go :
+          (b : Bool)
+          → ltb p nowhere ≡ b
+          → (actionFits a (w / 16) && has leaves (w % 16 * 4 + p % 64 / 16))
+          ≡ cond (ltb i (referenceCount rule))
+          (ltb p nowhere && (actionFits (action rule i) (p / 1024) && has leaves (p / 16 % 64))) true
+      go true m =
+          let d : w % 16 * 4 + p % 64 / 16 ≡ p / 16 % 64 = omega arith in
+          let s : w / 16 ≡ p / 1024 = omega arith in
+          rw (lt-ltb i (referenceCount rule) h, m, d, s, e)
+      go false m =
+          let past = ltb-false p nowhere m in
+          let s : w / 16 ≡ 2 = omega arith in
+          rw (lt-ltb i (referenceCount rule) h, m, s, no-channel a)
 
 module _ (rule : List ℕ) (i j p : ℕ) where
   pub takes-absent : restrictionCount rule ≤ j → has 0 (p % 64) ≡ takesOperation rule i j p
@@ -72,31 +89,72 @@ module _ (rule : List ℕ) (i j p : ℕ) where
       said
       ∙ rw (k, taken (p % 16), lt-ltb (p % 16) 16 (omega arith), e, lt-ltb j (restrictionCount rule) h)
 
--- a rule's word past the places says nothing of leaves
-pub word-leaves :
-    (rule : List ℕ) (leaves other k word : ℕ)
-    → RuleWord rule leaves k word
-    → (k < 99 → leaves ≡ other)
-    → RuleWord rule other k word
-word-leaves rule leaves other k word w same =
-    record {
-      meeting = λ p low l e. w .meeting p low l e ∙ ap (λ (x : ℕ). meetsReference rule x (k / 33) p) (same low);
-      taking = w .taking;
-    }
+-- The words of a rule
+
+module _ (rule sets : List ℕ) (q : ℕ) where
+  -- word k of rule q
+  abbrev pub RulePart : ℕ → ℕ → Type 0
+  RulePart k word = RuleWord rule (getD sets (3 * q + k / 33) 0) k word
+
+  pub places-part :
+      (i w leaves : ℕ) (places : List ℕ)
+      → i < 3
+      → w < 33
+      → leaves ≡ getD sets (3 * q + i) 0
+      → ReferenceWords rule leaves i places
+      → RulePart (33 * i + w) (getD places w 0)
+  places-part i w leaves places s l e told =
+      let d : (33 * i + w) / 33 ≡ i = omega arith in
+      let f : (33 * i + w) % 33 ≡ w = omega arith in
+      record {
+        meeting = λ low. rw (d, f, ← e) (told w l);
+        taking = λ high short. absurd (omega arith);
+      }
+
+  pub restriction-part :
+      (k word : ℕ) → k < 24 → RestrictionWord rule (k / 8) (k % 8) word → RulePart (99 + k) word
+  restriction-part k word l told =
+      let d : 99 + k - 99 ≡ k = omega arith in
+      record {
+        meeting = λ low. absurd (omega arith);
+        taking = λ high short. rw d told;
+      }
+
+  -- the last five words say nothing
+  pub parts-whole : (words : List ℕ) (n : ℕ) → 123 ≤ n → Filled 128 RulePart words n → RuleWords rule sets q words
+  parts-whole words n past filled k l = go (ltb k 123) refl
+    where
+      go : (b : Bool) → ltb k 123 ≡ b → RulePart k (getD words k 0)
+      go true e =
+          let low = ltb-true k 123 e in
+          filled .at k (omega arith)
+      go false e =
+          let high = ltb-false k 123 e in
+          record {
+            meeting = λ low. absurd (omega arith);
+            taking = λ low short. absurd (omega arith);
+          }
+
+-- as far as one count or an equal one
+pub fill-to :
+    (n : ℕ) (P : ℕ → ℕ → Type 0) (words : List ℕ) (k j : ℕ) → k ≡ j → Filled n P words k → Filled n P words j
+fill-to n P words k j e filled = rw (← e) filled
 
 -- Tables
 
 -- word m of the tables
 abbrev pub TableWord : List ℕ → List ℕ → ℕ → ℕ → Type 0
-TableWord book sets m word =
-    RuleWord (ruleAt book (m / 128)) (getD sets (3 * (m / 128) + m % 128 / 33) 0) (m % 128) word
+TableWord book sets m word = RulePart (ruleAt book (m / 128)) sets (m / 128) (m % 128) word
 
--- word m of the leaf sets
-abbrev pub LeafWord : List ℕ → ℕ → ℕ → Type 0
-LeafWord book m word = WordOf (inLeafSet (headOf book) (ruleAt book (m / 3)) (m % 3)) word
-
-abbrev pub LeafSets : List ℕ → ℕ → List ℕ → Type 0
-LeafSets book n sets = (m : ℕ) → m < 3 * n → LeafWord book m (getD sets m 0)
+pub table-part :
+    (book sets : List ℕ) (q k : ℕ) (words : List ℕ)
+    → k < 128
+    → RuleWords (ruleAt book q) sets q words
+    → TableWord book sets (128 * q + k) (getD words k 0)
+table-part book sets q k words l told =
+    let d : (128 * q + k) / 128 ≡ q = omega arith in
+    let f : (128 * q + k) % 128 ≡ k = omega arith in
+    rw (d, f) (told k l)
 
 module _
     (book : List ℕ)
@@ -104,7 +162,7 @@ module _
     (sets t : List ℕ)
     (count : ℕ)
     (leaves : LeafSets book n sets)
-    (b : Built 4096 (TableWord book sets) t count)
+    (b : Filled 4096 (TableWord book sets) t count)
     (whole : 128 * n ≤ count)
   where
     -- what meets a reference, by the leaf set's word and by the leaf set
@@ -145,7 +203,7 @@ module _
             let g : (33 * i + p / 64) / 33 ≡ i = omega arith in
             let w : RuleWord (ruleAt book q) (getD sets (3 * q + (33 * i + p / 64) / 33) 0) (33 * i + p / 64) (getD t m 0) =
             rw (e, f) at (b .at m (omega arith)) in
-            rw g at (w .meeting p (omega arith) h (omega arith))
+            rw g at (w .meeting (omega arith) p h (omega arith))
 
         taking :
             (q i j p : ℕ)
@@ -161,10 +219,4 @@ module _
             let k : (99 + 8 * i + j - 99) % 8 ≡ j = omega arith in
             let w : RuleWord (ruleAt book q) (getD sets (3 * q + (99 + 8 * i + j) / 33) 0) (99 + 8 * i + j) (getD t m 0) =
             rw (e, f) at (b .at m (omega arith)) in
-            rw (g, k) at (w .taking p (omega arith) (omega arith))
-
--- Users
-
-abbrev pub CoveredWord : List ℕ → ℕ → ℕ → ℕ → Type 0
-CoveredWord book n r word =
-    (u : ℕ) → u < 32 → has word u ≡ (ltb r n && coversUser (headOf book) (ruleAt book r) u)
+            rw (g, k) at (w .taking (omega arith) (omega arith) p)

@@ -1,6 +1,6 @@
 -- Laws of the search, place by place: the third beside two, the second and the third beside one, and the first.
 -- Assumes nothing.
-use Prim.Native.Nat.{ℕ, _/_, _%_, _≤_, _<_}
+use Prim.Native.Nat.{ℕ, _+_, _/_, _%_, _≤_, _<_}
 use native.Mathlib.Nat.{lt-of-lt-of-le}
 use native.Mathlib.Omega.{arith}
 use mathlib.Core.Path.{_≡_, refl, ap, _∙_}
@@ -8,20 +8,111 @@ use mathlib.Core.Bool.{Bool, true, false, _||_}
 use mathlib.Core.List.{List}
 use lib.ListN.{length, getD}
 use lib.Dec.{eqb}
-use borrow.Author.Tests.{eqb-true, eq-eqb, ne-eqb}
+use borrow.Author.Tests.{eqb-true, eq-eqb}
 use Rattle.book.specs.Sets.{has}
 use Rattle.book.proofs.Lists.{or-neither}
 use Rattle.book.proofs.Members.{has-zero}
-use Rattle.search.specs.Places.{FirstFrom, inPlaces}
-use Rattle.search.specs.Closing.{closes, Sifted}
-use Rattle.search.specs.Search.{refuses, solvesIn, solvesFirst, solvesBeside}
-use Rattle.search.specs.Search.{tripleBefore, Solved, Unsolved, Thirds}
+use Rattle.search.specs.Inner.Places.{FirstFrom, inPlaces}
+use Rattle.search.specs.Inner.Closing.{closes, Within, Sifted}
+use Rattle.search.specs.Inner.Search.{refuses, solvesIn, solvesFirst, solvesBeside, solvesPair}
+use Rattle.search.specs.Inner.Search.{Solved, Unsolved, Thirds, SettledBy}
 use Rattle.search.specs.declared.sifting.Remaining.{Remaining}
 use Rattle.search.proofs.Sieves.{both}
-use Rattle.search.proofs.Solutions.{Seeking, Within, before-cases, beside-fewer, dropIn, fails, grown-within}
-use Rattle.search.proofs.Solutions.{in-fewer, passes, passing, place-below, seeking-before, unmarked}
+use Rattle.search.proofs.Solutions.{before-cases, beside-fewer, dropIn, fails, grown-join, grown-within}
+use Rattle.search.proofs.Solutions.{in-fewer, passes, passing, place-below, unmarked}
+use Rattle.search.proofs.Solutions.{Seeking, seeking-fewer, still, place-none, place-found}
 
 -- The third place, beside the first and the second
+
+module _
+    (t : List ℕ)
+    (r n rules a y : ℕ)
+    (before rest : Remaining)
+    (size : length (before .places) ≡ 33)
+    (made : Thirds t r n rules a y before rest)
+  where
+    -- a solution is left
+    thirds-left :
+        (marked : ℕ → Bool)
+        → Within (has (rest .rules)) marked
+        → (b z w : ℕ)
+        → solvesPair t r n a y (before .places) marked b z w ≡ true
+        → inPlaces (rest .places) w ≡ true
+    unfolding solvesPair
+    thirds-left marked within b z w h =
+        let p =
+        passing (eqb b a) (eqb z y) (inPlaces (before .places) w) (refuses t r n b z w) marked (λ q. closes t q b z w) h in
+        let first : b ≡ a = eqb-true b a (p .first) in
+        let second : z ≡ y = eqb-true z y (p .second) in
+        go (rw (first, second) at (p .refusal)) (rw (first, second) at (p .free)) (p .third)
+        (inPlaces (rest .places) w) refl
+      where
+        go :
+            refuses t r n a y w ≡ true
+            → ((q : ℕ) → q < 32 → marked q ≡ true → closes t q a y w ≡ false)
+            → inPlaces (before .places) w ≡ true
+            → (s : Bool)
+            → inPlaces (rest .places) w ≡ s
+            → s ≡ true
+        go refusal free third true e = refl
+        go refusal free third false e =
+            absurd
+            (unmarked (has (rest .rules)) marked (λ q. closes t q a y w) within free
+            (made .gone w (place-below (before .places) w size third) third refusal e))
+
+    pub thirds-none :
+        (x : ℕ)
+        → length (rest .places) ≡ 33
+        → FirstFrom (rest .places) 0 x
+        → 2112 ≤ x
+        → Unsolved (solvesPair t r n a y (before .places)) (has rules) (has (before .rules)) (has (rest .rules))
+    thirds-none x long found past =
+        record {
+          more = made .more;
+          only = made .only;
+          none = λ b z w.
+              fails (solvesPair t r n a y (before .places) (has (rest .rules)) b z w)
+              (λ h.
+              let left = thirds-left (has (rest .rules)) (λ q m. m) b z w h in
+              both left
+              (found .skipped w (omega arith) (lt-of-lt-of-le (place-below (rest .places) w long left) past)));
+        }
+
+    pub thirds-found :
+        (x : ℕ)
+        → Within (has (before .rules)) (has rules)
+        → FirstFrom (rest .places) 0 x
+        → x < 2112
+        → Solved (solvesPair t r n a y (before .places) (has rules)) a y x
+    unfolding solvesPair
+    thirds-found x begun found l =
+        let inside = grown-within (has rules) (has (before .rules)) (has (rest .rules)) begun (made .only) in
+        let here = found .member l in
+        record {
+          solution =
+              passes (eqb a a) (eqb y y) (inPlaces (before .places) x) (refuses t r n a y x) (has rules)
+              (λ q. closes t q a y x)
+              (record {
+                first = eq-eqb a a refl;
+                second = eq-eqb y y refl;
+                third = made .within x l here;
+                refusal = made .refused x l here;
+                free = λ q k j. made .passed x q l k here j;
+              });
+          earliest = λ b z w e.
+              fails (solvesPair t r n a y (before .places) (has rules) b z w)
+              (λ h.
+              let p =
+              passing (eqb b a) (eqb z y) (inPlaces (before .places) w) (refuses t r n b z w) (has rules)
+              (λ q. closes t q b z w) h in
+              let first = eqb-true b a (p .first) in
+              let second = eqb-true z y (p .second) in
+              before-cases b z w a y x e (λ low. omega arith) (λ same low. omega arith)
+              (λ same equal low.
+              both (thirds-left (has rules) inside b z w h) (found .skipped w (omega arith) low)));
+        }
+
+-- The second place, beside the first
 
 module _ (t : List ℕ) (r n a : ℕ) (seconds thirds : List ℕ) where
   pub beside-inside :
@@ -60,102 +151,103 @@ module _ (t : List ℕ) (r n a : ℕ) (seconds thirds : List ℕ) where
             (ap (λ (k : ℕ). has k (w % 64)) (empty (w / 64)) ∙ has-zero (w % 64)));
       }
 
-module _
-    (t : List ℕ)
-    (r n rules a y : ℕ)
-    (seconds : List ℕ)
-    (before rest : Remaining)
-    (size : length (before .places) ≡ 33)
-    (made : Thirds t r n rules a y before rest)
-  where
-    -- a solution beside y is left
-    thirds-left :
-        (marked : ℕ → Bool)
-        → Within (has (rest .rules)) marked
-        → (b w : ℕ)
-        → solvesBeside t r n a seconds (before .places) marked b y w ≡ true
-        → inPlaces (rest .places) w ≡ true
-    unfolding solvesBeside
-    thirds-left marked within b w h =
-        let p =
-        passing (eqb b a) (inPlaces seconds y) (inPlaces (before .places) w) (refuses t r n b y w) marked
-        (λ q. closes t q b y w) h in
-        let same : b ≡ a = eqb-true b a (p .first) in
-        go (rw same at (p .refusal)) (rw same at (p .free)) (p .third) (inPlaces (rest .places) w) refl
-      where
-        go :
-            refuses t r n a y w ≡ true
-            → ((q : ℕ) → q < 32 → marked q ≡ true → closes t q a y w ≡ false)
-            → inPlaces (before .places) w ≡ true
-            → (s : Bool)
-            → inPlaces (rest .places) w ≡ s
-            → s ≡ true
-        go refusal free third true e = refl
-        go refusal free third false e =
-            absurd
-            (unmarked (has (rest .rules)) marked (λ q. closes t q a y w) within free
-            (made .gone w (place-below (before .places) w size third) third refusal e))
+  -- a solution for all second places is one for its own
+  beside-pair :
+      (s : ℕ) (marked : ℕ → Bool) (b z w : ℕ)
+      → z ≡ s
+      → solvesBeside t r n a seconds thirds marked b z w ≡ true
+      → solvesPair t r n a s thirds marked b z w ≡ true
+  unfolding solvesBeside solvesPair
+  beside-pair s marked b z w e h =
+      let p =
+      passing (eqb b a) (inPlaces seconds z) (inPlaces thirds w) (refuses t r n b z w) marked
+      (λ q. closes t q b z w) h in
+      passes (eqb b a) (eqb z s) (inPlaces thirds w) (refuses t r n b z w) marked (λ q. closes t q b z w)
+      (record {
+        first = p .first;
+        second = eq-eqb z s e;
+        third = p .third;
+        refusal = p .refusal;
+        free = p .free;
+      })
 
-    pub thirds-none :
-        (x : ℕ)
-        → length (rest .places) ≡ 33
-        → FirstFrom (rest .places) 0 x
-        → 2112 ≤ x
-        → (b z w : ℕ)
-        → z ≡ y
-        → solvesBeside t r n a seconds (before .places) (has (rest .rules)) b z w ≡ false
-    thirds-none x long found past b z w e =
-        rw e
-        (fails (solvesBeside t r n a seconds (before .places) (has (rest .rules)) b y w)
-        (λ h.
-        let left = thirds-left (has (rest .rules)) (λ q m. m) b w h in
-        both left
-        (found .skipped w (omega arith) (lt-of-lt-of-le (place-below (rest .places) w long left) past))))
+  pub beside-found :
+      (waiting : List ℕ) (rules start seen s b z w : ℕ)
+      → Within (has start) (has rules)
+      → s < 2112
+      → ((p : ℕ) → p < 2112 → inPlaces waiting p ≡ true → inPlaces seconds p ≡ true)
+      → Seeking (solvesBeside t r n a seconds thirds) (λ b z w. z) waiting rules start seen s
+      → Solved (solvesPair t r n a s thirds (has rules)) b z w
+      → Solved (solvesBeside t r n a seconds thirds (has rules)) b z w
+  unfolding solvesBeside solvesPair
+  beside-found waiting rules start seen s b z w begun l within seeking found =
+      let p =
+      passing (eqb b a) (eqb z s) (inPlaces thirds w) (refuses t r n b z w) (has rules) (λ q. closes t q b z w)
+      (found .solution) in
+      let first : b ≡ a = eqb-true b a (p .first) in
+      let second : z ≡ s = eqb-true z s (p .second) in
+      place-found (solvesBeside t r n a seconds thirds) (λ b z w. z) beside-lessen (solvesPair t r n a s thirds) s
+      (beside-pair s) waiting rules start seen b z w begun seeking
+      (passes (eqb b a) (inPlaces seconds z) (inPlaces thirds w) (refuses t r n b z w) (has rules)
+      (λ q. closes t q b z w)
+      (record {
+        first = p .first;
+        second = ap (inPlaces seconds) second ∙ within s l (seeking .member l);
+        third = p .third;
+        refusal = p .refusal;
+        free = p .free;
+      }))
+      (λ c y x e h.
+      let same =
+      eqb-true c a
+      (passing (eqb c a) (inPlaces seconds y) (inPlaces thirds x) (refuses t r n c y x) (has rules)
+      (λ q. closes t q c y x) h .first) in
+      before-cases c y x b z w e (λ low. absurd (omega arith)) (λ e low. omega arith) (λ e f low. omega arith))
+      found
 
-    pub thirds-found :
-        (start x : ℕ)
-        → Within (has start) (has rules)
-        → FirstFrom (rest .places) 0 x
-        → x < 2112
-        → y < 2112
-        → Seeking (solvesBeside t r n a seconds (before .places)) (λ b z w. z) seconds rules start (before .rules) y
-        → Solved (solvesBeside t r n a seconds (before .places) (has rules)) a y x
-    unfolding solvesBeside
-    thirds-found start x begun found l m seeking =
-        let inside =
-        grown-within (has rules) (has (before .rules)) (has (rest .rules))
-        (grown-within (has rules) (has start) (has (before .rules)) begun (seeking .only)) (made .only) in
-        let here = found .member l in
-        record {
-          solution =
-              passes (eqb a a) (inPlaces seconds y) (inPlaces (before .places) x) (refuses t r n a y x) (has rules)
-              (λ q. closes t q a y x)
-              (record {
-                first = eq-eqb a a refl;
-                second = seeking .member m;
-                third = made .within x l here;
-                refusal = made .refused x l here;
-                free = λ q k j. made .passed x q l k here j;
-              });
-          earliest = λ b z w e.
-              before-cases b z w a y x e
-              (λ low.
-              fails (solvesBeside t r n a seconds (before .places) (has rules) b z w)
-              (λ h.
-              both
-              (passing (eqb b a) (inPlaces seconds z) (inPlaces (before .places) w) (refuses t r n b z w) (has rules)
-              (λ q. closes t q b z w) h .first)
-              (ne-eqb b a (λ same. omega arith))))
-              (λ same low.
-              seeking-before (solvesBeside t r n a seconds (before .places)) (λ b z w. z) seconds
-              (beside-inside t r n a seconds (before .places)) (beside-lessen t r n a seconds (before .places)) rules
-              start
-              (before .rules) y begun seeking b z w low)
-              (λ first second low.
-              rw second
-              (fails (solvesBeside t r n a seconds (before .places) (has rules) b y w)
-              (λ h. both (thirds-left (has rules) inside b w h) (found .skipped w (omega arith) low))));
-        }
+  -- a place that is settled has no solution
+  beside-settled :
+      (waiting : List ℕ) (rules seen : ℕ) (after : Remaining)
+      → length waiting ≡ 33
+      → length thirds ≡ 33
+      → SettledBy t r n rules a thirds waiting seen after
+      → (b z w : ℕ)
+      → inPlaces waiting z ≡ true
+      → inPlaces (after .places) z ≡ false
+      → solvesBeside t r n a seconds thirds (has (after .rules)) b z w ≡ false
+  unfolding solvesBeside
+  beside-settled waiting rules seen after size long done b z w inside gone =
+      fails (solvesBeside t r n a seconds thirds (has (after .rules)) b z w)
+      (λ h.
+      let p =
+      passing (eqb b a) (inPlaces seconds z) (inPlaces thirds w) (refuses t r n b z w) (has (after .rules))
+      (λ q. closes t q b z w) h in
+      let same : b ≡ a = eqb-true b a (p .first) in
+      unmarked (has (after .rules)) (has (after .rules)) (λ q. closes t q a z w) (λ q m. m)
+      (rw same at (p .free))
+      (done .settled .gone z w (place-below waiting z size inside) (place-below thirds w long (p .third)) inside gone
+      (p .third) (rw same at (p .refusal))))
+
+  -- a second place is done, and others may be settled
+  pub beside-more :
+      (waiting : List ℕ) (rules start seen more s next : ℕ) (after : Remaining)
+      → length waiting ≡ 33
+      → length thirds ≡ 33
+      → FirstFrom (after .places) (s + 1) next
+      → Unsolved (solvesPair t r n a s thirds) (has rules) (has seen) (has more)
+      → SettledBy t r n rules a thirds waiting more after
+      → Seeking (solvesBeside t r n a seconds thirds) (λ b z w. z) waiting rules start seen s
+      → Seeking (solvesBeside t r n a seconds thirds) (λ b z w. z) (after .places) rules start (after .rules) next
+  beside-more waiting rules start seen more s next after size long found none done =
+      seeking-fewer (solvesBeside t r n a seconds thirds) (λ b z w. z) beside-lessen waiting (after .places) rules start
+      seen (after .rules) s next found (λ q h. done .more q (none .more q h))
+      (grown-join (has rules) (has seen) (has more) (has (after .rules)) (none .only) (done .only))
+      (λ b z w e.
+      still (solvesBeside t r n a seconds thirds) (λ b z w. z) beside-lessen (has more) (has (after .rules))
+      (done .more) b z w
+      (place-none (solvesBeside t r n a seconds thirds) (λ b z w. z) beside-lessen (solvesPair t r n a s thirds) s
+      (beside-pair s) (has rules) (has seen) (has more) none b z w e))
+      (beside-settled waiting rules more after size long done)
 
 -- The set without what breaks a rule beside the first place
 
@@ -318,9 +410,9 @@ module _ (t : List ℕ) (r n : ℕ) (firsts seconds thirds : List ℕ) where
       → (a y x : ℕ)
       → a ≡ f
       → solvesIn t r n firsts seconds thirds marked a y x ≡ false
-  among-none f rules before marked none a y x e =
-      fails (solvesIn t r n firsts seconds thirds marked a y x)
-      (λ h. both (in-first marked f a y x e h) (none .none a y x))
+  among-none f =
+      place-none (solvesIn t r n firsts seconds thirds) (λ b z w. b) in-lessen (solvesFirst t r n f seconds thirds) f
+      (λ marked a y x e h. in-first marked f a y x e h)
 
   pub among-found :
       (rules start seen f a y x : ℕ)
@@ -332,19 +424,7 @@ module _ (t : List ℕ) (r n : ℕ) (firsts seconds thirds : List ℕ) where
   among-found rules start seen f a y x begun l seeking found =
       let here = first-in (has rules) f a y x (seeking .member l) (found .solution) in
       let same : a ≡ f = here .0 in
-      let equal : (b z w : ℕ) → b ≡ a → tripleBefore b z w a y x ≡ true
-      → solvesIn t r n firsts seconds thirds (has rules) b z w ≡ false =
-      λ b z w e h.
-      fails (solvesIn t r n firsts seconds thirds (has rules) b z w)
-      (λ s. both (in-first (has rules) f b z w (e ∙ same) s) (found .earliest b z w h)) in
-      record {
-        solution = here .1;
-        earliest = λ b z w h.
-            before-cases b z w a y x h
-            (λ low.
-            seeking-before (solvesIn t r n firsts seconds thirds) (λ b z w. b) firsts in-inside in-lessen rules start
-            seen f
-            begun seeking b z w (omega arith))
-            (λ e low. equal b z w e h)
-            (λ e f low. equal b z w e h);
-      }
+      place-found (solvesIn t r n firsts seconds thirds) (λ b z w. b) in-lessen (solvesFirst t r n f seconds thirds) f
+      (λ marked a y x e h. in-first marked f a y x e h) firsts rules start seen a y x begun seeking (here .1)
+      (λ b z w e h. before-cases b z w a y x e (λ low. omega arith) (λ e low. omega arith) (λ e f low. omega arith))
+      found

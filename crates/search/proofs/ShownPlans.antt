@@ -10,15 +10,14 @@ use borrow.Author.Tests.{ltb-true, lt-ltb, eqb-true, le-leb, eq-eqb}
 use Rattle.book.specs.Lists.{any, all, upTo}
 use Rattle.book.specs.Head.{columnCount, functionCount, operation, supports}
 use Rattle.book.specs.Rule.{referenceCount}
-use Rattle.book.specs.Refusals.{firstFailing}
-use Rattle.book.specs.declared.Checked.the-variants.{Accepted}
+use Rattle.book.specs.Tests.{firstFailing}
 use Rattle.book.proofs.Lists.{and-true, and-both, or-rest, or-assoc, or-end, any-none}
-use Rattle.book.proofs.Answers.{at-passed}
+use Rattle.book.proofs.Answers.{flat-passed}
 use Rattle.book.proofs.Accepted.{HeadHolds}
 use Rattle.lineage.specs.Rows.{rowCount, kindAt, rowA}
 use Rattle.lineage.specs.Paths.{labels, takes}
 use Rattle.lineage.specs.Accesses.{gives, reaches, isAccess}
-use Rattle.lineage.specs.Answers.{planAnswer, planLengthHolds, rowTests}
+use Rattle.lineage.specs.Answers.{PlanAccepted, planLengthHolds, rowTests}
 use Rattle.lineage.proofs.PlanLaws.{plan-rows}
 use Rattle.verdicts.specs.Accesses.{Access, accessesOf, fits, same}
 use Rattle.verdicts.proofs.Accesses.{fits-bounds}
@@ -193,7 +192,7 @@ module _
         let c = choice-shown head rule (referenceCount rule) 0 choice chosen in
         all-shown head choice [] 0 (c .0) (standing-none head) (omega (arith, c .1))
 
-    pub shown-accepted : planAnswer head (shownPlan head choice) ≡ Accepted (rowCount (shownPlan head choice))
+    pub shown-accepted : PlanAccepted head (shownPlan head choice)
     unfolding planLengthHolds rowTests firstFailing
     shown-accepted =
         let plan = shownPlan head choice in
@@ -203,7 +202,7 @@ module _
         plan-rows head plan
         (and-true (eqb (length plan % 4) 0) (leb (length plan) 256)
         (eq-eqb (length plan % 4) 0 (omega arith)) (le-leb (length plan) 256 (omega arith)))
-        ∙ at-passed (rowTests head plan) n (Accepted n) (λ i b. rw (shows .stands .rows i (omega arith)))
+        ∙ flat-passed (rowTests head plan) n (λ i b. rw (shows .stands .rows i (omega arith)))
 
     pub shown-accesses : (x : Access) → accessesOf head (shownPlan head choice) x ≡ any (same x) choice
     unfolding accessesOf isAccess

@@ -15,9 +15,9 @@ use Rattle.book.specs.Sets.{has, WordOf}
 use Rattle.book.proofs.Lists.{and-true, and-left, and-right, and-end, and-false, or-neither, or-rest, or-true}
 use Rattle.book.proofs.Members.{has-zero, has-or, has-minus, has-above, has-and}
 use Rattle.verdicts.proofs.Quantifiers.{any-wider, at-any}
-use Rattle.search.specs.Places.{inPlaces}
-use Rattle.search.specs.Table.{meets}
-use Rattle.search.specs.Closing.{closes, closesBy, Turned, Sifted, Skipping}
+use Rattle.search.specs.Inner.Places.{inPlaces, PlacesOf}
+use Rattle.search.specs.Inner.Closing.{closes, meetsWith, Masked, Within, Turned, Sifted}
+use Rattle.search.specs.declared.closing.Masks.{Masks}
 use Rattle.search.specs.declared.sifting.Remaining.{Remaining}
 use Rattle.search.proofs.Fours.{has-cut}
 
@@ -29,45 +29,44 @@ both h n = absurd (false≢true (sym n ∙ h))
 
 -- One rule's turn
 
-module _
-    (t : List ℕ)
-    (q b c first second third : ℕ)
-    (ef : (p : ℕ) → has first (p % 64) ≡ closesBy t q 0 1 2 b c p)
-    (es : (p : ℕ) → has second (p % 64) ≡ closesBy t q 1 0 2 b c p)
-    (et : (p : ℕ) → has third (p % 64) ≡ closesBy t q 2 0 1 b c p)
-  where
-    -- masks with no operation: no place breaks the rule
-    pub none-closes : bitOr (bitOr first second) third ≡ 0 → (p : ℕ) → closes t q b c p ≡ false
-    unfolding closes
-    none-closes e p =
-        let all : (has (bitOr first second) (p % 64) || has third (p % 64)) ≡ false =
-        sym (has-or (bitOr first second) third (p % 64)) ∙ rw (e, has-zero) in
-        let two = or-neither (has (bitOr first second) (p % 64)) (has third (p % 64)) all in
-        let one =
-        or-neither (has first (p % 64)) (has second (p % 64)) (sym (has-or first second (p % 64)) ∙ two .0) in
-        rw (← ef p, ← es p, ← et p, one .0, one .1, two .1, and-false, and-false, and-false)
+module _ (t : List ℕ) (q b c : ℕ) (masks : Masks) (made : Masked t q b c masks) where
+  -- masks with no operation: no place breaks the rule
+  pub none-closes :
+      bitOr (bitOr (masks .first) (masks .second)) (masks .third) ≡ 0 → (p : ℕ) → closes t q b c p ≡ false
+  unfolding closes
+  none-closes e p =
+      let first = has (masks .first) (p % 64) in
+      let second = has (masks .second) (p % 64) in
+      let third = has (masks .third) (p % 64) in
+      let all : (has (bitOr (masks .first) (masks .second)) (p % 64) || third) ≡ false =
+      sym (has-or (bitOr (masks .first) (masks .second)) (masks .third) (p % 64)) ∙ rw (e, has-zero) in
+      let two = or-neither (has (bitOr (masks .first) (masks .second)) (p % 64)) third all in
+      let one = or-neither first second (sym (has-or (masks .first) (masks .second) (p % 64)) ∙ two .0) in
+      rw (
+        ← (made .first p),
+        ← (made .second p),
+        ← (made .third p),
+        one .0,
+        one .1,
+        two .1,
+        and-false,
+        and-false,
+        and-false,
+      )
 
-    -- the set less what breaks the rule
-    pub kept-closes :
-        (old new : List ℕ)
-        → ((p : ℕ)
-        → p < 2112
-        → inPlaces new p
-        ≡ (inPlaces old p
-        && not
-        ((meets t q 0 p && has first (p % 64))
-        || ((meets t q 1 p && has second (p % 64)) || (meets t q 2 p && has third (p % 64))))))
-        → (p : ℕ)
-        → p < 2112
-        → inPlaces new p ≡ (inPlaces old p && not (closes t q b c p))
-    unfolding closes
-    kept-closes old new h p l = rw (← ef p, ← es p, ← et p) (h p l)
+  -- the set without what breaks the rule
+  pub kept-closes :
+      (old new : List ℕ)
+      → PlacesOf (λ p. inPlaces old p && not (meetsWith t q (masks .first) (masks .second) (masks .third) p)) new
+      → PlacesOf (λ p. inPlaces old p && not (closes t q b c p)) new
+  unfolding closes
+  kept-closes old new h p l = rw (← (made .first p), ← (made .second p), ← (made .third p)) (h p l)
 
 -- nothing was taken
 pub turn-none :
     (t : List ℕ) (q b c : ℕ) (rest : Remaining) (places : List ℕ)
     → places ≡ rest .places
-    → ((p : ℕ) → p < 2112 → inPlaces places p ≡ (inPlaces (rest .places) p && not (closes t q b c p)))
+    → PlacesOf (λ p. inPlaces (rest .places) p && not (closes t q b c p)) places
     → Turned t q b c rest rest
 turn-none t q b c rest places e h =
     record {
@@ -85,7 +84,7 @@ pub turn-some :
     (t : List ℕ) (q b c one last : ℕ) (before : Remaining) (places : List ℕ)
     → q < 32
     → WordOf (λ j. eqb j q) one
-    → ((p : ℕ) → p < 2112 → inPlaces places p ≡ (inPlaces (before .places) p && not (closes t q b c p)))
+    → PlacesOf (λ p. inPlaces (before .places) p && not (closes t q b c p)) places
     → Turned t q b c before (record { places = places; rules = bitOr (before .rules) one; last = last })
 turn-some t q b c one last before places small single h =
     record {
@@ -115,7 +114,7 @@ module _ (t : List ℕ) (rules b c : ℕ) where
   -- what is gone stays gone with more rules marked
   gone-more :
       (p : ℕ) (some more : ℕ → Bool)
-      → ((j : ℕ) → some j ≡ true → more j ≡ true)
+      → Within some more
       → any (λ q. some q && closes t q b c p) (upTo 32) ≡ true
       → any (λ q. more q && closes t q b c p) (upTo 32) ≡ true
   gone-more p some more h e =
@@ -272,18 +271,18 @@ module _ (t : List ℕ) (rules b c : ℕ) where
       allows j h n true e = old .only j e n
       allows j h n false e = new .only j h e
 
--- a set less one member
+-- a set without one member
 
 -- the code's `waiting & !single(q)`
-pub less-single :
+pub without-single :
     (word one q j : ℕ)
     → word < 2 ^ 64
     → one < 2 ^ 64
     → WordOf (λ i. eqb i q) one
     → has (bitAnd word ((2 ^ 64 - 1) - one)) j ≡ (has word j && not (ltb j 64 && eqb j q))
-less-single word one q j lw lo single = rw (has-minus 64 word one j lw lo, single j)
+without-single word one q j lw lo single = rw (has-minus 64 word one j lw lo, single j)
 
-pub less-smaller :
+pub without-smaller :
     (word one q : ℕ)
     → word < 2 ^ 64
     → one < 2 ^ 64
@@ -291,10 +290,10 @@ pub less-smaller :
     → WordOf (λ i. eqb i q) one
     → has word q ≡ true
     → bitAnd word ((2 ^ 64 - 1) - one) < word
-less-smaller word one q lw lo small single h =
+without-smaller word one q lw lo small single h =
     let low = and-le-l word ((2 ^ 64 - 1) - one) in
     let gone : has (bitAnd word ((2 ^ 64 - 1) - one)) q ≡ false =
-    less-single word one q q lw lo single ∙ rw (lt-ltb q 64 small, eq-eqb q q refl, and-false) in
+    without-single word one q q lw lo single ∙ rw (lt-ltb q 64 small, eq-eqb q q refl, and-false) in
     let other : bitAnd word ((2 ^ 64 - 1) - one) ≡ word → ⊥ =
     λ e. both h (ap (λ (w : ℕ). has w q) (sym e) ∙ gone) in
     omega arith
@@ -304,55 +303,6 @@ pub later-member :
     (word out q : ℕ) → has (bitAnd word ((2 ^ 64 - 1) - out)) q ≡ true → has word q ≡ true
 later-member word out q h =
     and-left (has word q) (has ((2 ^ 64 - 1) - out) q) (sym (has-and word ((2 ^ 64 - 1) - out) q) ∙ h)
-
--- The rules that wait for their turn
-
-module _ (t : List ℕ) (rules b c : ℕ) where
-  pub skip-none : Skipping t rules b c rules
-  skip-none =
-      record {
-        fewer = omega arith;
-        members = λ q h. h;
-        idle = λ q p h n. both h n;
-      }
-
-  -- rule q breaks at no place
-  pub skip-more :
-      (left one q : ℕ)
-      → left < 2 ^ 64
-      → one < 2 ^ 64
-      → WordOf (λ i. eqb i q) one
-      → ((p : ℕ) → closes t q b c p ≡ false)
-      → Skipping t rules b c left
-      → Skipping t rules b c (bitAnd left ((2 ^ 64 - 1) - one))
-  skip-more left one q ll lo single none old =
-      let low = and-le-l left ((2 ^ 64 - 1) - one) in
-      record {
-        fewer = omega (arith, old .fewer);
-        members = λ j h.
-            old .members j
-            (and-left (has left j) (not (ltb j 64 && eqb j q)) (sym (less-single left one q j ll lo single) ∙ h));
-        idle = λ j p h n. go j p h (has left j) refl (sym (less-single left one q j ll lo single) ∙ n);
-      }
-    where
-      go :
-          (j p : ℕ)
-          → has rules j ≡ true
-          → (x : Bool)
-          → has left j ≡ x
-          → (has left j && not (ltb j 64 && eqb j q)) ≡ false
-          → closes t j b c p ≡ false
-      go j p h false e n = old .idle j p h e
-      go j p h true e n = same (ltb j 64 && eqb j q) refl (rw e at n)
-        where
-          same : (y : Bool) → (ltb j 64 && eqb j q) ≡ y → not y ≡ false → closes t j b c p ≡ false
-          same true f m =
-              let e : j ≡ q = eqb-true j q (and-right (ltb j 64) (eqb j q) f) in
-              rw e (none p)
-          same false f m = absurd (false≢true (sym m))
-
-  pub skip-end : (left : ℕ) → left ≡ 0 → Skipping t rules b c left → Skipping t rules b c 0
-  skip-end left e old = rw e at old
 
 -- The loop
 
@@ -374,22 +324,18 @@ low-rules rules q h = go (ltb q 32) refl
     go false e = both h (has-above 32 (rules % 4294967296) q (omega arith) (ltb-false q 32 e))
 
 module _ (t : List ℕ) (rules b c : ℕ) where
-  -- what waits first
-  pub sieving-start :
-      (rest : Remaining) (waiting : ℕ)
-      → rules < 2 ^ 64
-      → Skipping t (rules % 4294967296) b c waiting
-      → Sieving t rules b c rest rest waiting
-  sieving-start rest waiting fits skip =
+  -- all wait first
+  pub sieving-start : (rest : Remaining) → Sieving t rules b c rest rest (rules % 4294967296)
+  sieving-start rest =
       record {
-        fits = omega (arith, skip .fewer);
-        members = λ q h. low-rules rules q (skip .members q h);
+        fits = omega arith;
+        members = low-rules rules;
         sifted =
-            sifted-idle t rules b c (λ q. false) (λ q. has rules q && not (has waiting q)) rest rest
+            sifted-idle t rules b c (λ q. false) (λ q. has rules q && not (has (rules % 4294967296) q)) rest rest
             (λ q p l d n.
-            skip .idle q p
-            (has-cut 32 rules q l ∙ and-left (has rules q) (not (has waiting q)) d)
-            (not-true (has waiting q) (and-right (has rules q) (not (has waiting q)) d)))
+            both
+            (has-cut 32 rules q l ∙ and-left (has rules q) (not (has (rules % 4294967296) q)) d)
+            (not-true (has (rules % 4294967296) q) (and-right (has rules q) (not (has (rules % 4294967296) q)) d)))
             (sifted-start t rules b c rest);
       }
 
@@ -409,38 +355,14 @@ module _ (t : List ℕ) (rules b c : ℕ) where
         members = λ j m.
             old .members j
             (and-left (has waiting j) (not (ltb j 64 && eqb j q))
-            (sym (less-single waiting one q j lw lo single) ∙ m));
+            (sym (without-single waiting one q j lw lo single) ∙ m));
         sifted =
             sifted-turn t rules b c (λ j. has rules j && not (has waiting j))
             (λ j. has rules j && not (has (bitAnd waiting ((2 ^ 64 - 1) - one)) j)) q before rest after
             (old .members q h .0) (old .members q h .1)
-            (λ j d n. rw (less-single waiting one q j lw lo single, ne-eqb j q n, and-false, and-end) at d)
+            (λ j d n. rw (without-single waiting one q j lw lo single, ne-eqb j q n, and-false, and-end) at d)
             (old .sifted) (turn (old .members q h .0));
       }
-
-  -- those that break at no place wait no longer
-  pub sieving-skip :
-      (before rest : Remaining) (waiting left : ℕ)
-      → Skipping t waiting b c left
-      → Sieving t rules b c before rest waiting
-      → Sieving t rules b c before rest left
-  sieving-skip before rest waiting left skip old =
-      record {
-        fits = omega (arith, skip .fewer, old .fits);
-        members = λ q h. old .members q (skip .members q h);
-        sifted =
-            sifted-idle t rules b c (λ q. has rules q && not (has waiting q)) (λ q. has rules q && not (has left q)) before
-            rest
-            (λ q p l d n.
-            let now = and-left (has rules q) (not (has left q)) d in
-            skip .idle q p (waits (has waiting q) (rw now at n))
-            (not-true (has left q) (and-right (has rules q) (not (has left q)) d)))
-            (old .sifted);
-      }
-    where
-      waits : (x : Bool) → not x ≡ false → x ≡ true
-      waits true e = refl
-      waits false e = absurd (false≢true (sym e))
 
   pub sieving-end :
       (before rest : Remaining) (waiting : ℕ)

@@ -1,8 +1,10 @@
 -- Laws of the search: what three places must pass, one search through another, and a loop over the places of a set.
 -- Assumes nothing.
 use Prim.Native.Nat.{ℕ, _+_, _%_, _≤_, _<_}
+use native.Mathlib.Nat.{eq-or-lt-of-le}
 use native.Mathlib.Omega.{arith}
 use mathlib.Core.Path.{_≡_, refl, ap, _∙_}
+use mathlib.Core.Logic.{⊎-elim}
 use mathlib.Core.Bool.{Bool, true, false, _&&_, _||_, not}
 use mathlib.Core.List.{List}
 use lib.ListN.{length, List·getD-eq-default}
@@ -13,10 +15,10 @@ use Rattle.book.specs.Sets.{has}
 use Rattle.book.proofs.Lists.{and-true, and-left, and-right, at-none, none-at}
 use Rattle.book.proofs.Members.{has-zero}
 use Rattle.verdicts.proofs.Quantifiers.{any-at}
-use Rattle.search.specs.Places.{FirstFrom, inPlaces}
-use Rattle.search.specs.Closing.{closes}
-use Rattle.search.specs.Search.{candidate, refuses, drops, solves, solvesIn, solvesBeside}
-use Rattle.search.specs.Search.{tripleBefore, Solved, Unsolved, Searched}
+use Rattle.search.specs.Inner.Places.{FirstFrom, inPlaces}
+use Rattle.search.specs.Inner.Closing.{closes, Within, Grown}
+use Rattle.search.specs.Inner.Search.{candidate, refuses, drops, solves, solvesIn, solvesBeside}
+use Rattle.search.specs.Inner.Search.{tripleBefore, Solved, Unsolved, Searched}
 use Rattle.search.specs.declared.searching.Sought.{Sought}
 use Rattle.search.specs.declared.searching.Sought.the-variants.{Found, Nothing}
 use Rattle.search.proofs.Sieves.{both}
@@ -43,7 +45,7 @@ place-below places p size h = go (ltb p 2112) refl
 -- no rule of a set drops, so none of a smaller set does
 pub unmarked :
     (some marked drop : ℕ → Bool)
-    → ((q : ℕ) → some q ≡ true → marked q ≡ true)
+    → Within some marked
     → ((q : ℕ) → q < 32 → marked q ≡ true → drop q ≡ false)
     → any (λ q. some q && drop q) (upTo 32) ≡ true
     → ⊥
@@ -155,12 +157,6 @@ module _
 -- One search through another
 
 -- marks only grow, within the rules given
-abbrev pub Within : (ℕ → Bool) → (ℕ → Bool) → Type 0
-Within some rules = (q : ℕ) → some q ≡ true → rules q ≡ true
-
-abbrev pub Grown : (ℕ → Bool) → (ℕ → Bool) → (ℕ → Bool) → Type 0
-Grown rules before after = (q : ℕ) → after q ≡ true → before q ≡ false → rules q ≡ true
-
 pub grown-join :
     (rules before rest after : ℕ → Bool) → Grown rules before rest → Grown rules rest after → Grown rules before after
 grown-join rules before rest after old new q h n = go (rest q) refl
@@ -222,7 +218,7 @@ module _ (of : (ℕ → Bool) → ℕ → ℕ → ℕ → Bool) (rules before : 
 
 -- A loop over the places of a set
 
--- no three places pass whose place in the set is before i
+-- no three places pass whose place in the set is before i, or no longer in it
 pub record Seeking
     (of : (ℕ → Bool) → ℕ → ℕ → ℕ → Bool)
     (key : ℕ → ℕ → ℕ → ℕ)
@@ -234,102 +230,160 @@ pub record Seeking
   pub more : Within (has before) (has seen)
   pub only : Grown (has rules) (has before) (has seen)
   pub none : (a y x : ℕ) → key a y x < i → of (has seen) a y x ≡ false
+  pub outside : (a y x : ℕ) → inPlaces places (key a y x) ≡ false → of (has seen) a y x ≡ false
 
-module _
-    (of : (ℕ → Bool) → ℕ → ℕ → ℕ → Bool)
-    (key : ℕ → ℕ → ℕ → ℕ)
-    (places : List ℕ)
-    (inside : (marked : ℕ → Bool) (a y x : ℕ) → of marked a y x ≡ true → inPlaces places (key a y x) ≡ true)
-  where
-    -- a place that is not in the set
-    outside : (marked : ℕ → Bool) (a y x : ℕ) → inPlaces places (key a y x) ≡ false → of marked a y x ≡ false
-    outside marked a y x n = fails (of marked a y x) (λ o. both (inside marked a y x o) n)
+module _ (of : (ℕ → Bool) → ℕ → ℕ → ℕ → Bool) (key : ℕ → ℕ → ℕ → ℕ) where
+  pub seeking-start :
+      (places : List ℕ) (rules before i : ℕ)
+      → ((a y x : ℕ) → of (has before) a y x ≡ true → inPlaces places (key a y x) ≡ true)
+      → FirstFrom places 0 i
+      → Seeking of key places rules before before i
+  seeking-start places rules before i inside found =
+      record {
+        bound = found .high;
+        member = found .member;
+        more = λ q h. h;
+        only = λ q h n. both h n;
+        none = λ a y x l. out a y x (found .skipped (key a y x) (omega arith) l);
+        outside = out;
+      }
+    where
+      out : (a y x : ℕ) → inPlaces places (key a y x) ≡ false → of (has before) a y x ≡ false
+      out a y x n = fails (of (has before) a y x) (λ o. both (inside a y x o) n)
 
-    pub seeking-start : (rules before i : ℕ) → FirstFrom places 0 i → Seeking of key places rules before before i
-    seeking-start rules before i found =
-        record {
-          bound = found .high;
-          member = found .member;
-          more = λ q h. h;
-          only = λ q h n. both h n;
-          none = λ a y x l. outside (has before) a y x (found .skipped (key a y x) (omega arith) l);
-        }
+  pub seeking-end :
+      (places : List ℕ) (rules before seen i : ℕ)
+      → length places ≡ 33
+      → 2112 ≤ i
+      → Seeking of key places rules before seen i
+      → Unsolved of (has rules) (has before) (has seen)
+  seeking-end places rules before seen i size past old =
+      record {
+        more = old .more;
+        only = old .only;
+        none = λ a y x. go a y x (inPlaces places (key a y x)) refl;
+      }
+    where
+      go : (a y x : ℕ) → (b : Bool) → inPlaces places (key a y x) ≡ b → of (has seen) a y x ≡ false
+      go a y x true e =
+          let low = place-below places (key a y x) size e in
+          old .none a y x (omega arith)
+      go a y x false e = old .outside a y x e
 
-    pub seeking-end :
-        (rules before seen i : ℕ)
-        → length places ≡ 33
-        → 2112 ≤ i
-        → Seeking of key places rules before seen i
-        → Unsolved of (has rules) (has before) (has seen)
-    seeking-end rules before seen i size past old =
-        record {
-          more = old .more;
-          only = old .only;
-          none = λ a y x. go a y x (ltb (key a y x) i) refl;
-        }
-      where
-        go : (a y x : ℕ) → (b : Bool) → ltb (key a y x) i ≡ b → of (has seen) a y x ≡ false
-        go a y x true e = old .none a y x (ltb-true (key a y x) i e)
-        go a y x false e =
-            fails (of (has seen) a y x)
-            (λ o.
-            let low = ltb-false (key a y x) i e in
-            let high = place-below places (key a y x) size (inside (has seen) a y x o) in
-            omega arith)
+  module _
+      (lessen :
+      (some marked : ℕ → Bool) → Within some marked → (a y x : ℕ) → of marked a y x ≡ true → of some a y x ≡ true)
+    where
+      -- with more rules marked
+      pub still : (some marked : ℕ → Bool) → Within some marked → (a y x : ℕ) → of some a y x ≡ false
+          → of marked a y x ≡ false
+      still some marked within a y x n = fails (of marked a y x) (λ o. both (lessen some marked within a y x o) n)
 
-    module _
-        (lessen :
-        (some marked : ℕ → Bool) → Within some marked → (a y x : ℕ) → of marked a y x ≡ true → of some a y x ≡ true)
-      where
-        -- with more rules marked
-        pub still : (some marked : ℕ → Bool) → Within some marked → (a y x : ℕ) → of some a y x ≡ false
-            → of marked a y x ≡ false
-        still some marked within a y x n = fails (of marked a y x) (λ o. both (lessen some marked within a y x o) n)
+      -- a turn that also makes the set smaller
+      pub seeking-fewer :
+          (places fewer : List ℕ) (rules before seen next i k : ℕ)
+          → FirstFrom fewer (i + 1) k
+          → Within (has seen) (has next)
+          → Grown (has rules) (has seen) (has next)
+          → ((a y x : ℕ) → key a y x ≡ i → of (has next) a y x ≡ false)
+          → ((a y x : ℕ)
+          → inPlaces places (key a y x) ≡ true
+          → inPlaces fewer (key a y x) ≡ false
+          → of (has next) a y x ≡ false)
+          → Seeking of key places rules before seen i
+          → Seeking of key fewer rules before next k
+      seeking-fewer places fewer rules before seen next i k found more only here gone old =
+          record {
+            bound = found .high;
+            member = found .member;
+            more = λ q h. more q (old .more q h);
+            only = grown-join (has rules) (has before) (has seen) (has next) (old .only) only;
+            none = λ a y x l. go a y x l (ltb (key a y x) i) refl (eqb (key a y x) i) refl;
+            outside = λ a y x n. out a y x n (inPlaces places (key a y x)) refl;
+          }
+        where
+          out :
+              (a y x : ℕ)
+              → inPlaces fewer (key a y x) ≡ false
+              → (b : Bool)
+              → inPlaces places (key a y x) ≡ b
+              → of (has next) a y x ≡ false
+          out a y x n true e = gone a y x e n
+          out a y x n false e = still (has seen) (has next) more a y x (old .outside a y x e)
 
-        pub seeking-more :
-            (rules before seen next i k : ℕ)
-            → FirstFrom places (i + 1) k
-            → Within (has seen) (has next)
-            → Grown (has rules) (has seen) (has next)
-            → ((a y x : ℕ) → key a y x ≡ i → of (has next) a y x ≡ false)
-            → Seeking of key places rules before seen i
-            → Seeking of key places rules before next k
-        seeking-more rules before seen next i k found more only here old =
-            record {
-              bound = found .high;
-              member = found .member;
-              more = λ q h. more q (old .more q h);
-              only = grown-join (has rules) (has before) (has seen) (has next) (old .only) only;
-              none = λ a y x l. go a y x l (ltb (key a y x) i) refl (eqb (key a y x) i) refl;
-            }
-          where
-            go :
-                (a y x : ℕ)
-                → key a y x < k
-                → (b : Bool)
-                → ltb (key a y x) i ≡ b
-                → (c : Bool)
-                → eqb (key a y x) i ≡ c
-                → of (has next) a y x ≡ false
-            go a y x l true e c f =
-                still (has seen) (has next) more a y x (old .none a y x (ltb-true (key a y x) i e))
-            go a y x l false e true f = here a y x (eqb-true (key a y x) i f)
-            go a y x l false e false f =
-                let low = ltb-false (key a y x) i e in
-                let other = eqb-false (key a y x) i f in
-                outside (has next) a y x (found .skipped (key a y x) (omega arith) l)
+          go :
+              (a y x : ℕ)
+              → key a y x < k
+              → (b : Bool)
+              → ltb (key a y x) i ≡ b
+              → (c : Bool)
+              → eqb (key a y x) i ≡ c
+              → of (has next) a y x ≡ false
+          go a y x l true e c f =
+              still (has seen) (has next) more a y x (old .none a y x (ltb-true (key a y x) i e))
+          go a y x l false e true f = here a y x (eqb-true (key a y x) i f)
+          go a y x l false e false f =
+              let low = ltb-false (key a y x) i e in
+              let other = eqb-false (key a y x) i f in
+              out a y x (found .skipped (key a y x) (omega arith) l) (inPlaces places (key a y x)) refl
 
-        -- before i none passes all rules either
-        pub seeking-before :
-            (rules before seen i : ℕ)
-            → Within (has before) (has rules)
-            → Seeking of key places rules before seen i
-            → (a y x : ℕ)
-            → key a y x < i
-            → of (has rules) a y x ≡ false
-        seeking-before rules before seen i start old a y x l =
-            still (has seen) (has rules) (grown-within (has rules) (has before) (has seen) start (old .only)) a y x
-            (old .none a y x l)
+      pub seeking-more :
+          (places : List ℕ) (rules before seen next i k : ℕ)
+          → FirstFrom places (i + 1) k
+          → Within (has seen) (has next)
+          → Grown (has rules) (has seen) (has next)
+          → ((a y x : ℕ) → key a y x ≡ i → of (has next) a y x ≡ false)
+          → Seeking of key places rules before seen i
+          → Seeking of key places rules before next k
+      seeking-more places rules before seen next i k found more only here =
+          seeking-fewer places places rules before seen next i k found more only here (λ a y x h n. both h n)
+
+      -- before i none passes all rules either
+      pub seeking-before :
+          (places : List ℕ) (rules before seen i : ℕ)
+          → Within (has before) (has rules)
+          → Seeking of key places rules before seen i
+          → (a y x : ℕ)
+          → key a y x < i
+          → of (has rules) a y x ≡ false
+      seeking-before places rules before seen i start old a y x l =
+          still (has seen) (has rules) (grown-within (has rules) (has before) (has seen) start (old .only)) a y x
+          (old .none a y x l)
+
+      -- the search at place i alone
+      module _
+          (inner : (ℕ → Bool) → ℕ → ℕ → ℕ → Bool)
+          (i : ℕ)
+          (there : (marked : ℕ → Bool) (a y x : ℕ) → key a y x ≡ i → of marked a y x ≡ true → inner marked a y x ≡ true)
+        where
+          pub place-none :
+              (rules before marked : ℕ → Bool)
+              → Unsolved inner rules before marked
+              → (a y x : ℕ)
+              → key a y x ≡ i
+              → of marked a y x ≡ false
+          place-none rules before marked none a y x e =
+              fails (of marked a y x) (λ h. both (there marked a y x e h) (none .none a y x))
+
+          pub place-found :
+              (places : List ℕ) (rules start seen a y x : ℕ)
+              → Within (has start) (has rules)
+              → Seeking of key places rules start seen i
+              → of (has rules) a y x ≡ true
+              → ((b z w : ℕ) → tripleBefore b z w a y x ≡ true → of (has rules) b z w ≡ true → key b z w ≤ i)
+              → Solved (inner (has rules)) a y x
+              → Solved (of (has rules)) a y x
+          place-found places rules start seen a y x begun seeking here order found =
+              record {
+                solution = here;
+                earliest = λ b z w e.
+                    fails (of (has rules) b z w)
+                    (λ o.
+                    ⊎-elim (λ (same : key b z w ≡ i). both (there (has rules) b z w same o) (found .earliest b z w e))
+                    (λ (low : key b z w < i).
+                    both o (seeking-before places rules start seen i begun seeking b z w low))
+                    (eq-or-lt-of-le (order b z w e o)));
+              }
 
 -- The order
 

@@ -14,8 +14,9 @@ use Rattle.book.specs.Sets.{has}
 use Rattle.book.proofs.Lists.{and-true, and-left, and-right, and-second}
 use Rattle.book.proofs.Members.{has-zero, has-minus}
 use Rattle.verdicts.proofs.Marks.{Marks}
-use Rattle.search.specs.Search.{coversIn, othersFor, solves, solvesFor, Settles, Searched, SearchedFor}
-use Rattle.search.specs.Search.{NeedsFirst}
+use Rattle.search.specs.Inner.Closing.{Within}
+use Rattle.search.specs.Inner.Search.{coversIn, othersFor, solves, solvesFor, Settles, Searched, SearchedFor}
+use Rattle.search.specs.Inner.Search.{AllSettle, NeedsFirst}
 use Rattle.search.specs.declared.searching.Sought.{Sought}
 use Rattle.search.specs.declared.searching.Sought.the-variants.{Found, Nothing}
 use Rattle.search.specs.declared.users.Needs.the-variants.{Nobody, User}
@@ -51,9 +52,7 @@ pub mask-within :
     → mask < 2 ^ 64
     → rules < 2 ^ 64
     → bitAnd mask ((2 ^ 64 - 1) - rules) ≡ 0
-    → (q : ℕ)
-    → has mask q ≡ true
-    → has rules q ≡ true
+    → Within (has mask) (has rules)
 mask-within mask rules lm lr e q h =
     go (has rules q) (rw h at (sym (has-minus 64 mask rules q lm lr) ∙ ap (λ (w : ℕ). has w q) e ∙ has-zero q))
   where
@@ -90,7 +89,7 @@ module _ (t : List ℕ) (r n : ℕ) (had : List ℕ) where
       pub settled-none :
           (mask : ℕ)
           → Settles t r n had mask
-          → ((q : ℕ) → has mask q ≡ true → has rules q ≡ true)
+          → Within (has mask) (has rules)
           → (a y x : ℕ)
           → solvesFor t r n had covered u a y x ≡ false
       unfolding solvesFor
@@ -146,7 +145,7 @@ module _ (t : List ℕ) (r n : ℕ) (had : List ℕ) where
 pub record Users (t : List ℕ) (r n : ℕ) (had covered masks : List ℕ) (u : ℕ) : Type 0 where
   pub bound : u ≤ 32
   pub size : length masks ≡ 32
-  pub settle : (i : ℕ) → i < 32 → Settles t r n had (getD masks i 0)
+  pub settle : AllSettle t r n had masks
   pub none : (v a y x : ℕ) → v < u → solvesFor t r n had covered v a y x ≡ false
 
 module _ (t : List ℕ) (r n : ℕ) (had covered : List ℕ) where

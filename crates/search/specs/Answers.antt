@@ -1,15 +1,13 @@
--- What Idle answers, whole: refusals first, and the buffer on leaving. Document 01, "The calls". Assumes nothing.
+-- The tests of Idle in document 01's order, and what it answers, whole, with the buffer on leaving. Document 01, "The
+-- calls". Assumes nothing.
 use Prim.Native.Nat.{ℕ}
 use mathlib.Core.List.{List, [], _∷_, _++_}
 use lib.ListN.{length, drop}
 use lib.Dec.{ltb, leb}
-use Rattle.book.specs.Blocks.{headOf}
-use Rattle.book.specs.Refusals.{firstFailing}
-use Rattle.book.specs.Answers.{refuse, orElse, checkAnswer, ruleCount}
-use Rattle.book.specs.declared.Checked.{Checked}
-use Rattle.book.specs.declared.Checked.the-variants as checked
+use Rattle.book.specs.Blocks.{Book, Head, headOf, ruleCount}
+use Rattle.book.specs.Tests.{Test, answered}
+use Rattle.book.specs.Refusals.{bookTests}
 use Rattle.lineage.specs.Rows.{rowCount}
-use Rattle.lineage.specs.Answers.{leaving}
 use Rattle.search.specs.Choices.{Candidate}
 use Rattle.search.specs.Shown.{shownPlan}
 use Rattle.search.specs.Alone.{First, none, shown, firstAlone}
@@ -24,35 +22,32 @@ abbrev pub bufferLength : ℕ
 bufferLength = 25
 
 -- 24: "no such rule"
-unfoldable pub ruleAnswer : List ℕ → ℕ → Checked
-ruleAnswer book r = refuse (firstFailing ((noRule, ltb r (ruleCount book)) ∷ [])) 0 (checked.Accepted 0)
+unfoldable pub ruleTests : (book : Book) (r : ℕ) → List Test
+ruleTests book r = (noRule, 0, ltb r (ruleCount book)) ∷ []
 
 -- 25: "buffer under 36 bytes"
-unfoldable pub bufferAnswer : ℕ → Checked
-bufferAnswer n = refuse (firstFailing ((bufferLength, leb 36 n) ∷ [])) 0 (checked.Accepted 0)
+unfoldable pub bufferTests : List ℕ → List Test
+bufferTests buffer = (bufferLength, 0, leb 36 (length buffer)) ∷ []
 
 -- "Book refusals; 24 [..]; 25"
-unfoldable pub idleCheck : List ℕ → ℕ → List ℕ → Checked
-idleCheck book r buffer = orElse (checkAnswer book) (orElse (ruleAnswer book r) (bufferAnswer (length buffer)))
+unfoldable pub idleTests : (book : Book) (r : ℕ) (buffer : List ℕ) → List Test
+idleTests book r buffer = bookTests book ++ ruleTests book r ++ bufferTests buffer
 
 -- "Otherwise idle [..]; or user and row count"
-unfoldable pub idlenessOf : List ℕ → First Candidate → Idleness
+unfoldable pub idlenessOf : Head → First Candidate → Idleness
 idlenessOf head none = idleness.Idle
 idlenessOf head (shown c) = idleness.Needed (c .user) (rowCount (shownPlan head (c .choice)))
 
-unfoldable pub refusedOr : Checked → Idleness → Idleness
-refusedOr (checked.Accepted n) answer = answer
-refusedOr (checked.Refused refusal) answer = idleness.Refused refusal
-
-unfoldable pub idleAnswer : List ℕ → ℕ → List ℕ → Idleness
-idleAnswer book r buffer = refusedOr (idleCheck book r buffer) (idlenessOf (headOf book) (firstAlone book r))
+unfoldable pub idleAnswer : (book : Book) (r : ℕ) (buffer : List ℕ) → Idleness
+idleAnswer book r buffer =
+    answered (idleTests book r buffer) idleness.Refused (idlenessOf (headOf book) (firstAlone book r))
 
 -- "buffer unchanged; or [..] the plan at the buffer's front and the rest unchanged"
-unfoldable pub written : List ℕ → First Candidate → List ℕ → List ℕ
+unfoldable pub written : Head → First Candidate → List ℕ → List ℕ
 written head none buffer = buffer
 written head (shown c) buffer = shownPlan head (c .choice) ++ drop (length (shownPlan head (c .choice))) buffer
 
 -- the buffer on leaving: "Every refusal leaves its buffers unchanged."
-unfoldable pub idleBuffer : List ℕ → ℕ → List ℕ → List ℕ
+unfoldable pub idleBuffer : (book : Book) (r : ℕ) (buffer : List ℕ) → List ℕ
 idleBuffer book r buffer =
-    leaving (idleCheck book r buffer) (written (headOf book) (firstAlone book r) buffer) buffer
+    answered (idleTests book r buffer) (λ refusal. buffer) (written (headOf book) (firstAlone book r) buffer)

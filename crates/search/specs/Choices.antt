@@ -3,15 +3,16 @@ use Prim.Native.Nat.{ℕ, zero, suc}
 use mathlib.Core.Bool.{Bool, true, false, _&&_, _||_}
 use mathlib.Core.List.{List, [], _∷_, map}
 use lib.Dec.{eqb, ltb}
-use Rattle.book.specs.Lists.{upTo}
+use Rattle.book.specs.Lists.{flat, upTo}
+use Rattle.book.specs.Blocks.{Head, Rule}
 use Rattle.book.specs.Head.{isUser, userCount}
 use Rattle.book.specs.Rule.{referenceCount}
-use Rattle.verdicts.specs.Accesses.{Access, fits, fitting, flat, keep, same}
+use Rattle.verdicts.specs.Accesses.{Access, fits, fitting, keep, same}
 use Rattle.verdicts.specs.Breaking.{choicesFrom}
 use Rattle.search.specs.Obtainable.{canBeHad}
 
 -- one access that can be had and fits for each of n references, reference i first
-unfoldable pub isChoiceFrom : List ℕ → List ℕ → ℕ → ℕ → List Access → Bool
+unfoldable pub isChoiceFrom : Head → Rule → (n i : ℕ) → List Access → Bool
 isChoiceFrom head rule zero i [] = true
 isChoiceFrom head rule zero i (x ∷ choice) = false
 isChoiceFrom head rule (suc n) i [] = false
@@ -19,11 +20,11 @@ isChoiceFrom head rule (suc n) i (x ∷ choice) =
     (canBeHad head x && fits head rule i x) && isChoiceFrom head rule n (suc i) choice
 
 -- "a choice holds, for each reference of r, one access that can be had, of fitting action and covered leaf"
-unfoldable pub isChoice : List ℕ → List ℕ → List Access → Bool
+unfoldable pub isChoice : Head → Rule → List Access → Bool
 isChoice head rule choice = isChoiceFrom head rule (referenceCount rule) 0 choice
 
 -- all of them, in order
-unfoldable pub choicesOf : List ℕ → List ℕ → List (List Access)
+unfoldable pub choicesOf : Head → Rule → List (List Access)
 choicesOf head rule = choicesFrom (referenceCount rule) 0 (fitting head rule (canBeHad head))
 
 -- a user and a choice
@@ -31,9 +32,10 @@ pub record Candidate : Type 0 where
   pub user : ℕ
   pub choice : List Access
 
-unfoldable pub candidates : List ℕ → List ℕ → List Candidate
+unfoldable pub candidates : Head → Rule → List Candidate
 candidates head rule =
-    flat (λ u. map (λ c. record { user = u; choice = c }) (choicesOf head rule)) (keep (isUser head) (upTo (userCount head)))
+    flat (λ u. map (λ c. record { user = u; choice = c }) (choicesOf head rule))
+    (keep (isUser head) (upTo (userCount head)))
 
 -- "by action (projection first), leaf, operation, lower numbers first"
 unfoldable pub accessBefore : Access → Access → Bool

@@ -4,8 +4,4 @@ pub mod Shown
 pub mod Alone
 pub mod Answers
 pub mod Demand
-pub mod Places
-pub mod Table
-pub mod Closing
-pub mod Search
-pub mod First
+pub mod Inner

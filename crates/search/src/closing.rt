@@ -1,19 +1,20 @@
 // What breaks a rule beside two accesses, by the tables: a place stands for one reference, the two
 // given places for the others.
 use book::sets::contains;
-use lineage::reach::word_at;
-use verdicts::breaking::word_if;
+use book::sets::word_at;
+use book::sets::word_if;
 ghost use mathlib.Core.Path.{_≡_};
-ghost use mathlib.Core.Bool.{_&&_, _||_, not};
+ghost use mathlib.Core.Bool.{_&&_, not};
 ghost use Prim.Native.Nat.{ℕ, _+_, _*_, _%_, _<_};
 ghost use lib.ListN.{getD};
 ghost use Rattle.book.specs.Sets.{has};
-ghost use Rattle.search.specs.Places.{inPlaces};
-ghost use Rattle.search.specs.Table.{meets};
-ghost use Rattle.search.specs.Closing.{acceptedAt, closesAt, closesBy};
+ghost use Rattle.search.specs.Inner.Places.{inPlaces, PlacesOf};
+ghost use Rattle.search.specs.Inner.Table.{meets};
+ghost use Rattle.search.specs.Inner.Closing.{acceptedAt, meetsWith, Masked};
+ghost use Rattle.search.specs.Inner.Search.{referenceAt, accepts};
 
 // Whether place p meets reference i of rule q.
-fn meets(t: &[u64], q: u8, i: u8, p: usize) -> bool
+pub fn meets(t: &[u64], q: u8, i: u8, p: usize) -> bool
     ensures { λ r. ⌜ r ≡ meets (now (t .entry)) q i p ⌝ }
 {
     contains(
@@ -30,7 +31,8 @@ fn taken_word(t: &[u64], q: u8, i: u8, j: u8) -> u64
 }
 
 // The operations that some restriction takes at reference i beside place b at k and place c at l.
-pub fn accepted_beside(t: &[u64], q: u8, i: u8, k: u8, l: u8, b: usize, c: usize) -> u64
+// The tables may end before them.
+fn accepted_by_words(t: &[u64], q: u8, i: u8, k: u8, l: u8, b: usize, c: usize) -> u64
     ensures { λ r. ⌜ ((p : ℕ) → has r (p % 64) ≡ acceptedAt (now (t .entry)) q i k l b c p) ⌝ }
 {
     let mut found = 0u64;
@@ -42,25 +44,87 @@ pub fn accepted_beside(t: &[u64], q: u8, i: u8, k: u8, l: u8, b: usize, c: usize
     found
 }
 
-// The operations that break rule q at reference i, with b at k and c at l.
-fn closing_one(t: &[u64], q: u8, i: u8, k: u8, l: u8, b: usize, c: usize) -> u64
-    ensures { λ r. ⌜ ((p : ℕ) → has r (p % 64) ≡ closesAt (now (t .entry)) q i k l b c p) ⌝ }
+// The same, with one test of the length: this is what the search does most.
+pub fn accepted_beside(t: &[u64], q: u8, i: u8, k: u8, l: u8, b: usize, c: usize) -> u64
+    ensures { λ r. ⌜ ((p : ℕ) → has r (p % 64) ≡ acceptedAt (now (t .entry)) q i k l b c p) ⌝ }
 {
-    if meets(t, q, k, b) & meets(t, q, l, c) {
+    let at = 128 * (q as usize) + 99;
+    let x = at + 8 * (k as usize);
+    let y = at + 8 * (l as usize);
+    let z = at + 8 * (i as usize);
+    if (t.len() < x + 8) | ((t.len() < y + 8) | (t.len() < z + 8)) {
+        return accepted_by_words(t, q, i, k, l, b, c);
+    }
+    let mut found = 0u64;
+    for j in 0..8usize {
+        let both = contains(t[x + j], b % 64) & contains(t[y + j], c % 64);
+        found = found | word_if(both, t[z + j]);
+    }
+    found
+}
+
+// The reference of a rule with n references that stands i-th.
+pub fn reference_at(n: u8, i: u8) -> u8
+    ensures { λ r. ⌜ (r ≡ referenceAt n i) × (r < 3) ⌝ }
+{
+    ((i as usize + n as usize) % 3) as u8
+}
+
+// The operations of a third place that rule r accepts beside a and y.
+pub fn accepted_third(t: &[u64], r: u8, n: u8, a: usize, y: usize) -> u64
+    ensures { λ w. ⌜ ((p : ℕ) → has w (p % 64) ≡ accepts (now (t .entry)) r n a y p) ⌝ }
+{
+    accepted_beside(
+        t,
+        r,
+        reference_at(n, 2),
+        reference_at(n, 0),
+        reference_at(n, 1),
+        a,
+        y,
+    )
+}
+
+// For each reference of a rule the operations that break it there.
+pub struct Masks {
+    pub first: u64,
+    pub second: u64,
+    pub third: u64,
+}
+
+// The operations that break rule q at reference i, with b at k and c at l, if these meet theirs.
+fn closing_if(met: bool, t: &[u64], q: u8, i: u8, k: u8, l: u8, b: usize, c: usize) -> u64
+    ensures { λ r. ⌜ ((p : ℕ) → has r (p % 64) ≡ (met && not (acceptedAt (now (t .entry)) q i k l b c p))) ⌝ }
+{
+    if met {
         return !accepted_beside(t, q, i, k, l, b, c);
     }
     0
 }
 
-// In either order of b and c.
-pub fn closing_mask(t: &[u64], q: u8, i: u8, k: u8, l: u8, b: usize, c: usize) -> u64
-    ensures { λ r. ⌜ ((p : ℕ) → has r (p % 64) ≡ closesBy (now (t .entry)) q i k l b c p) ⌝ }
+// The operations that break rule q beside b and c, in either order of them.
+pub fn closing_masks(t: &[u64], q: u8, b: usize, c: usize) -> Masks
+    ensures { λ r. ⌜ Masked (now (t .entry)) q b c r ⌝ }
 {
-    closing_one(t, q, i, k, l, b, c) | closing_one(t, q, i, k, l, c, b)
+    let b_first = meets(t, q, 0, b);
+    let b_second = meets(t, q, 1, b);
+    let b_third = meets(t, q, 2, b);
+    let c_first = meets(t, q, 0, c);
+    let c_second = meets(t, q, 1, c);
+    let c_third = meets(t, q, 2, c);
+    Masks {
+        first: closing_if(b_second & c_third, t, q, 0, 1, 2, b, c)
+            | closing_if(c_second & b_third, t, q, 0, 1, 2, c, b),
+        second: closing_if(b_first & c_third, t, q, 1, 0, 2, b, c)
+            | closing_if(c_first & b_third, t, q, 1, 0, 2, c, b),
+        third: closing_if(b_first & c_second, t, q, 2, 0, 1, b, c)
+            | closing_if(c_first & b_second, t, q, 2, 0, 1, c, b),
+    }
 }
 
-// A set less the places that meet a reference of rule q with one of the operations given for it.
-pub fn less_closing(
+// A set without the places that meet a reference of rule q with one of the operations given for it.
+// The tables may end before them.
+fn without_by_words(
     t: &[u64],
     q: u8,
     first: u64,
@@ -68,7 +132,7 @@ pub fn less_closing(
     third: u64,
     set: [u64; 33],
 ) -> [u64; 33]
-    ensures { λ r. ⌜ ((p : ℕ) → p < 2112 → inPlaces r p ≡ (inPlaces set p && not ((meets (now (t .entry)) q 0 p && has first (p % 64)) || ((meets (now (t .entry)) q 1 p && has second (p % 64)) || (meets (now (t .entry)) q 2 p && has third (p % 64)))))) ⌝ }
+    ensures { λ r. ⌜ PlacesOf (λ p. inPlaces set p && not (meetsWith (now (t .entry)) q first second third p)) r ⌝ }
 {
     let at = 128 * (q as usize);
     let mut rest = set;
@@ -76,6 +140,31 @@ pub fn less_closing(
         let a = word_at(t, at + w) & first;
         let b = word_at(t, at + 33 + w) & second;
         let c = word_at(t, at + 66 + w) & third;
+        rest[w] = set[w] & !(a | b | c);
+    }
+    rest
+}
+
+// The same, with one test of the length.
+pub fn without_closing(
+    t: &[u64],
+    q: u8,
+    first: u64,
+    second: u64,
+    third: u64,
+    set: [u64; 33],
+) -> [u64; 33]
+    ensures { λ r. ⌜ PlacesOf (λ p. inPlaces set p && not (meetsWith (now (t .entry)) q first second third p)) r ⌝ }
+{
+    let at = 128 * (q as usize);
+    if t.len() < at + 99 {
+        return without_by_words(t, q, first, second, third, set);
+    }
+    let mut rest = set;
+    for w in 0..33usize {
+        let a = t[at + w] & first;
+        let b = t[at + 33 + w] & second;
+        let c = t[at + 66 + w] & third;
         rest[w] = set[w] & !(a | b | c);
     }
     rest

@@ -3,76 +3,70 @@ use crate::BUFFER_LENGTH;
 use crate::Idleness;
 use crate::NO_RULE;
 use crate::obtaining::obtainable;
-use crate::showing::row_total;
+use crate::showing::row_count;
 use crate::showing::shown_plan;
 use crate::showing::write_plan;
 use crate::tables::covered_by;
 use crate::tables::table;
 use crate::users::Needs;
 use crate::users::first_user;
-use book::Checked;
-use book::bytes::less;
-use book::check;
-use book::checking::or_else;
-use book::checking::refused;
+use book::Tested;
+use book::bytes::saturating_sub;
+use book::checking::test_book;
 use book::fields::head_of;
 use book::fields::reference_count;
 use book::fields::rule_at;
-use verdicts::judging::rule_total;
+use book::fields::rule_count;
+use book::testing::or_else;
+use book::testing::test;
+use book::words::head_words;
 ghost use mathlib.Core.Path.{_≡_};
-ghost use Prim.Native.Nat.{ℕ, _≤_, _<_};
-ghost use lib.ListN.{length};
-ghost use Rattle.book.specs.Answers.{checkAnswer, ruleCount};
-ghost use Rattle.book.specs.declared.Checked.the-variants.{Accepted};
-ghost use Rattle.search.specs.Answers.{ruleAnswer, bufferAnswer, idleCheck, idleAnswer, idleBuffer};
-ghost use Rattle.search.specs.Demand.{Demand3};
-ghost use Rattle.search.specs.First.{FirstNeeds, answerOf, bufferOf};
+ghost use Prim.Native.Nat.{_<_};
+ghost use Rattle.book.specs.Blocks.{headOf, ruleCount};
+ghost use Rattle.book.specs.Tests.{firstFailing};
+ghost use Rattle.book.specs.Refusals.{BookAccepted};
+ghost use Rattle.book.specs.Inner.Words.{HeadWords};
+ghost use Rattle.search.specs.Answers.{idleAnswer, idleBuffer, idleTests, ruleTests};
+ghost use Rattle.search.specs.Demand.{Demand3, IdleAccepted};
+ghost use Rattle.search.specs.Inner.First.{FirstNeeds, ShownAs};
 
-fn rule_check(book: &[u8], rule: u32) -> Checked
-    ensures { λ r. ⌜ r ≡ ruleAnswer (now (book .entry)) rule ⌝ }
+// The test 24.
+pub fn test_rule(book: &[u8], rule: u32) -> Tested
+    ensures { λ r. ⌜ r ≡ firstFailing (ruleTests (now (book .entry)) rule) ⌝ }
 {
-    if (rule as usize) < less(book.len() / 512, 4) {
-        return Checked::Accepted(0);
-    }
-    refused(NO_RULE, 0)
+    let n = saturating_sub(book.len() / 512, 4);
+    test(NO_RULE, 0, (rule as usize) < n)
 }
 
-fn buffer_check(n: usize) -> Checked
-    ensures { λ r. ⌜ r ≡ bufferAnswer n ⌝ }
+// The tests of the book, of the rule, of the buffer.
+fn test_idle(book: &[u8], head: &[u64], rule: u32, buffer: &[u8]) -> Tested
+    ensures { λ r. ⌜ (HeadWords (headOf (now (book .entry))) (now (head .entry))
+        → r ≡ firstFailing (idleTests (now (book .entry)) rule (now (buffer .entry)))) ⌝ }
 {
-    if 36 <= n {
-        return Checked::Accepted(0);
-    }
-    refused(BUFFER_LENGTH, 0)
-}
-
-// The refusal that comes first, of the book, of the rule, of the buffer.
-fn idle_check(book: &[u8], rule: u32, buffer: &[u8]) -> Checked
-    ensures { λ r. ⌜ r ≡ idleCheck (now (book .entry)) rule (now (buffer .entry)) ⌝ }
-{
-    let rest = or_else(rule_check(book, rule), buffer_check(buffer.len()));
-    or_else(check(book), rest)
+    let both = or_else(test_book(book, head), test_rule(book, rule));
+    or_else(both, test(BUFFER_LENGTH, 0, 36 <= buffer.len()))
 }
 
 // The first user and choice that break a rule of an accepted book alone.
-fn needs(book: &[u8], rule: u8) -> Needs
-    ensures { λ s. ⌜ ((n : ℕ) → checkAnswer (now (book .entry)) ≡ Accepted n → rule < ruleCount (now (book .entry)) → FirstNeeds (now (book .entry)) rule s) ⌝ }
+fn needs(book: &[u8], head: &[u64], rule: u8) -> Needs
+    ensures { λ s. ⌜ (HeadWords (headOf (now (book .entry))) (now (head .entry)) → BookAccepted (now (book .entry))
+        → rule < ruleCount (now (book .entry)) → FirstNeeds (now (book .entry)) rule s) ⌝ }
 {
-    let n = rule_total(book);
-    let t = table(book, n);
+    let n = rule_count(book);
+    let t = table(book, head, n);
     let references = reference_count(rule_at(book, rule)) as u8;
     first_user(
         &t,
         rule,
         references,
         obtainable(head_of(book)),
-        covered_by(book, n),
+        covered_by(book, head, n),
     )
 }
 
 // The answer for what was found, with the plan in the buffer.
 fn shown(head: &[u8], found: Needs, buffer: &mut [u8]) -> Idleness
-    ensures { λ r. ⌜ (36 ≤ length (now (buffer .entry)) → (r ≡ answerOf (now (head .entry)) found) × (now (buffer .exit) ≡ bufferOf (now (head .entry)) found (now (buffer .entry)))) ⌝ }
+    ensures { λ r. ⌜ ShownAs (now (head .entry)) found (now (buffer .entry)) (now (buffer .exit)) r ⌝ }
 {
     match found {
         Needs::Nobody => Idleness::Idle,
@@ -82,7 +76,7 @@ fn shown(head: &[u8], found: Needs, buffer: &mut [u8]) -> Idleness
             second,
             third,
         } => {
-            let rows = row_total(first, second, third);
+            let rows = row_count(first, second, third);
             write_plan(buffer, shown_plan(head, first, second, third), 4 * rows);
             Idleness::Needed {
                 user: user as u32,
@@ -95,13 +89,17 @@ fn shown(head: &[u8], found: Needs, buffer: &mut [u8]) -> Idleness
 // Idle: whether no user and accepted plan break the rule alone; otherwise the first user and plan
 // that do, the plan at the buffer's front. A refusal leaves the buffer as it was.
 pub fn idle(book: &[u8], rule: u32, buffer: &mut [u8]) -> Idleness
-    ensures { λ r. ⌜ (r ≡ idleAnswer (now (book .entry)) rule (now (buffer .entry))) × (now (buffer .exit) ≡ idleBuffer (now (book .entry)) rule (now (buffer .entry))) × ((n : ℕ) → checkAnswer (now (book .entry)) ≡ Accepted n → rule < ruleCount (now (book .entry)) → 36 ≤ length (now (buffer .entry)) → Demand3 (now (book .entry)) rule (now (buffer .entry)) (now (buffer .exit)) r) ⌝ }
+    ensures { λ r. ⌜ (r ≡ idleAnswer (now (book .entry)) rule (now (buffer .entry)))
+        × (now (buffer .exit) ≡ idleBuffer (now (book .entry)) rule (now (buffer .entry)))
+        × (IdleAccepted (now (book .entry)) rule (now (buffer .entry))
+        → Demand3 (now (book .entry)) rule (now (buffer .entry)) (now (buffer .exit)) r) ⌝ }
 {
-    let checked = idle_check(book, rule, buffer);
-    match checked {
-        Checked::Refused(refusal) => Idleness::Refused(refusal),
-        Checked::Accepted(_) => {
-            let found = needs(book, (rule % 256) as u8);
+    let head = head_words(head_of(book));
+    let outcome = test_idle(book, &head, rule, buffer);
+    match outcome {
+        Tested::Refused(refusal) => Idleness::Refused(refusal),
+        Tested::Passed => {
+            let found = needs(book, &head, (rule % 256) as u8);
             shown(head_of(book), found, buffer)
         }
     }

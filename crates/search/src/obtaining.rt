@@ -8,14 +8,10 @@ use book::sets::contains;
 use book::sets::single;
 use lineage::reach::label_set;
 ghost use mathlib.Core.Path.{_≡_};
-ghost use mathlib.Core.Bool.{_&&_, cond};
-ghost use Prim.Native.Nat.{ℕ, _/_, _%_, _<_};
-ghost use lib.Dec.{eqb, ltb};
-ghost use Rattle.book.specs.Lists.{any, upTo};
+ghost use Prim.Native.Nat.{ℕ, _<_};
 ghost use Rattle.book.specs.Sets.{has, WordOf};
-ghost use Rattle.book.specs.Head.{functionCount, operation};
-ghost use Rattle.search.specs.Obtainable.{labelled, operated};
-ghost use Rattle.search.specs.Table.{HadHolds};
+ghost use Rattle.search.specs.Obtainable.{labelled};
+ghost use Rattle.search.specs.Inner.Table.{inFour, ofFunction, HadWith, HadHolds};
 
 // The labels of the columns.
 fn labels_of(head: &[u8]) -> u64
@@ -31,7 +27,7 @@ fn labels_of(head: &[u8]) -> u64
 
 // The operations of the functions.
 fn operations_of(head: &[u8]) -> u64
-    ensures { λ r. ⌜ WordOf (λ k. any (λ f. eqb (operation (now (head .entry)) f) k) (upTo (functionCount (now (head .entry))))) r ⌝ }
+    ensures { λ r. ⌜ WordOf (ofFunction (now (head .entry))) r ⌝ }
 {
     let n = function_count(head);
     let mut found = 0u64;
@@ -43,7 +39,7 @@ fn operations_of(head: &[u8]) -> u64
 
 // The operations with which an access of label d can be had.
 fn operations_for(head: &[u8], labels: u64, operations: u64, d: u8) -> u64
-    ensures { λ r. ⌜ (WordOf (labelled (now (head .entry))) labels → WordOf (λ k. any (λ f. eqb (operation (now (head .entry)) f) k) (upTo (functionCount (now (head .entry))))) operations → d < 64 → (k : ℕ) → k < 16 → has r k ≡ (labelled (now (head .entry)) d && operated (now (head .entry)) d k)) ⌝ }
+    ensures { λ r. ⌜ HadWith (now (head .entry)) labels operations d r ⌝ }
 {
     if contains(labels, d as usize) {
         return 1 | support(head, d) & operations;
@@ -53,7 +49,7 @@ fn operations_for(head: &[u8], labels: u64, operations: u64, d: u8) -> u64
 
 // Four masks of 16 bits as one word, what is above them cut off.
 pub fn four(a: u64, b: u64, c: u64, d: u64) -> u64
-    ensures { λ r. ⌜ ((i : ℕ) → i < 64 → has r i ≡ has (cond (ltb i 16) a (cond (ltb i 32) b (cond (ltb i 48) c d))) (i % 16)) ⌝ }
+    ensures { λ r. ⌜ ((i : ℕ) → i < 64 → has r i ≡ inFour a b c d i) ⌝ }
 {
     a % 65536 + 65536 * (b % 65536) + 4294967296 * (c % 65536) + 281474976710656 * (d % 65536)
 }

@@ -1,11 +1,10 @@
 // Accesses as numbers: the access (s, d, k) is at place 1024 × s + 16 × d + k, so places are in the
 // order of choices. Place 2048 stands for an absent reference. A set of places is 33 words.
 ghost use mathlib.Core.Path.{_≡_};
-ghost use mathlib.Core.Bool.{true, false};
-ghost use Prim.Native.Nat.{ℕ, _≤_, _<_};
+ghost use mathlib.Core.Bool.{true};
+ghost use Prim.Native.Nat.{ℕ, _≤_};
 ghost use lib.ListN.{getD};
-ghost use Rattle.book.specs.Sets.{has};
-ghost use Rattle.search.specs.Places.{FirstFrom, rowsAt};
+ghost use Rattle.search.specs.Inner.Places.{pastPlaces, rowsAt, Lowest, FirstFrom};
 
 pub const NOWHERE: usize = 2048;
 
@@ -13,14 +12,14 @@ pub const PAST_PLACES: usize = 2112;
 
 // The lowest member of a word that has one.
 pub fn lowest(word: u64) -> usize
-    ensures { λ r. ⌜ (r ≤ 64) × ((word ≡ 0 → ⊥) → (r < 64) × (has word r ≡ true)) × ((j : ℕ) → j < r → has word j ≡ false) ⌝ }
+    ensures { λ r. ⌜ Lowest word r ⌝ }
 {
     u64::trailing_zeros(word) as usize
 }
 
 // The lowest place of a set from p on.
 pub fn first_from(set: [u64; 33], p: usize) -> usize
-    ensures { λ r. ⌜ (p ≤ 2112 → FirstFrom set p r) ⌝ }
+    ensures { λ r. ⌜ (p ≤ pastPlaces → FirstFrom set p r) ⌝ }
 {
     if PAST_PLACES <= p {
         return PAST_PLACES;
@@ -37,7 +36,8 @@ pub fn first_from(set: [u64; 33], p: usize) -> usize
     PAST_PLACES
 }
 
-// Whether no place is in a set.
+// Whether no place is in a set. Only `true` is promised: it ends a search early, and a wrong
+// `false` would only let it go on.
 pub fn is_empty(set: [u64; 33]) -> bool
     ensures { λ r. ⌜ (r ≡ true → (w : ℕ) → getD set w 0 ≡ 0) ⌝ }
 {
@@ -49,7 +49,8 @@ pub fn is_empty(set: [u64; 33]) -> bool
     true
 }
 
-// Whether two sets have the same words.
+// Whether two sets have the same words. Only `true` is promised: it spares a rule that took nothing
+// its mark, and a mark too many would only cost a later search.
 pub fn same(a: [u64; 33], b: [u64; 33]) -> bool
     ensures { λ r. ⌜ (r ≡ true → a ≡ b) ⌝ }
 {

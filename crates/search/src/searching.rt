@@ -1,20 +1,23 @@
 // The first three places, one for each reference of rule r, that break r and no rule of a set. The
 // references stand in their order with absent ones first, so the last one always stands third and
 // is never looped over.
-use crate::closing::accepted_beside;
+use crate::closing::accepted_third;
+use crate::closing::reference_at;
 use crate::places::NOWHERE;
 use crate::places::PAST_PLACES;
 use crate::places::first_from;
 use crate::places::is_empty;
+use crate::settling::SETTLING;
+use crate::settling::settle;
 use crate::sifting::Remaining;
 use crate::sifting::sift;
-use lineage::reach::word_at;
-ghost use mathlib.Core.Path.{_≡_};
-ghost use mathlib.Core.Bool.{true, _&&_, not};
-ghost use Prim.Native.Nat.{ℕ, _+_, _*_, _%_, _<_};
+use book::sets::word_at;
+ghost use mathlib.Core.Bool.{_&&_, not};
+ghost use Prim.Native.Nat.{_%_};
 ghost use Rattle.book.specs.Sets.{has};
-ghost use Rattle.search.specs.Places.{inPlaces};
-ghost use Rattle.search.specs.Search.{referenceAt, candidate, solves, solvesIn, solvesFirst, solvesBeside, Searched, Thirds, Possible};
+ghost use Rattle.search.specs.Inner.Places.{inPlaces, PlacesOf};
+ghost use Rattle.search.specs.Inner.Search.{candidate, solves, solvesIn, solvesFirst, solvesBeside, solvesPair};
+ghost use Rattle.search.specs.Inner.Search.{Searched, SearchedFrom, SearchedSince, Thirds, Possible};
 
 // The first three places; or the rules that took places away, and which of them did so last.
 pub enum Sought {
@@ -29,16 +32,9 @@ pub enum Sought {
     },
 }
 
-// The reference that stands i-th.
-fn reference_at(n: u8, i: u8) -> u8
-    ensures { λ r. ⌜ (r ≡ referenceAt n i) × (r < 3) ⌝ }
-{
-    ((i as usize + n as usize) % 3) as u8
-}
-
-// The places that can be chosen for it.
+// The places that can be chosen for the reference that stands i-th.
 fn candidates(t: &[u64], r: u8, n: u8, had: [u64; 32], i: u8) -> [u64; 33]
-    ensures { λ c. ⌜ ((p : ℕ) → p < 2112 → inPlaces c p ≡ candidate (now (t .entry)) r n had i p) ⌝ }
+    ensures { λ c. ⌜ PlacesOf (candidate (now (t .entry)) r n had i) c ⌝ }
 {
     let reference = reference_at(n, i);
     let mut found = [0u64; 33];
@@ -53,9 +49,9 @@ fn candidates(t: &[u64], r: u8, n: u8, had: [u64; 32], i: u8) -> [u64; 33]
     found
 }
 
-// A set less the places with some operations.
-fn less_operations(set: [u64; 33], operations: u64) -> [u64; 33]
-    ensures { λ r. ⌜ ((p : ℕ) → p < 2112 → inPlaces r p ≡ (inPlaces set p && not (has operations (p % 64)))) ⌝ }
+// A set without the places with some operations.
+fn without_operations(set: [u64; 33], operations: u64) -> [u64; 33]
+    ensures { λ r. ⌜ PlacesOf (λ p. inPlaces set p && not (has operations (p % 64))) r ⌝ }
 {
     let mut rest = set;
     for w in 0..33usize {
@@ -68,23 +64,62 @@ fn less_operations(set: [u64; 33], operations: u64) -> [u64; 33]
 fn thirds(t: &[u64], r: u8, n: u8, rules: u64, a: usize, y: usize, before: Remaining) -> Remaining
     ensures { λ s. ⌜ Thirds (now (t .entry)) r n rules a y before s ⌝ }
 {
-    let accepted = accepted_beside(
-        t,
-        r,
-        reference_at(n, 2),
-        reference_at(n, 0),
-        reference_at(n, 1),
-        a,
-        y,
-    );
+    let accepted = accepted_third(t, r, n, a, y);
     let all = before.places;
-    let places = less_operations(all, accepted);
+    let places = without_operations(all, accepted);
     let refused = Remaining {
         places,
         rules: before.rules,
         last: before.last,
     };
     sift(t, rules, a, y, refused)
+}
+
+// The first third place beside a and y.
+fn beside_both(
+    t: &[u64],
+    r: u8,
+    n: u8,
+    rules: u64,
+    a: usize,
+    y: usize,
+    places: [u64; 33],
+    seen: u64,
+    last: u8,
+) -> Sought
+    ensures { λ s. ⌜ SearchedSince (solvesPair (now (t .entry)) r n a y places) rules seen s ⌝ }
+{
+    let from = Remaining {
+        places,
+        rules: seen,
+        last,
+    };
+    let rest = thirds(t, r, n, rules, a, y, from);
+    let open = rest.places;
+    let x = first_from(open, 0);
+    if x < PAST_PLACES {
+        return Sought::Found {
+            first: a,
+            second: y,
+            third: x,
+        };
+    }
+    Sought::Nothing {
+        rules: rest.rules,
+        last: rest.last,
+    }
+}
+
+// How often in a row the same rule took last. Nothing is promised of it: it only says when to ask
+// what that rule settles.
+fn in_a_row(turns: u8, again: bool) -> u8 {
+    if !again {
+        return 0;
+    }
+    if turns <= SETTLING {
+        return turns + 1;
+    }
+    turns
 }
 
 // The first second and third place beside first place a.
@@ -97,7 +132,7 @@ fn beside(
     seconds: [u64; 33],
     before: Remaining,
 ) -> Sought
-    ensures { λ s. ⌜ (((j : ℕ) → has (before .rules) j ≡ true → has rules j ≡ true) → Searched (solvesBeside (now (t .entry)) r n a seconds (before .places)) rules (before .rules) s) ⌝ }
+    ensures { λ s. ⌜ SearchedFrom (solvesBeside (now (t .entry)) r n a seconds) rules before s ⌝ }
 {
     let places = before.places;
     let mut seen = before.rules;
@@ -105,26 +140,24 @@ fn beside(
     if is_empty(places) {
         return Sought::Nothing { rules: seen, last };
     }
-    let mut y = first_from(seconds, 0);
+    let mut waiting = seconds;
+    let mut turns = 0u8;
+    let mut y = first_from(waiting, 0);
     while y < PAST_PLACES {
-        let from = Remaining {
-            places,
-            rules: seen,
-            last,
+        let sought = beside_both(t, r, n, rules, a, y, places, seen, last);
+        let Sought::Nothing {
+            rules: more,
+            last: next,
+        } = sought
+        else {
+            return sought;
         };
-        let rest = thirds(t, r, n, rules, a, y, from);
-        let open = rest.places;
-        let x = first_from(open, 0);
-        if x < PAST_PLACES {
-            return Sought::Found {
-                first: a,
-                second: y,
-                third: x,
-            };
-        }
+        turns = in_a_row(turns, last == next);
+        let rest = settle(t, r, n, rules, a, places, turns, waiting, more, next);
+        waiting = rest.places;
         seen = rest.rules;
         last = rest.last;
-        y = first_from(seconds, y + 1);
+        y = first_from(waiting, y + 1);
     }
     Sought::Nothing { rules: seen, last }
 }
@@ -139,7 +172,7 @@ fn beside_first(
     seconds: [u64; 33],
     before: Remaining,
 ) -> Sought
-    ensures { λ s. ⌜ (((j : ℕ) → has (before .rules) j ≡ true → has rules j ≡ true) → Searched (solvesFirst (now (t .entry)) r n a seconds (before .places)) rules (before .rules) s) ⌝ }
+    ensures { λ s. ⌜ SearchedFrom (solvesFirst (now (t .entry)) r n a seconds) rules before s ⌝ }
 {
     let from = Remaining {
         places: seconds,
@@ -168,7 +201,7 @@ fn among(
     seconds: [u64; 33],
     before: Remaining,
 ) -> Sought
-    ensures { λ s. ⌜ (((j : ℕ) → has (before .rules) j ≡ true → has rules j ≡ true) → Searched (solvesIn (now (t .entry)) r n firsts seconds (before .places)) rules (before .rules) s) ⌝ }
+    ensures { λ s. ⌜ SearchedFrom (solvesIn (now (t .entry)) r n firsts seconds) rules before s ⌝ }
 {
     let places = before.places;
     let mut seen = before.rules;

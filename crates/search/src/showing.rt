@@ -9,9 +9,10 @@ use lineage::reach::label_set;
 ghost use mathlib.Core.Path.{_≡_};
 ghost use mathlib.Core.List.{[], _∷_, _++_};
 ghost use Prim.Native.Nat.{_+_, _*_, _≤_, _<_};
-ghost use lib.ListN.{length, take, drop};
-ghost use Rattle.search.specs.Places.{chosenAt, choiceAt, rowsAt};
-ghost use Rattle.search.specs.Shown.{columnFor, functionFor, lastRow, shownFrom, shownPlan};
+ghost use lib.ListN.{take};
+ghost use Rattle.search.specs.Inner.Places.{choiceAt, rowsFor};
+ghost use Rattle.search.specs.Inner.First.{WithAccess, PlanCopied};
+ghost use Rattle.search.specs.Shown.{columnFor, functionFor, lastRow, shownPlan};
 
 // The lowest column with a label.
 fn column_for(head: &[u8], d: usize) -> u8
@@ -69,7 +70,7 @@ fn with_last(plan: [u8; 36], before: usize, channel: usize) -> [u8; 36]
 
 // The plan with the rows for the access at place p, from row n on.
 fn with_access(head: &[u8], plan: [u8; 36], n: usize, p: usize) -> [u8; 36]
-    ensures { λ r. ⌜ (n + rowsAt p ≤ 9 → take (4 * (n + rowsAt p)) r ≡ take (4 * n) plan ++ shownFrom (now (head .entry)) n (chosenAt p)) ⌝ }
+    ensures { λ r. ⌜ WithAccess (now (head .entry)) n p plan r ⌝ }
 {
     if (NOWHERE <= p) | (8 <= n) {
         return plan;
@@ -83,15 +84,15 @@ fn with_access(head: &[u8], plan: [u8; 36], n: usize, p: usize) -> [u8; 36]
 }
 
 // The rows of the shown plan of the choice at three places.
-pub fn row_total(a: usize, y: usize, x: usize) -> usize
-    ensures { λ r. ⌜ (r ≡ rowsAt a + (rowsAt y + rowsAt x)) × (r ≤ 9) ⌝ }
+pub fn row_count(a: usize, y: usize, x: usize) -> usize
+    ensures { λ r. ⌜ (r ≡ rowsFor a y x) × (r ≤ 9) ⌝ }
 {
     rows_at(a) + (rows_at(y) + rows_at(x))
 }
 
 // The shown plan of the choice at three places, and what is past it.
 pub fn shown_plan(head: &[u8], a: usize, y: usize, x: usize) -> [u8; 36]
-    ensures { λ r. ⌜ take (4 * (rowsAt a + (rowsAt y + rowsAt x))) r ≡ shownPlan (now (head .entry)) (choiceAt a y x) ⌝ }
+    ensures { λ r. ⌜ take (4 * rowsFor a y x) r ≡ shownPlan (now (head .entry)) (choiceAt a y x) ⌝ }
 {
     let one = rows_at(a);
     let two = one + rows_at(y);
@@ -102,7 +103,7 @@ pub fn shown_plan(head: &[u8], a: usize, y: usize, x: usize) -> [u8; 36]
 
 // The first bytes of a plan, at the buffer's front.
 pub fn write_plan(buffer: &mut [u8], plan: [u8; 36], count: usize)
-    ensures { λ _. ⌜ (36 ≤ length (now (buffer .entry)) → count ≤ 36 → now (buffer .exit) ≡ take count plan ++ drop count (now (buffer .entry))) ⌝ }
+    ensures { λ _. ⌜ PlanCopied plan count (now (buffer .entry)) (now (buffer .exit)) ⌝ }
 {
     for i in 0..36usize {
         if (i < count) & (i < buffer.len()) {

@@ -1,6 +1,7 @@
-// Sets of places, less what breaks a rule beside two places.
-use crate::closing::closing_mask;
-use crate::closing::less_closing;
+// Sets of places without what breaks a rule beside two places.
+use crate::closing::Masks;
+use crate::closing::closing_masks;
+use crate::closing::without_closing;
 use crate::places::is_empty;
 use crate::places::lowest;
 use crate::places::same;
@@ -12,7 +13,7 @@ ghost use mathlib.Core.Bool.{true, false};
 ghost use Prim.Native.Nat.{ℕ, _≤_, _<_};
 ghost use lib.ListN.{getD};
 ghost use Rattle.book.specs.Sets.{has};
-ghost use Rattle.search.specs.Closing.{closes, Turned, Sifted, Skipping};
+ghost use Rattle.search.specs.Inner.Closing.{TurnedBy, Sifted};
 
 // What remains of a set of places; the rules that took some away, and which of them did so last.
 pub struct Remaining {
@@ -21,18 +22,12 @@ pub struct Remaining {
     pub last: u8,
 }
 
-// Rule q takes from a set what breaks it beside b and c.
-fn turn(t: &[u64], q: u8, b: usize, c: usize, before: Remaining) -> Remaining
-    ensures { λ r. ⌜ (q < 32 → Turned (now (t .entry)) q b c before r) ⌝ }
+// Rule q takes from a set what breaks it by its masks.
+fn turn(t: &[u64], q: u8, masks: Masks, before: Remaining) -> Remaining
+    ensures { λ r. ⌜ TurnedBy (now (t .entry)) q masks before r ⌝ }
 {
-    let first = closing_mask(t, q, 0, 1, 2, b, c);
-    let second = closing_mask(t, q, 1, 0, 2, b, c);
-    let third = closing_mask(t, q, 2, 0, 1, b, c);
-    if (first | second | third) == 0 {
-        return before;
-    }
     let old = before.places;
-    let places = less_closing(t, q, first, second, third, old);
+    let places = without_closing(t, q, masks.first, masks.second, masks.third, old);
     if same(places, old) {
         return before;
     }
@@ -41,16 +36,6 @@ fn turn(t: &[u64], q: u8, b: usize, c: usize, before: Remaining) -> Remaining
         rules: before.rules | single(q as usize),
         last: q,
     }
-}
-
-// Whether a rule has anything to take beside b and c.
-fn touches(t: &[u64], q: u8, b: usize, c: usize) -> bool
-    ensures { λ r. ⌜ (r ≡ false → (p : ℕ) → closes (now (t .entry)) q b c p ≡ false) ⌝ }
-{
-    let first = closing_mask(t, q, 0, 1, 2, b, c);
-    let second = closing_mask(t, q, 1, 0, 2, b, c);
-    let third = closing_mask(t, q, 2, 0, 1, b, c);
-    (first | second | third) != 0
 }
 
 // The first rule of a set after the one that took last, or else the first: so each has its turn in
@@ -65,33 +50,19 @@ fn next_after(rules: u64, last: u8) -> usize
     lowest(rules)
 }
 
-// A set of rules, less those before the next that has anything to take.
-fn from_touching(t: &[u64], rules: u64, b: usize, c: usize, last: u8) -> u64
-    ensures { λ r. ⌜ Skipping (now (t .entry)) rules b c r ⌝ }
-{
-    let mut waiting = rules;
-    while waiting != 0 {
-        let q = next_after(waiting, last);
-        if touches(t, q as u8, b, c) {
-            return waiting;
-        }
-        waiting = waiting & !single(q);
-    }
-    0
-}
-
 // The rule that took last has its turn first: it often takes all that is left.
 fn again(t: &[u64], rules: u64, b: usize, c: usize, before: Remaining) -> Remaining
     ensures { λ r. ⌜ Sifted (now (t .entry)) rules (λ q. false) b c before r ⌝ }
 {
     let q = before.last;
     if (q < 32) & contains(rules, q as usize) {
-        return turn(t, q, b, c, before);
+        return turn(t, q, closing_masks(t, q, b, c), before);
     }
     before
 }
 
-// Whether rule q took last, and left nothing.
+// Whether rule q took last, and left nothing. Only `true` is promised: it ends the sieve early, and
+// after `false` the other rules have their turns.
 fn emptied(rest: Remaining, q: u8) -> bool
     ensures { λ r. ⌜ (r ≡ true → (w : ℕ) → getD (rest .places) w 0 ≡ 0) ⌝ }
 {
@@ -111,15 +82,19 @@ pub fn sift(t: &[u64], rules: u64, b: usize, c: usize, before: Remaining) -> Rem
     if is_empty(places) {
         return rest;
     }
-    let mut waiting = from_touching(t, rules % 4294967296, b, c, rest.last);
+    let mut waiting = rules % 4294967296;
     while waiting != 0 {
         let q = next_after(waiting, rest.last) as u8;
-        let next = turn(t, q, b, c, rest);
+        waiting = waiting & !single(q as usize);
+        let masks = closing_masks(t, q, b, c);
+        if (masks.first | masks.second | masks.third) == 0 {
+            continue;
+        }
+        let next = turn(t, q, masks, rest);
         rest = next;
         if emptied(rest, q) {
             return rest;
         }
-        waiting = from_touching(t, waiting & !single(q as usize), b, c, rest.last);
     }
     rest
 }

@@ -1,8 +1,7 @@
-// The rules of a book as words, made once a call: for each rule and reference the places that meet
+// The rules of a book as words, made once a call from the words of its head: for each rule and reference the places that meet
 // it, and for each restriction the operations that it takes there, four times over.
 use crate::obtaining::four;
 use book::fields::action;
-use book::fields::head_of;
 use book::fields::reference_count;
 use book::fields::restriction_count;
 use book::fields::restriction_mask;
@@ -10,19 +9,18 @@ use book::fields::rule_at;
 use book::rules::covered_users;
 use book::rules::leaf_set;
 use book::sets::contains;
+use book::sets::word_at;
+use book::sets::word_if;
 use verdicts::breaking::action_fits;
 use verdicts::breaking::all_if_zero;
-use verdicts::breaking::word_if;
 ghost use mathlib.Core.Path.{_≡_};
-ghost use mathlib.Core.Bool.{_&&_, cond};
-ghost use Prim.Native.Nat.{ℕ, _+_, _*_, _/_, _%_, _≤_, _<_};
-ghost use lib.Dec.{ltb};
-ghost use lib.ListN.{getD};
-ghost use Rattle.book.specs.Sets.{has, WordOf};
-ghost use Rattle.book.specs.Blocks.{headOf, ruleAt};
-ghost use Rattle.book.specs.Rule.{coversUser, inLeafSet};
-ghost use Rattle.verdicts.specs.Accesses.{actionFits};
-ghost use Rattle.search.specs.Table.{TableHolds, CoversHold, RuleWord, meetsReference, takesOperation};
+ghost use mathlib.Core.Bool.{cond};
+ghost use Prim.Native.Nat.{_≤_};
+ghost use Rattle.book.specs.Blocks.{headOf};
+ghost use Rattle.book.specs.Inner.Words.{HeadWords};
+ghost use Rattle.book.specs.Sets.{has};
+ghost use Rattle.search.specs.Inner.Table.{FittingWord, ReferenceWords, RestrictionWord, RuleWords, LeafSets};
+ghost use Rattle.search.specs.Inner.Table.{TableHolds, CoveredWord, CoversHold};
 
 // All operations of one leaf, if it is in a set.
 fn if_leaf(leaves: u64, d: usize) -> u64
@@ -33,7 +31,7 @@ fn if_leaf(leaves: u64, d: usize) -> u64
 
 // Word w of the places of some leaves under an action, with every operation.
 fn fitting_word(action: usize, leaves: u64, w: usize) -> u64
-    ensures { λ r. ⌜ ((i : ℕ) → i < 64 → w < 32 → has r i ≡ (actionFits action (w / 16) && has leaves (w % 16 * 4 + i / 16))) ⌝ }
+    ensures { λ r. ⌜ FittingWord action leaves w r ⌝ }
 {
     if action_fits(action, w / 16) {
         let d = w % 16 * 4;
@@ -47,22 +45,24 @@ fn fitting_word(action: usize, leaves: u64, w: usize) -> u64
     0
 }
 
-// Word w of the places that meet reference i, all of them where it is absent.
-fn reference_word(rule: &[u8], leaves: u64, i: u8, w: usize) -> u64
-    ensures { λ r. ⌜ ((p : ℕ) → p ≤ 2048 → p / 64 ≡ w → has r (p % 64) ≡ meetsReference (now (rule .entry)) leaves i p) ⌝ }
+// The words of the places that meet reference i, all of them where it is absent.
+fn reference_words(rule: &[u8], leaves: u64, i: u8) -> [u64; 33]
+    ensures { λ r. ⌜ ReferenceWords (now (rule .entry)) leaves i r ⌝ }
 {
     if reference_count(rule) <= i as usize {
-        return 18446744073709551615;
+        return [18446744073709551615; 33];
     }
-    if w < 32 {
-        return fitting_word(action(rule, i), leaves, w);
+    let wanted = action(rule, i);
+    let mut words = [0u64; 33];
+    for w in 0..33usize {
+        words[w] = fitting_word(wanted, leaves, w);
     }
-    0
+    words
 }
 
 // The operations that restriction j takes at reference i, four times over.
 fn restriction_word(rule: &[u8], i: u8, j: u8) -> u64
-    ensures { λ r. ⌜ ((p : ℕ) → has r (p % 64) ≡ takesOperation (now (rule .entry)) i j p) ⌝ }
+    ensures { λ r. ⌜ RestrictionWord (now (rule .entry)) i j r ⌝ }
 {
     if restriction_count(rule) <= j as usize {
         return 0;
@@ -71,24 +71,29 @@ fn restriction_word(rule: &[u8], i: u8, j: u8) -> u64
     four(mask, mask, mask, mask)
 }
 
-// Word k of a rule's 128 words: three times 33 words of places, then 24 of restrictions.
-fn rule_word(rule: &[u8], leaves: u64, k: usize) -> u64
-    ensures { λ r. ⌜ RuleWord (now (rule .entry)) leaves k r ⌝ }
+// The words of rule q: three times 33 of places, then 24 of restrictions.
+fn rule_words(rule: &[u8], sets: &[u64], q: u8) -> [u64; 128]
+    ensures { λ r. ⌜ RuleWords (now (rule .entry)) (now (sets .entry)) q r ⌝ }
 {
-    if k < 99 {
-        return reference_word(rule, leaves, (k / 33) as u8, k % 33);
+    let mut words = [0u64; 128];
+    for i in 0..3usize {
+        let leaves = word_at(sets, 3 * (q as usize) + i);
+        let places = reference_words(rule, leaves, i as u8);
+        for w in 0..33usize {
+            words[33 * i + w] = places[w];
+        }
     }
-    if k < 123 {
-        return restriction_word(rule, ((k - 99) / 8) as u8, ((k - 99) % 8) as u8);
+    for k in 0..24usize {
+        words[99 + k] = restriction_word(rule, (k / 8) as u8, (k % 8) as u8);
     }
-    0
+    words
 }
 
 // The leaf sets of the references of the first n rules, three for each.
-fn leaf_sets(book: &[u8], n: u8) -> [u64; 96]
-    ensures { λ r. ⌜ (n ≤ 32 → (m : ℕ) → m < 3 * n → WordOf (inLeafSet (headOf (now (book .entry))) (ruleAt (now (book .entry)) (m / 3)) (m % 3)) (getD r m 0)) ⌝ }
+fn leaf_sets(book: &[u8], head: &[u64], n: u8) -> [u64; 96]
+    ensures { λ r. ⌜ (HeadWords (headOf (now (book .entry))) (now (head .entry)) → n ≤ 32
+        → LeafSets (now (book .entry)) n r) ⌝ }
 {
-    let head = head_of(book);
     let mut sets = [0u64; 96];
     if 32 < n {
         return sets;
@@ -100,53 +105,44 @@ fn leaf_sets(book: &[u8], n: u8) -> [u64; 96]
     sets
 }
 
-// The leaf set that word k of rule q is about.
-fn leaves_for(sets: [u64; 96], q: usize, k: usize) -> u64
-    ensures { λ r. ⌜ (q < 32 → k < 99 → r ≡ getD sets (3 * q + k / 33) 0) ⌝ }
-{
-    if 32 <= q {
-        return 0;
-    }
-    if 99 <= k {
-        return 0;
-    }
-    sets[3 * q + k / 33]
-}
-
 // The tables of the first n rules.
-pub fn table(book: &[u8], n: u8) -> [u64; 4096]
-    ensures { λ r. ⌜ (n ≤ 32 → TableHolds (now (book .entry)) n r) ⌝ }
+pub fn table(book: &[u8], head: &[u64], n: u8) -> [u64; 4096]
+    ensures { λ r. ⌜ (HeadWords (headOf (now (book .entry))) (now (head .entry)) → n ≤ 32
+        → TableHolds (now (book .entry)) n r) ⌝ }
 {
-    let sets = leaf_sets(book, n);
+    let sets = leaf_sets(book, head, n);
     let mut t = [0u64; 4096];
     if 32 < n {
         return t;
     }
-    let count = 128 * (n as usize);
-    for m in 0..count {
-        let leaves = leaves_for(sets, m / 128, m % 128);
-        t[m] = rule_word(rule_at(book, (m / 128) as u8), leaves, m % 128);
+    for q in 0..n {
+        let words = rule_words(rule_at(book, q), &sets, q);
+        for k in 0..128usize {
+            t[128 * (q as usize) + k] = words[k];
+        }
     }
     t
 }
 
 // The users that rule r covers, if it is one of the first n.
-fn covered_at(book: &[u8], n: u8, r: u8) -> u64
-    ensures { λ w. ⌜ ((u : ℕ) → u < 32 → has w u ≡ (ltb r n && coversUser (headOf (now (book .entry))) (ruleAt (now (book .entry)) r) u)) ⌝ }
+fn covered_at(book: &[u8], head: &[u64], n: u8, r: u8) -> u64
+    ensures { λ w. ⌜ (HeadWords (headOf (now (book .entry))) (now (head .entry))
+        → CoveredWord (now (book .entry)) n r w) ⌝ }
 {
     if n <= r {
         return 0;
     }
-    covered_users(head_of(book), rule_at(book, r))
+    covered_users(head, rule_at(book, r))
 }
 
 // For each of the first n rules the users that it covers.
-pub fn covered_by(book: &[u8], n: u8) -> [u64; 32]
-    ensures { λ r. ⌜ CoversHold (now (book .entry)) n r ⌝ }
+pub fn covered_by(book: &[u8], head: &[u64], n: u8) -> [u64; 32]
+    ensures { λ r. ⌜ (HeadWords (headOf (now (book .entry))) (now (head .entry))
+        → CoversHold (now (book .entry)) n r) ⌝ }
 {
     let mut covered = [0u64; 32];
     for r in 0..32usize {
-        covered[r] = covered_at(book, n, r as u8);
+        covered[r] = covered_at(book, head, n, r as u8);
     }
     covered
 }

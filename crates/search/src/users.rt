@@ -4,14 +4,15 @@ use crate::searching::Sought;
 use crate::searching::search;
 use book::sets::contains;
 use book::sets::single;
-use verdicts::breaking::word_if;
+use book::sets::word_if;
 ghost use mathlib.Core.Path.{_≡_};
-ghost use mathlib.Core.Bool.{true, false, _&&_};
+ghost use mathlib.Core.Bool.{true, _&&_};
 ghost use Prim.Native.Nat.{ℕ, _<_};
 ghost use lib.Dec.{ltb};
 ghost use lib.ListN.{getD};
 ghost use Rattle.book.specs.Sets.{has};
-ghost use Rattle.search.specs.Search.{coversIn, othersFor, Settles, SearchedFor, NeedsFirst};
+ghost use Rattle.search.specs.Inner.Closing.{Within};
+ghost use Rattle.search.specs.Inner.Search.{coversIn, othersFor, AllSettle, SearchedFor, NeedsFirst};
 
 // Nobody; or the first user, and the three places of its first choice.
 pub enum Needs {
@@ -49,9 +50,10 @@ fn others(covered: [u64; 32], r: u8, u: u8) -> u64
     found
 }
 
-// Whether all rules of one of the masks are in a set.
+// Whether all rules of one of the masks are in a set. Only `true` is promised: it spares a search,
+// and after `false` the user is searched for.
 fn settled(masks: [u64; 32], rules: u64) -> bool
-    ensures { λ r. ⌜ (r ≡ true → (i : ℕ) × (i < 32) × ((q : ℕ) → has (getD masks i 0) q ≡ true → has rules q ≡ true)) ⌝ }
+    ensures { λ r. ⌜ (r ≡ true → (i : ℕ) × (i < 32) × Within (has (getD masks i 0)) (has rules)) ⌝ }
 {
     for i in 0..32usize {
         if masks[i] & !rules == 0 {
@@ -72,15 +74,15 @@ fn search_for(
     u: u8,
     last: u8,
 ) -> Sought
-    ensures { λ s. ⌜ (((i : ℕ) → i < 32 → Settles (now (t .entry)) r n had (getD masks i 0)) → SearchedFor (now (t .entry)) r n had covered u s) ⌝ }
+    ensures { λ s. ⌜ (AllSettle (now (t .entry)) r n had masks → SearchedFor (now (t .entry)) r n had covered u s) ⌝ }
 {
-    let rules = others(covered, r, u);
     if !covers(covered, r, u) {
         return Sought::Nothing {
             rules: UNSETTLED,
             last,
         };
     }
+    let rules = others(covered, r, u);
     if settled(masks, rules) {
         return Sought::Nothing {
             rules: UNSETTLED,

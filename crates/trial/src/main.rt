@@ -1,21 +1,28 @@
-// Tries the calls on books, blocks and plans of every kind, and prints one line a case: what is tried,
-// and the answer. The expected answers, in the file stdout, are worked out from document 01.
+// Tries the calls on books, blocks and plans of every kind. The cases are data, with the answers
+// that are worked out from document 01 beside them; a case that answers something else gets a line,
+// and each file one with its counts.
+mod answers; // answers as text
 mod books; // building books to try
-mod checking_cases; // Book check
-mod flowing_cases; // Flows
-mod idling_cases; // Idle
-mod judging_cases; // Judge
-mod lines; // printing
+mod cases; // a file's lines
+mod checking; // Book check
+mod flowing; // Flows
+mod idling; // Idle
+mod judging; // Judge
+mod numbers; // reading numbers
 mod plans; // building plans to try
-mod reading_cases; // what the crates above read in a book
-mod sealing_cases; // Seal
-mod tables; // cases written as text
+mod reading; // what the crates above read in a book
+mod sealing; // Seal
+mod spaces; // bytes to build in
+mod text; // parts of a text
+
+use cases::Call;
+use cases::try_file;
 
 fn main() {
-    checking_cases::print();
-    sealing_cases::print();
-    flowing_cases::print();
-    judging_cases::print();
-    idling_cases::print();
-    reading_cases::print();
+    try_file(Call::Check, b"check.cases");
+    try_file(Call::Seal, b"seal.cases");
+    try_file(Call::Flows, b"flows.cases");
+    try_file(Call::Judge, b"judge.cases");
+    try_file(Call::Idle, b"idle.cases");
+    try_file(Call::Readers, b"readers.cases");
 }

@@ -1,24 +1,50 @@
--- Laws of accesses: those that a book has categories for, and those of them that fit a reference. Assumes nothing.
-use Prim.Native.Nat.{ℕ, zero, suc, _<_}
+-- Laws of accesses: when two are the same, which a book has categories for, and which of these fit a reference.
+-- Assumes nothing.
+use Prim.Native.Nat.{ℕ, zero, suc, _≤_, _<_}
 use native.Mathlib.Omega.{arith}
 use mathlib.Core.Path.{_≡_, refl, sym, _∙_}
+use mathlib.Core.Logic.{_⊎_, inl, inr, ⊎-elim}
 use mathlib.Core.Bool.{Bool, true, false, _&&_, _||_, not, false≢true}
 use mathlib.Core.List.{List, map}
 use lib.Dec.{eqb, ltb}
-use borrow.Author.Tests.{eqb-true, lt-ltb, ltb-true}
-use Rattle.book.specs.Lists.{any, all, upTo}
+use borrow.Author.Tests.{eqb-true, eqb-false, eq-eqb, lt-ltb, ltb-true, ltb-false}
+use Rattle.book.specs.Lists.{flat, any, all, upTo}
 use Rattle.book.specs.Hierarchies.{leaf, covers}
 use Rattle.book.specs.Head.{dataCount, dataParent, isDataLeaf}
-use Rattle.book.specs.Rule.{action, dataCategory, exclusions, inLeafSet}
-use Rattle.book.proofs.Lists.{and-left, and-both, any-map, map-all, any-found}
-use Rattle.verdicts.specs.Accesses.{Access, Accesses, everyAccess, actionFits, fits, fitting, flat}
+use Rattle.book.specs.Rule.{action, dataCategory, exclusions, inLeafSet, referenceCount}
+use Rattle.book.proofs.Lists.{and-left, and-right, and-both, any-map, map-all, any-found, same-test}
+use Rattle.verdicts.specs.Accesses.{Access, Accesses, same, everyAccess, actionFits, fits, fitting}
 use Rattle.verdicts.proofs.Quantifiers.{any-flat, flat-all, any-keep, all-below, at-any}
 
--- Known accesses
+-- Accesses by their parts
 
--- an access by its parts
 abbrev pub access : ℕ → ℕ → ℕ → Access
 access s d k = record { channel = s; leaf = d; operation = k }
+
+pub same-equal : (x y : Access) → same x y ≡ true → x ≡ y
+unfolding same
+same-equal x y h =
+    let a =
+    and-both (eqb (x .channel) (y .channel)) (eqb (x .leaf) (y .leaf) && eqb (x .operation) (y .operation)) h in
+    let b = and-both (eqb (x .leaf) (y .leaf)) (eqb (x .operation) (y .operation)) (a .1) in
+    let e : access (x .channel) (x .leaf) (x .operation) ≡ access (y .channel) (y .leaf) (y .operation) =
+    rw (
+      eqb-true (x .channel) (y .channel) (a .0),
+      eqb-true (x .leaf) (y .leaf) (b .0),
+      eqb-true (x .operation) (y .operation) (b .1),
+    ) in
+    e
+
+pub same-self : (x : Access) → same x x ≡ true
+unfolding same
+same-self x =
+    rw (
+      eq-eqb (x .channel) (x .channel) refl,
+      eq-eqb (x .leaf) (x .leaf) refl,
+      eq-eqb (x .operation) (x .operation) refl,
+    )
+
+-- Known accesses
 
 -- a book has categories for the access
 unfoldable pub known : List ℕ → Access → Bool
@@ -142,3 +168,50 @@ module _ (head rule : List ℕ) (accesses : Accesses) (i : ℕ) (p : Access → 
       let a = and-both (accesses x && fits head rule i x) (p x) (found .1) in
       let b = and-both (accesses x) (fits head rule i x) (a .0) in
       (x, b .0, b .1, a .1, known-bounds head x (found .2) .2)
+
+-- One reference alone
+
+-- references share no leaf
+abbrev pub Apart : List ℕ → List ℕ → Type 0
+Apart head rule =
+    (i j d : ℕ)
+    → i < referenceCount rule
+    → j < i
+    → inLeafSet head rule i d ≡ true
+    → inLeafSet head rule j d ≡ true
+    → ⊥
+
+module _ (head rule : List ℕ) (apart : Apart head rule) (y : Access) where
+  -- an access fits one reference alone
+  pub fits-one :
+      (i j : ℕ)
+      → i < referenceCount rule
+      → j < referenceCount rule
+      → fits head rule i y ≡ true
+      → fits head rule j y ≡ eqb i j
+  unfolding fits
+  fits-one i j li lj h =
+      same-test (fits head rule j y) (eqb i j)
+      (λ t. equal (eqb i j) refl (leaf i h) (leaf j t))
+      (λ e. rw (eqb-true i j e) at h)
+    where
+      leaf : (n : ℕ) → fits head rule n y ≡ true → inLeafSet head rule n (y .leaf) ≡ true
+      leaf n t = and-right (actionFits (action rule n) (y .channel)) (inLeafSet head rule n (y .leaf)) t
+
+      differ : (b : Bool) → ltb i j ≡ b → (i ≡ j → ⊥) → (i < j) ⊎ (j < i)
+      differ true e n = inl (ltb-true i j e)
+      differ false e n =
+          let l : j ≤ i = ltb-false i j e in
+          inr (omega arith)
+
+      equal :
+          (b : Bool)
+          → eqb i j ≡ b
+          → inLeafSet head rule i (y .leaf) ≡ true
+          → inLeafSet head rule j (y .leaf) ≡ true
+          → b ≡ true
+      equal true e p q = refl
+      equal false e p q =
+          absurd
+          (⊎-elim (λ (l : i < j). apart j i (y .leaf) lj l q p) (λ (l : j < i). apart i j (y .leaf) li l p q)
+          (differ (ltb i j) refl (eqb-false i j e)))

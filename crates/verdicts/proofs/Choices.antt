@@ -11,10 +11,9 @@ use Rattle.book.specs.Lists.{any, upTo}
 use Rattle.book.specs.Rule.{referenceCount, restrictionCount, restrictionMask}
 use Rattle.book.proofs.Lists.{any-map, any-same, any-one, any-from-same, eqb-sym}
 use Rattle.verdicts.specs.Accesses.{Access, Accesses, fitting}
-use Rattle.verdicts.specs.Words.{RuleSound, maskTakes, offers, offersOrNone}
+use Rattle.verdicts.specs.Inner.Words.{RuleSound, maskTakes, beside, offers, offersOrNone}
 use Rattle.verdicts.specs.Breaking.{choicesFrom, operations, accepts, refusesAll, someChoiceRefused}
 use Rattle.verdicts.proofs.Quantifiers.{any-flat, any-equal, all-padded}
-use Rattle.verdicts.proofs.Masks.{beside}
 use Rattle.verdicts.proofs.Offers.{any-operation, offers-present, offers-absent}
 
 -- Choices of operations
@@ -154,22 +153,6 @@ module _ (head rule : List ℕ) (sound : RuleSound head rule) where
       (λ j lo hi. accepts-padded ks j (omega arith)))
 
   -- every rule is one of three references
-  pub refused-chosen :
-      (accesses : Accesses)
-      → someChoiceRefused head rule accesses
-      ≡ someChosen 3 0 (offersOrNone head rule accesses) (onThree (refusesThree rule))
-  unfolding someChoiceRefused
-  refused-chosen accesses =
-      choice-operations head rule accesses (referenceCount rule) 0 (refusesAll rule)
-      ∙ chosen-offers (referenceCount rule) 0 (offers head rule accesses) (offersOrNone head rule accesses)
-      (refusesAll rule)
-      (λ j k lo hi. offers-present head rule accesses j k (omega arith))
-      ∙ chosen-tests (referenceCount rule) 0 (offersOrNone head rule accesses) (refusesAll rule)
-      (onThree (refusesThree rule)) refuses-padded
-      ∙ chosen-padded (offersOrNone head rule accesses) (refusesThree rule) (referenceCount rule) (sound .some)
-      (sound .few)
-      (λ i k lo hi. offers-absent head rule accesses i k lo)
-
   pub refused-by-operations :
       (accesses : Accesses)
       → someChoiceRefused head rule accesses
@@ -182,5 +165,14 @@ module _ (head rule : List ℕ) (sound : RuleSound head rule) where
       && any (λ c. offersOrNone head rule accesses 2 c && refusesThree rule a b c) (upTo 16))
       (upTo 16))
       (upTo 16)
-  unfolding someChosen onThree
-  refused-by-operations = refused-chosen
+  unfolding someChoiceRefused someChosen onThree
+  refused-by-operations accesses =
+      choice-operations head rule accesses (referenceCount rule) 0 (refusesAll rule)
+      ∙ chosen-offers (referenceCount rule) 0 (offers head rule accesses) (offersOrNone head rule accesses)
+      (refusesAll rule)
+      (λ j k lo hi. offers-present head rule accesses j k (omega arith))
+      ∙ chosen-tests (referenceCount rule) 0 (offersOrNone head rule accesses) (refusesAll rule)
+      (onThree (refusesThree rule)) refuses-padded
+      ∙ chosen-padded (offersOrNone head rule accesses) (refusesThree rule) (referenceCount rule) (sound .some)
+      (sound .few)
+      (λ i k lo hi. offers-absent head rule accesses i k lo)

@@ -8,8 +8,7 @@ use borrow.Author.Tests.{lt-ltb}
 use Rattle.book.specs.Head.{dataCount}
 use Rattle.lineage.specs.Accesses.{accessWords}
 use Rattle.lineage.proofs.Words.{access-bit}
-use Rattle.verdicts.specs.Accesses.{Access, accessesOf}
-use Rattle.verdicts.specs.Words.{heldBy}
+use Rattle.verdicts.specs.Accesses.{Access, accessesOf, heldBy}
 use Rattle.verdicts.proofs.Accesses.{known, known-bounds}
 
 pub held-plan :

@@ -1,66 +1,84 @@
--- Laws of Judge: what its acceptance says, and its answer by what the checks say. Assumes nothing.
+-- Laws of Judge: what it has tested when it accepts, and its answer by the outcome of its tests. Assumes nothing.
 use Prim.Native.Nat.{ℕ, _≤_}
 use native.Mathlib.Omega.{arith}
-use mathlib.Core.Path.{_≡_, refl}
-use mathlib.Core.List.{List}
+use mathlib.Core.Path.{_≡_, sym}
+use mathlib.Core.List.{List, _++_}
 use Rattle.book.specs.Blocks.{headOf}
-use Rattle.book.specs.Head.{userCount}
-use Rattle.book.specs.Answers.{orElse, checkAnswer, ruleCount}
+use Rattle.book.specs.Head.{isUser, userCount}
+use Rattle.book.specs.Tests.{Passes, firstFailing}
+use Rattle.book.specs.Refusals.{bookTests}
+use Rattle.book.specs.Inner.Testing.{orElse}
 use Rattle.book.specs.declared.Refusal.{Refusal}
-use Rattle.book.specs.declared.Checked.{Checked}
-use Rattle.book.specs.declared.Checked.the-variants as checked
+use Rattle.book.specs.declared.Tested.{Tested}
+use Rattle.book.specs.declared.Tested.the-variants as tested
 use Rattle.book.proofs.Accepted.{accepted-head}
-use Rattle.lineage.specs.Answers.{planAnswer}
-use Rattle.lineage.proofs.FlowLaws.{else-accepted}
+use Rattle.book.proofs.Answers.{answered-passed, answered-refused, append-passed, first-append, joined, joined-after}
+use Rattle.book.proofs.Answers.{last-passed}
+use Rattle.lineage.specs.Answers.{planTests}
 use Rattle.verdicts.specs.Accesses.{accessesOf}
 use Rattle.verdicts.specs.Breaking.{brokenMask}
-use Rattle.verdicts.specs.Answers.{userAnswer, judgeCheck, judgedOf, judgeAnswer}
+use Rattle.verdicts.specs.Answers.{userTests, judgeTests, judgeAnswer}
+use Rattle.verdicts.specs.Demand.{JudgeAccepted}
 use Rattle.verdicts.specs.declared.Judged.the-variants as judged
 
 module _ (book : List ℕ) (user : ℕ) (plan : List ℕ) where
-  -- the user's answer counts only where the book is accepted, and there the number of users is small
+  -- the outcomes of the parts, joined in document 01's order. The user's counts only where the book is accepted, and there
+  -- the number of users is small.
   pub judge-joined :
-      (head : List ℕ) (x y z rest r : Checked)
-      → head ≡ headOf book
-      → x ≡ checkAnswer book
-      → (userCount head ≤ 64 → y ≡ userAnswer head user)
-      → z ≡ planAnswer head plan
-      → rest ≡ orElse y z
-      → r ≡ orElse x rest
-      → r ≡ judgeCheck book user plan
-  unfolding judgeCheck orElse
-  judge-joined head x y z rest r eh ex ey ez es er = go (checkAnswer book) refl
-    where
-      go : (a : Checked) → checkAnswer book ≡ a → r ≡ judgeCheck book user plan
-      go (checked.Accepted n) e =
-          let h = accepted-head book n e in
-          let few : userCount (headOf book) ≤ 64 = omega (arith, h .users-most) in
-          let same : y ≡ userAnswer (headOf book) user = (rw eh at ey) few in
-          rw (er, ex, es, same, ez, eh)
-      go (checked.Refused refusal) e = rw (er, ex, e)
+      (x y both z r : Tested)
+      → x ≡ firstFailing (bookTests book)
+      → (userCount (headOf book) ≤ 64 → y ≡ firstFailing (userTests (headOf book) user))
+      → both ≡ orElse x y
+      → z ≡ firstFailing (planTests (headOf book) plan)
+      → r ≡ orElse both z
+      → r ≡ firstFailing (judgeTests book user plan)
+  unfolding judgeTests
+  judge-joined x y both z r ex ey eb ez er =
+      joined (bookTests book ++ userTests (headOf book) user) (planTests (headOf book) plan) both z r
+      (joined-after (bookTests book) (userTests (headOf book) user) x y both ex
+      (λ accepted. let h = accepted-head book accepted in ey (omega (arith, h .users-most)))
+      eb)
+      ez er
 
-  -- what Judge has checked when it accepts
-  pub judge-accepted :
-      (n : ℕ)
-      → judgeCheck book user plan ≡ checked.Accepted n
-      → ((m : ℕ) × (checkAnswer book ≡ checked.Accepted m)) × (planAnswer (headOf book) plan ≡ checked.Accepted n)
-  unfolding judgeCheck
-  judge-accepted n h =
-      let plans = planAnswer (headOf book) plan in
-      let a = else-accepted (checkAnswer book) (orElse (userAnswer (headOf book) user) plans) n h in
-      (a .0, else-accepted (userAnswer (headOf book) user) plans n (a .1) .1)
+  -- what Judge has tested when it accepts
+  pub judge-accepted : Passes (judgeTests book user plan) → JudgeAccepted book user plan
+  unfolding judgeTests userTests
+  judge-accepted h =
+      let last = append-passed (bookTests book ++ userTests (headOf book) user) (planTests (headOf book) plan) h in
+      let first = append-passed (bookTests book) (userTests (headOf book) user) (last .0) in
+      record {
+        book-accepted = first .0;
+        a-user = last-passed 20 0 (isUser (headOf book) user) (first .1);
+        plan-accepted = last .1;
+      }
 
-  pub judge-broken :
-      (n mask : ℕ)
-      → judgeCheck book user plan ≡ checked.Accepted n
-      → mask ≡ brokenMask book (ruleCount book) user (accessesOf (headOf book) plan)
-      → judged.Broken mask ≡ judgeAnswer book user plan
-  unfolding judgeAnswer judgedOf
-  judge-broken n mask h e = rw (h, e)
+  -- and the other way
+  pub judge-passes : JudgeAccepted book user plan → Passes (judgeTests book user plan)
+  unfolding judgeTests userTests firstFailing orElse
+  judge-passes given =
+      rw (
+        first-append (bookTests book ++ userTests (headOf book) user) (planTests (headOf book) plan),
+        first-append (bookTests book) (userTests (headOf book) user),
+        given .book-accepted,
+        given .a-user,
+      )
+      (given .plan-accepted)
+
+  -- the answer where it accepts, and where it refuses
+  pub judge-answer :
+      Passes (judgeTests book user plan)
+      → judgeAnswer book user plan ≡ judged.Broken (brokenMask book user (accessesOf (headOf book) plan))
+  unfolding judgeAnswer
+  judge-answer h =
+      answered-passed (judgeTests book user plan) judged.Refused
+      (judged.Broken (brokenMask book user (accessesOf (headOf book) plan))) h
 
   pub judge-refused :
-      (refusal : Refusal)
-      → judgeCheck book user plan ≡ checked.Refused refusal
-      → judged.Refused refusal ≡ judgeAnswer book user plan
-  unfolding judgeAnswer judgedOf
-  judge-refused refusal h = rw h
+      (r : Refusal)
+      → firstFailing (judgeTests book user plan) ≡ tested.Refused r
+      → judged.Refused r ≡ judgeAnswer book user plan
+  unfolding judgeAnswer
+  judge-refused r h =
+      sym
+      (answered-refused (judgeTests book user plan) judged.Refused
+      (judged.Broken (brokenMask book user (accessesOf (headOf book) plan))) r h)

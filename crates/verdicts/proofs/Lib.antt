@@ -5,13 +5,13 @@ pub mod Users
 pub mod Accesses
 pub mod Offers
 pub mod Choices
-pub mod Pairs
+pub mod ChoiceWords
 pub mod Monotone
 pub mod Semantic
-pub mod Closing
 pub mod Verdict
+pub mod JudgeLaws
+pub mod DemandLaws
 pub mod Held
 pub mod Sound
-pub mod JudgeLaws
-pub mod Vectors
 pub mod Gate
+pub mod Vectors

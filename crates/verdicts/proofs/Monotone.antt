@@ -8,7 +8,7 @@ use Rattle.book.specs.Lists.{upTo}
 use Rattle.book.specs.Rule.{referenceCount, coversUser}
 use Rattle.book.proofs.Lists.{and-true, and-both, same-test}
 use Rattle.verdicts.specs.Accesses.{Access, Accesses}
-use Rattle.verdicts.specs.Words.{offers}
+use Rattle.verdicts.specs.Inner.Words.{offers}
 use Rattle.verdicts.specs.Breaking.{refusesAll, someChoiceRefused, breaks}
 use Rattle.verdicts.proofs.Quantifiers.{any-wider}
 use Rattle.verdicts.proofs.Accesses.{known, fits-known}

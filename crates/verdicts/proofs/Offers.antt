@@ -8,17 +8,17 @@ use mathlib.Core.Bool.{Bool, true, false, _&&_, _||_, not, cond}
 use mathlib.Core.List.{List}
 use lib.ListN.{getD}
 use lib.Dec.{eqb, ltb}
-use lib.Bits.{bitAnd, bitOr, and-le-r}
+use lib.Bits.{bitAnd, bitOr, and-le-r, or-lt}
 use borrow.Author.Tests.{ltb-true, lt-ltb, le-ltb, eqb-true, eq-eqb}
 use Rattle.book.specs.Lists.{any, upTo}
 use Rattle.book.specs.Sets.{has, WordOf}
 use Rattle.book.specs.Head.{dataCount}
 use Rattle.book.specs.Rule.{action, inLeafSet, referenceCount}
-use Rattle.book.proofs.Lists.{and-true, and-left, and-right, and-both, and-second, and-false, and-over, same-test}
+use Rattle.book.proofs.Lists.{and-true, and-left, and-right, and-both, and-second, and-assoc, and-over, same-test}
 use Rattle.book.proofs.Lists.{any-both}
 use Rattle.book.proofs.Members.{has-or, has-and, single-in}
-use Rattle.verdicts.specs.Accesses.{Access, Accesses, actionFits, fits, fitting}
-use Rattle.verdicts.specs.Words.{heldBy, offers, offersOrNone}
+use Rattle.verdicts.specs.Accesses.{Access, Accesses, actionFits, fits, fitting, heldBy}
+use Rattle.verdicts.specs.Inner.Words.{offers, offersOrNone, Offered}
 use Rattle.verdicts.proofs.Quantifiers.{at-any, any-at, any-witness, any-two}
 use Rattle.verdicts.proofs.Marks.{has-if, Marks, not-empty}
 use Rattle.verdicts.proofs.Accesses.{access, leaf-set-below, fits-bounds, in-fitting, found-fitting}
@@ -117,67 +117,78 @@ module _ (head rule : List ℕ) (accesses : Accesses) (i k : ℕ) where
 
 -- Offers by words
 
--- the leaves that the words hold with operation k, in the channels that fit an action
-abbrev pub heldWith : List ℕ → ℕ → ℕ → ℕ → Bool
-heldWith words a k d =
-    (actionFits a 0 && has (getD words k 0) d) || (actionFits a 1 && has (getD words (16 + k) 0) d)
-
-pub held-joined :
-    (words : List ℕ) (a k x y d : ℕ) (p q : Bool)
-    → p ≡ actionFits a 0
-    → q ≡ actionFits a 1
-    → x ≡ cond p (getD words k 0) 0
-    → y ≡ cond q (getD words (16 + k) 0) 0
-    → has (bitOr x y) d ≡ heldWith words a k d
-held-joined words a k x y d p q ep eq ex ey =
-    rw (has-or, has-if p (getD words k 0) x d ex, has-if q (getD words (16 + k) 0) y d ey, ep, eq)
-
--- a reference is offered k where the words that hold it meet the reference's leaf set
+-- a reference is offered k where the words of k meet its leaf set, each in the channel that fits its action
 module _ (head rule words : List ℕ) (i k : ℕ) (small : k < 16) where
   by : ℕ → ℕ → Bool
   by s d = heldBy words (access s d k) && fits head rule i (access s d k)
 
-  by-word :
-      (d : ℕ) → (by 0 d || by 1 d) ≡ (heldWith words (action rule i) k d && inLeafSet head rule i d)
-  unfolding by heldBy fits
+  -- what the words of k hold of leaf d, in the channels that fit
+  held : ℕ → Bool
+  held d =
+      has (getD words k 0) d && actionFits (action rule i) 0
+      || has (getD words (16 + k) 0) d && actionFits (action rule i) 1
+
+  by-word : (d : ℕ) → (by 0 d || by 1 d) ≡ (held d && inLeafSet head rule i d)
+  unfolding by held heldBy fits
   by-word d =
       rw (
         lt-ltb k 16 small,
         zero-add k,
-        turn (has (getD words k 0) d) (actionFits (action rule i) 0) (inLeafSet head rule i d),
-        turn (has (getD words (16 + k) 0) d) (actionFits (action rule i) 1) (inLeafSet head rule i d),
+        ← (and-assoc (has (getD words k 0) d) (actionFits (action rule i) 0) (inLeafSet head rule i d)),
+        ← (and-assoc (has (getD words (16 + k) 0) d) (actionFits (action rule i) 1) (inLeafSet head rule i d)),
         and-over,
       )
-    where
-      turn : (x a l : Bool) → (x && (a && l)) ≡ ((a && x) && l)
-      turn true true l = refl
-      turn true false l = refl
-      turn false a l = rw and-false
 
-  pub offers-held :
-      (held leaves : ℕ)
-      → dataCount head ≤ 64
-      → leaves < 2 ^ 64
-      → WordOf (inLeafSet head rule i) leaves
-      → ((d : ℕ) → has held d ≡ heldWith words (action rule i) k d)
-      → not (eqb (bitAnd held leaves) 0) ≡ offers head rule (heldBy words) i k
-  unfolding by
-  offers-held held leaves few fits-word covered in-words =
-      not-empty 64 (bitAnd held leaves) (lt-of-le-of-lt (and-le-r held leaves) fits-word)
-      ∙ any-witness (has (bitAnd held leaves)) (λ d. by 0 d || by 1 d) 64 (dataCount head)
-      (λ d l h.
-      let both : (by 0 d || by 1 d) ≡ true = sym (same d l) ∙ h in (
-        leaf-set-below head rule i d
-            (and-right (heldWith words (action rule i) k d) (inLeafSet head rule i d) (sym (by-word d) ∙ both)),
-        both,
-      ))
-      (λ d l h. let below : d < 64 = omega arith in (below, same d below ∙ h))
-      ∙ any-both (by 0) (by 1) (upTo (dataCount head))
-      ∙ sym (any-two (λ s. any (by s) (upTo (dataCount head))))
-      ∙ sym (offers-by-leaf head rule (heldBy words) i k small)
-    where
-      same : (d : ℕ) → d < 64 → has (bitAnd held leaves) d ≡ (by 0 d || by 1 d)
-      same d l = rw (has-and held leaves d, in-words d, covered d, lt-ltb d 64 l) (sym (by-word d))
+  module _ (leaves projected tested : ℕ) (p q : Bool)
+      (few : dataCount head ≤ 64) (word : leaves < 2 ^ 64) (covered : WordOf (inLeafSet head rule i) leaves)
+      (ep : p ≡ actionFits (action rule i) 0) (eq : q ≡ actionFits (action rule i) 1)
+      (first : projected ≡ cond p leaves 0) (second : tested ≡ cond q leaves 0) where
+    abbrev met : ℕ
+    met = bitOr (bitAnd (getD words k 0) projected) (bitAnd (getD words (16 + k) 0) tested)
+
+    met-word : met < 2 ^ 64
+    met-word =
+        or-lt 64 (bitAnd (getD words k 0) projected) (bitAnd (getD words (16 + k) 0) tested)
+        (lt-of-le-of-lt (and-le-r (getD words k 0) projected) (rw first (part p)))
+        (lt-of-le-of-lt (and-le-r (getD words (16 + k) 0) tested) (rw second (part q)))
+      where
+        part : (b : Bool) → cond b leaves 0 < 2 ^ 64
+        part true = word
+        part false = omega arith
+
+    met-leaf : (d : ℕ) → d < 64 → has met d ≡ (by 0 d || by 1 d)
+    unfolding held
+    met-leaf d l =
+        rw (
+          has-or,
+          has-and (getD words k 0) projected d,
+          has-and (getD words (16 + k) 0) tested d,
+          has-if p leaves projected d first,
+          has-if q leaves tested d second,
+          covered d,
+          lt-ltb d 64 l,
+          ep,
+          eq,
+          ← (and-assoc (has (getD words k 0) d) (actionFits (action rule i) 0) (inLeafSet head rule i d)),
+          ← (and-assoc (has (getD words (16 + k) 0) d) (actionFits (action rule i) 1) (inLeafSet head rule i d)),
+          and-over,
+        )
+        (sym (by-word d))
+
+    pub offers-met : not (eqb met 0) ≡ offers head rule (heldBy words) i k
+    unfolding by
+    offers-met =
+        not-empty 64 met met-word
+        ∙ any-witness (has met) (λ d. by 0 d || by 1 d) 64 (dataCount head)
+        (λ d l h.
+        let both : (by 0 d || by 1 d) ≡ true = sym (met-leaf d l) ∙ h in (
+          leaf-set-below head rule i d (and-right (held d) (inLeafSet head rule i d) (sym (by-word d) ∙ both)),
+          both,
+        ))
+        (λ d l h. let below : d < 64 = omega arith in (below, met-leaf d below ∙ h))
+        ∙ any-both (by 0) (by 1) (upTo (dataCount head))
+        ∙ sym (any-two (λ s. any (by s) (upTo (dataCount head))))
+        ∙ sym (offers-by-leaf head rule (heldBy words) i k small)
 
 -- Offers as a word
 
@@ -186,7 +197,7 @@ module _ (head rule : List ℕ) (accesses : Accesses) (i : ℕ) where
       (word : ℕ)
       → i < referenceCount rule
       → Marks (offers head rule accesses i) 16 word
-      → (k : ℕ) → has word k ≡ (ltb k 16 && offersOrNone head rule accesses i k)
+      → Offered head rule accesses i word
   unfolding offersOrNone
   offered-present word l marked k =
       rw (
@@ -200,7 +211,6 @@ module _ (head rule : List ℕ) (accesses : Accesses) (i : ℕ) where
           let l = ltb-true k 16 (and-left (ltb k 16) (offers head rule accesses i k) h) in
           omega arith
 
-  pub offered-absent :
-      referenceCount rule ≤ i → (k : ℕ) → has 1 k ≡ (ltb k 16 && offersOrNone head rule accesses i k)
+  pub offered-absent : referenceCount rule ≤ i → Offered head rule accesses i 1
   unfolding offersOrNone
   offered-absent l k = rw (le-ltb i (referenceCount rule) l) (single-in 16 0 k (omega arith))

@@ -1,16 +1,16 @@
 -- Laws of quantifiers: over the lists of `flat` and `keep`, and over the numbers below n with their witnesses.
 -- Assumes nothing.
-use Prim.Native.Nat.{ℕ, zero, suc, _+_, _*_, _/_, _%_, _≤_, _<_}
+use Prim.Native.Nat.{ℕ, zero, suc, _≤_, _<_}
 use native.Mathlib.Omega.{arith}
 use mathlib.Core.Path.{_≡_, refl, sym, _∙_}
 use mathlib.Core.Bool.{Bool, true, false, _&&_, _||_, false≢true}
 use mathlib.Core.List.{List, [], _∷_}
 use lib.Dec.{eqb, ltb}
 use borrow.Author.Tests.{ltb-true, lt-ltb, eqb-true, eq-eqb}
-use Rattle.book.specs.Lists.{any, all, from, upTo}
+use Rattle.book.specs.Lists.{flat, any, all, from, upTo}
 use Rattle.book.proofs.Lists.{and-true, and-left, and-right, and-both, or-otherwise, or-rest, or-end, same-test}
 use Rattle.book.proofs.Lists.{any-append, append-all, any-found, at-all, none-at, all-three}
-use Rattle.verdicts.specs.Accesses.{flat, keep}
+use Rattle.verdicts.specs.Accesses.{keep}
 
 -- Lists
 
@@ -128,31 +128,3 @@ all-padded f (suc zero) lo hi h = rw (h 1 (omega arith) (omega arith), h 2 (omeg
 all-padded f (suc (suc zero)) lo hi h = rw (h 2 (omega arith) (omega arith))
 all-padded f (suc (suc (suc zero))) lo hi h = all-three f
 all-padded f (suc (suc (suc (suc n)))) lo hi h = absurd (omega arith)
-
--- two numbers as one: p / 16 and p % 16
-pub any-pairs :
-    (f : ℕ → ℕ → Bool)
-    → any (λ p. f (p / 16) (p % 16)) (upTo 256) ≡ any (λ a. any (f a) (upTo 16)) (upTo 16)
-any-pairs f =
-    same-test (any pair (upTo 256)) (any row (upTo 16))
-    (λ h.
-    let w = any-at pair 256 h in
-    let p = w .0 in
-    let l : p < 256 = w .2 in
-    at-any row 16 (p / 16) (omega arith) (at-any (f (p / 16)) 16 (p % 16) (omega arith) (w .1)))
-    (λ h.
-    let w = any-at row 16 h in
-    let v = any-at (f (w .0)) 16 (w .1) in
-    let a = w .0 in
-    let b = v .0 in
-    let la : a < 16 = w .2 in
-    let lb : b < 16 = v .2 in
-    let high : (16 * a + b) / 16 ≡ a = omega arith in
-    let low : (16 * a + b) % 16 ≡ b = omega arith in
-    at-any pair 256 (16 * a + b) (omega arith) (rw (high, low) (v .1)))
-  where
-    pair : ℕ → Bool
-    pair p = f (p / 16) (p % 16)
-
-    row : ℕ → Bool
-    row a = any (f a) (upTo 16)

@@ -15,7 +15,7 @@ use Rattle.book.specs.Sets.{has}
 use Rattle.book.specs.Rule.{coversUser, referenceCount, restrictionCount, restrictionMask}
 use Rattle.book.proofs.Lists.{and-true, and-both, or-either, or-true, all-at, at-all, any-none}
 use Rattle.verdicts.specs.Accesses.{Access, Accesses}
-use Rattle.verdicts.specs.Words.{offers}
+use Rattle.verdicts.specs.Inner.Words.{offers}
 use Rattle.verdicts.specs.Breaking.{accepts, refusesAll, someChoiceRefused, breaks}
 use Rattle.verdicts.specs.Semantics.{Met, Applicable, SatisfiesRestriction, SatisfiesRule}
 use Rattle.verdicts.proofs.Quantifiers.{at-any, any-at}
@@ -83,9 +83,8 @@ listed P (suc n) i h =
 
 -- Restrictions
 
-module _ (head rule : List ℕ) (user : ℕ) (query : Accesses) (ks : List ℕ) (j : ℕ) where
-  pub accepts-satisfies :
-      accepts rule ks j ≡ true → SatisfiesRestriction head rule user query (λ i. getD ks i 0) j
+module _ (rule ks : List ℕ) (j : ℕ) where
+  pub accepts-satisfies : accepts rule ks j ≡ true → SatisfiesRestriction rule (λ i. getD ks i 0) j
   unfolding accepts
   accepts-satisfies h i l =
       ⊎-elim (λ (e : eqb (restrictionMask rule j i) 0 ≡ true). inl (eqb-true (restrictionMask rule j i) 0 e))
@@ -94,8 +93,7 @@ module _ (head rule : List ℕ) (user : ℕ) (query : Accesses) (ks : List ℕ) 
       (all-at (λ m. eqb (restrictionMask rule j m) 0 || has (restrictionMask rule j m) (getD ks m 0))
       (referenceCount rule) h i l))
 
-  pub satisfies-accepts :
-      SatisfiesRestriction head rule user query (λ i. getD ks i 0) j → accepts rule ks j ≡ true
+  pub satisfies-accepts : SatisfiesRestriction rule (λ i. getD ks i 0) j → accepts rule ks j ≡ true
   unfolding accepts
   satisfies-accepts s =
       at-all (λ m. eqb (restrictionMask rule j m) 0 || has (restrictionMask rule j m) (getD ks m 0))
@@ -141,7 +139,7 @@ module _ (head rule : List ℕ) (user : ℕ) (query : Accesses) where
       breaks head rule user query ≡ true
       → (coversUser head rule user ≡ true)
       × (ks : List ℕ)
-      × ((i : ℕ) → i < referenceCount rule → Met head rule user query i (getD ks i 0))
+      × ((i : ℕ) → i < referenceCount rule → Met head rule query i (getD ks i 0))
       × (refusesAll rule ks ≡ true)
   unfolding chosen
   broken-choice h =
@@ -168,7 +166,7 @@ module _ (head rule : List ℕ) (user : ℕ) (query : Accesses) where
           none (record { covered = c .0; met = λ i l. (getD (c .1) i 0, c .2 i l) }))
           (λ each.
           let r = each .1 (λ i. getD (c .1) i 0) (c .2) in
-          refuses-each rule (c .1) (c .3) (r .0) (r .1) (satisfies-accepts head rule user query (c .1) (r .0) (r .2)))
+          refuses-each rule (c .1) (c .3) (r .0) (r .1) (satisfies-accepts rule (c .1) (r .0) (r .2)))
           s)
 
   module _ (low : (x : Access) → query x ≡ true → x .operation < 16) where
@@ -176,7 +174,7 @@ module _ (head rule : List ℕ) (user : ℕ) (query : Accesses) where
     vector-breaks :
         coversUser head rule user ≡ true
         → (vector : ℕ → ℕ)
-        → ((i : ℕ) → i < referenceCount rule → Met head rule user query i (vector i))
+        → ((i : ℕ) → i < referenceCount rule → Met head rule query i (vector i))
         → refusesAll rule (map vector (from 0 (referenceCount rule))) ≡ true
         → breaks head rule user query ≡ true
     unfolding chosen
@@ -185,11 +183,11 @@ module _ (head rule : List ℕ) (user : ℕ) (query : Accesses) where
         ∙ and-true (coversUser head rule user) chosen u
         (vector-chosen (referenceCount rule) 0 (offers head rule query) (refusesAll rule) vector
         (λ i lo hi.
-        let m : Met head rule user query i (vector i) = met i (omega arith) in
+        let m : Met head rule query i (vector i) = met i (omega arith) in
         in-offers head rule query i (vector i) (m .access) (m .asked) (m .meant) (m .operates) (below i m))
         (λ i lo hi. below i (met i (omega arith))) r)
       where
-        below : (i : ℕ) → Met head rule user query i (vector i) → vector i < 16
+        below : (i : ℕ) → Met head rule query i (vector i) → vector i < 16
         below i m = rw (m .operates) at (low (m .access) (m .asked))
 
     pub not-broken-satisfies : breaks head rule user query ≡ false → SatisfiesRule head rule user query
@@ -197,10 +195,10 @@ module _ (head rule : List ℕ) (user : ℕ) (query : Accesses) where
       where
         accepting :
             (u : coversUser head rule user ≡ true) (vector : ℕ → ℕ)
-            → ((i : ℕ) → i < referenceCount rule → Met head rule user query i (vector i))
+            → ((i : ℕ) → i < referenceCount rule → Met head rule query i (vector i))
             → (b : Bool)
             → refusesAll rule (map vector (from 0 (referenceCount rule))) ≡ b
-            → (j : ℕ) × (j < restrictionCount rule) × SatisfiesRestriction head rule user query vector j
+            → (j : ℕ) × (j < restrictionCount rule) × SatisfiesRestriction rule vector j
         accepting u vector met true e = absurd (false≢true (sym h ∙ vector-breaks u vector met e))
         accepting u vector met false e =
             let ks = map vector (from 0 (referenceCount rule)) in
@@ -209,7 +207,7 @@ module _ (head rule : List ℕ) (user : ℕ) (query : Accesses) where
               a .2,
               λ i l.
                   rw (getD-from vector 0 (referenceCount rule) i l, zero-add i)
-                  at (accepts-satisfies head rule user query ks (a .0) (a .1) i l),
+                  at (accepts-satisfies rule ks (a .0) (a .1) i l),
             )
 
         forbidding :
@@ -219,7 +217,7 @@ module _ (head rule : List ℕ) (user : ℕ) (query : Accesses) where
             → SatisfiesRule head rule user query
         forbidding true e u =
             inl (λ a.
-            let v = listed (Met head rule user query) (referenceCount rule) 0 (λ i lo hi. a .met i (omega arith)) in
+            let v = listed (Met head rule query) (referenceCount rule) 0 (λ i lo hi. a .met i (omega arith)) in
             false≢true
             (sym h
             ∙ vector-breaks u (λ i. getD (v .0) i 0) (λ i l. rw zero-add at (v .1 i l))

@@ -1,31 +1,30 @@
--- What an accepted book gives: rules that are sound, and the mask of the rules that a plan breaks. Assumes nothing.
-use Prim.Native.Nat.{ℕ, _+_, _*_, _%_, _^_, _≤_, _<_}
+-- What an accepted book gives: rules that are sound, and the mask of the rules that are broken. Assumes nothing.
+use Prim.Native.Nat.{ℕ, _+_, _*_, _-_, _%_, _^_, _≤_, _<_}
 use native.Mathlib.Omega.{arith}
-use native.Mathlib.Nat.{lt-of-lt-of-le, mod-eq-of-lt}
-use mathlib.Core.Path.{_≡_, refl, sym, _∙_}
+use native.Mathlib.Nat.{lt-of-lt-of-le}
+use mathlib.Core.Path.{_≡_, refl, sym, ap, _∙_}
 use mathlib.Core.Bool.{Bool, true, false, _&&_, not, false≢true}
 use mathlib.Core.List.{List}
-use lib.ListN.{length, getD, take, drop, length-take, List·getD-eq-default}
+use lib.ListN.{length, getD, take, drop, length-take, length-drop, List·getD-eq-default}
 use lib.Seq.{getD-take, getD-drop}
 use lib.Dec.{eqb, ltb}
+use lib.Bits.{and-mask}
 use lib.Pow.{pow-mono, pow-pos}
 use borrow.Author.Tests.{ltb-true, ltb-false, lt-ltb, le-ltb}
-use Rattle.book.specs.Lists.{upTo}
-use Rattle.book.specs.Sets.{has, WordOf}
-use Rattle.book.specs.Blocks.{headOf, ruleAt}
+use Rattle.book.specs.Sets.{has}
+use Rattle.book.specs.Blocks.{headOf, ruleAt, ruleCount}
 use Rattle.book.specs.Head.{userCount}
-use Rattle.book.specs.Rule.{coversUser, referenceCount, restrictionCount, restrictionMask}
-use Rattle.book.specs.Refusals.{maskAllows}
-use Rattle.book.specs.Answers.{checkAnswer, ruleCount}
-use Rattle.book.specs.declared.Checked.the-variants.{Accepted}
-use Rattle.book.proofs.Accepted.{HeadHolds, RuleHolds, accepted-head, accepted-length, accepted-rule, accepted-rules}
-use Rattle.book.proofs.Lists.{and-false}
-use Rattle.book.proofs.Members.{has-zero, same-members}
-use Rattle.lineage.specs.Accesses.{accessWords, wordOf}
+use Rattle.book.specs.Rule.{referenceCount, restrictionCount, restrictionMask}
+use Rattle.book.specs.Refusals.{BookAccepted, maskAllows}
+use Rattle.book.proofs.Accepted.{HeadHolds, RuleHolds, accepted-head, accepted-length, accepted-rule}
+use Rattle.book.proofs.Lists.{and-end, and-false}
+use Rattle.book.proofs.Members.{has-zero, has-and, has-below, same-members}
+use Rattle.lineage.specs.Accesses.{accessWords}
 use Rattle.lineage.proofs.Words.{word-of}
-use Rattle.verdicts.specs.Accesses.{accessesOf}
-use Rattle.verdicts.specs.Words.{RuleSound, heldBy}
-use Rattle.verdicts.specs.Breaking.{breaks, brokenMask, someChoiceRefused}
+use Rattle.verdicts.specs.Accesses.{Accesses, accessesOf, heldBy}
+use Rattle.verdicts.specs.Inner.Words.{RuleSound}
+use Rattle.verdicts.specs.Breaking.{breaks, brokenMask}
+use Rattle.verdicts.proofs.Marks.{Marks}
 use Rattle.verdicts.proofs.Monotone.{refused-same}
 use Rattle.verdicts.proofs.Held.{held-plan}
 
@@ -36,6 +35,7 @@ module _
     (h : HeadHolds head)
     (r : RuleHolds head rule)
     (bytes : (i : ℕ) → getD rule i 0 < 256)
+    (whole : length rule ≡ 512)
   where
     -- a mask for an absent reference names nothing
     absent-mask :
@@ -63,10 +63,14 @@ module _
 
     pub rule-sound : RuleSound head rule
     rule-sound =
+        let few : userCount head ≤ 64 = omega (arith, h .users-most) in
         record {
+          users = few;
           leaves = h .data-most;
           some = r .references-some;
           few = r .references-most;
+          whole = whole;
+          restrictions = r .restrictions-most;
           absent = absent-mask;
         }
 
@@ -86,79 +90,64 @@ rule-bytes book bytes r j = go (ltb j 512) refl
 
 -- A book
 
-module _ (book : List ℕ) (n : ℕ) (accepted : checkAnswer book ≡ Accepted n) where
+module _ (book : List ℕ) (accepted : BookAccepted book) where
   pub few-rules : ruleCount book ≤ 32
   few-rules =
-      let e = accepted-rules book n accepted in
-      let l = accepted-length book n accepted in
-      omega arith
+      accepted-length book accepted .1
 
-  pub few-users : userCount (headOf book) ≤ 64
-  few-users =
-      let m : userCount (headOf book) ≤ 32 = accepted-head book n accepted .users-most in
-      omega arith
+  rule-whole : (r : ℕ) → r < ruleCount book → length (ruleAt book r) ≡ 512
+  rule-whole r l =
+      let size = accepted-length book accepted .0 in
+      rw (length-take, length-drop (512 * (4 + r)) book) (omega arith)
 
   pub rules-sound :
       ((i : ℕ) → getD book i 0 < 256) → (r : ℕ) → r < ruleCount book → RuleSound (headOf book) (ruleAt book r)
   rules-sound bytes r l =
-      let e = accepted-rules book n accepted in
-      rule-sound (headOf book) (ruleAt book r) (accepted-head book n accepted)
-      (accepted-rule book n accepted r (omega arith)) (rule-bytes book bytes r)
+      rule-sound (headOf book) (ruleAt book r) (accepted-head book accepted)
+      (accepted-rule book accepted r l) (rule-bytes book bytes r) (rule-whole r l)
 
--- The mask of a plan
+-- The mask
 
-module _ (book : List ℕ) (n : ℕ) (accepted : checkAnswer book ≡ Accepted n) (user : ℕ) (plan : List ℕ) where
-  covered : ℕ → Bool
-  covered r = coversUser (headOf book) (ruleAt book r) user
+-- a word cut to 32 bits
+cut-bit : (word r : ℕ) → has (word % 4294967296) r ≡ (has word r && ltb r 32)
+cut-bit word r =
+    ap (λ (w : ℕ). has w r) (sym (and-mask word 32))
+    ∙ has-and word (2 ^ 32 - 1) r
+    ∙ ap (λ (b : Bool). has word r && b) (has-below 32 r)
 
-  -- by the plan's accesses, and by the words that hold them
-  refused : ℕ → Bool
-  refused r = someChoiceRefused (headOf book) (ruleAt book r) (accessesOf (headOf book) plan)
+module _ (book : List ℕ) (accepted : BookAccepted book) (user : ℕ) where
+  -- the code's word of the broken rules
+  pub mask-whole :
+      (accesses : Accesses) (total word : ℕ)
+      → total ≡ ruleCount book
+      → Marks (λ r. breaks (headOf book) (ruleAt book r) user accesses) total word
+      → word % 4294967296 ≡ brokenMask book user accesses
+  unfolding brokenMask
+  mask-whole accesses total word t marked =
+      let whole = word-of (λ r. breaks (headOf book) (ruleAt book r) user accesses) (ruleCount book) in
+      same-members 32 (word % 4294967296) (brokenMask book user accesses) (omega arith)
+      (lt-of-lt-of-le (whole .0) (pow-mono (few-rules book accepted)))
+      (λ r l.
+      cut-bit word r
+      ∙ rw (marked r, lt-ltb r 64 (omega arith), lt-ltb r 32 l, t, and-end)
+      (sym (whole .1 r)))
 
-  refusedIn : List ℕ → ℕ → Bool
-  refusedIn words r = someChoiceRefused (headOf book) (ruleAt book r) (heldBy words)
-
-  refused-in : (r : ℕ) → refusedIn (accessWords (headOf book) plan) r ≡ refused r
-  unfolding refused refusedIn
-  refused-in r =
-      refused-same (headOf book) (ruleAt book r) (heldBy (accessWords (headOf book) plan))
-      (accessesOf (headOf book) plan) (held-plan (headOf book) plan (accepted-head book n accepted .data-most))
-
-  module _
-      (total rules mask : ℕ)
-      (words : List ℕ)
-      (t : total ≡ ruleCount book)
-      (w : words ≡ accessWords (headOf book) plan)
-      (rules-at : WordOf (λ r. ltb r total && coversUser (headOf book) (ruleAt book r) user) rules)
-      (mask-at :
-      WordOf (λ r. ltb r total && (has rules r && someChoiceRefused (headOf book) (ruleAt book r) (heldBy words))) mask)
-    where
-      broken-bit : (r : ℕ) → has mask r ≡ (ltb r (ruleCount book) && (covered r && refused r))
-      unfolding covered refusedIn
-      broken-bit r = mask-at r ∙ rw (rules-at r, t, w) (go (ltb r (ruleCount book)) refl)
-        where
-          go :
-              (b : Bool)
-              → ltb r (ruleCount book) ≡ b
-              → (ltb r 64
-              && (b && ((ltb r 64 && (b && covered r)) && refusedIn (accessWords (headOf book) plan) r)))
-              ≡ (b && (covered r && refused r))
-          go true e =
-              let l : r < ruleCount book = ltb-true r (ruleCount book) e in
-              let m : ruleCount book ≤ 32 = few-rules book n accepted in
-              rw (lt-ltb r 64 (omega arith), refused-in r)
-          go false e = and-false (ltb r 64)
-
-      pub mask-same :
-          mask < 2 ^ 64 → mask % 4294967296 ≡ brokenMask book (ruleCount book) user (accessesOf (headOf book) plan)
-      unfolding brokenMask breaks covered refused
-      mask-same fits =
-          let broken : ℕ → Bool = λ r. breaks (headOf book) (ruleAt book r) user (accessesOf (headOf book) plan) in
-          let whole = word-of broken (ruleCount book) in
-          let m : ruleCount book ≤ 32 = few-rules book n accepted in
-          let small : wordOf broken (upTo (ruleCount book)) < 2 ^ 32 = lt-of-lt-of-le (whole .0) (pow-mono m) in
-          let e : mask ≡ wordOf broken (upTo (ruleCount book)) =
-          same-members 64 mask (wordOf broken (upTo (ruleCount book))) fits
-          (lt-of-lt-of-le small (pow-mono {i = 32} {j = 64} (omega arith)))
-          (λ r l. broken-bit r ∙ sym (whole .1 r)) in
-          rw e (mod-eq-of-lt small)
+  -- the words of a plan break what its accesses break
+  pub mask-held :
+      (plan : List ℕ)
+      → brokenMask book user (heldBy (accessWords (headOf book) plan))
+      ≡ brokenMask book user (accessesOf (headOf book) plan)
+  unfolding brokenMask breaks
+  mask-held plan =
+      let words = heldBy (accessWords (headOf book) plan) in
+      let flows = accessesOf (headOf book) plan in
+      let held = word-of (λ r. breaks (headOf book) (ruleAt book r) user words) (ruleCount book) in
+      let had = word-of (λ r. breaks (headOf book) (ruleAt book r) user flows) (ruleCount book) in
+      same-members (ruleCount book) (brokenMask book user words)
+      (brokenMask book user flows) (held .0) (had .0)
+      (λ r l.
+      held .1 r
+      ∙ rw
+      (refused-same (headOf book) (ruleAt book r) words flows
+      (held-plan (headOf book) plan (accepted-head book accepted .data-most)))
+      (sym (had .1 r)))

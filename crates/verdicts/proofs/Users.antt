@@ -1,24 +1,18 @@
 -- Laws of users: a user is a leaf of at most 64 user categories, so a word tells every user. Assumes nothing.
 use Prim.Native.Nat.{ℕ, _≤_}
 use mathlib.Core.Path.{_≡_, sym, _∙_}
-use mathlib.Core.Bool.{Bool, true, false}
+use mathlib.Core.Bool.{Bool}
 use mathlib.Core.List.{List}
 use lib.Dec.{ltb}
 use Rattle.book.specs.Sets.{has, WordOf}
 use Rattle.book.specs.Hierarchies.{leaf, covers}
 use Rattle.book.specs.Head.{userCount, userParent, isUser}
 use Rattle.book.specs.Rule.{userCategory, excludedUsers, coversUser}
-use Rattle.book.specs.Refusals.{firstFailing}
-use Rattle.book.specs.Answers.{refuse}
-use Rattle.book.specs.declared.Checked.the-variants.{Accepted, Refused}
 use Rattle.book.proofs.Lists.{and-assoc}
 use Rattle.book.proofs.Hierarchies.{leaf-in-word}
-use Rattle.verdicts.specs.Answers.{userAnswer}
-
--- The code's tests
 
 module _ (head : List ℕ) (user word : ℕ) (t : Bool) (few : userCount head ≤ 64) (test : t ≡ has word user) where
-  pub user-test : WordOf (leaf (userCount head) (userParent head)) word → t ≡ isUser head user
+  pub user-test : WordOf (isUser head) word → t ≡ isUser head user
   unfolding isUser
   user-test members = test ∙ members user ∙ leaf-in-word (userCount head) (userParent head) user few
 
@@ -31,15 +25,3 @@ module _ (head : List ℕ) (user word : ℕ) (t : Bool) (few : userCount head �
       (and-assoc (ltb user 64) (leaf (userCount head) (userParent head) user)
       (covers (userParent head) (userCategory rule) (excludedUsers rule) user))
       ∙ rw (leaf-in-word (userCount head) (userParent head) user few)
-
--- The answer
-
--- 20: "the user is no leaf"
-module _ (head : List ℕ) (user : ℕ) where
-  pub user-accepted : isUser head user ≡ true → Accepted 0 ≡ userAnswer head user
-  unfolding userAnswer firstFailing refuse
-  user-accepted h = rw h
-
-  pub user-refused : isUser head user ≡ false → Refused (record { number = 20; place = 0 }) ≡ userAnswer head user
-  unfolding userAnswer firstFailing refuse
-  user-refused h = rw h

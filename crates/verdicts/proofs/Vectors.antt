@@ -2,25 +2,38 @@
 -- Assumes nothing.
 use Prim.Native.Nat.{ℕ}
 use mathlib.Core.Path.{_≡_, refl}
-use mathlib.Core.List.{List, [], _∷_, _++_, map}
-use Rattle.book.specs.Lists.{all, any, upTo, from}
+use mathlib.Core.List.{List, [], _∷_, map}
+use Rattle.book.specs.Lists.{flat, all, any, upTo, from}
 use Rattle.book.specs.Sets.{has}
-use Rattle.book.specs.Hierarchies.{upwardIn, upward, under, leaf, covers, ownedBy, support}
+use Rattle.book.specs.Hierarchies.{upwardIn, upward, under, leaf, covers, properDescendant, ownedBy, support}
+use Rattle.book.specs.Hierarchies.{parentHolds}
 use Rattle.book.specs.Head.{isUser, isDataLeaf, supportOf, supports}
 use Rattle.book.specs.Rule.{coversUser, inLeafSet}
-use Rattle.book.specs.Blocks.{headOf, weighted, checkSum}
+use Rattle.book.specs.Blocks.{weighted, checkSum, checkHolds}
+use Rattle.book.specs.Refusals.{between, zeros, lengthHolds, kindHolds, usersCounted, dataCounted, columnsCounted}
+use Rattle.book.specs.Refusals.{functionsCounted, ruleCounts, referenceEnd, ruleZeros, ruleCounted, usersOrdered}
+use Rattle.book.specs.Refusals.{dataOrdered, labelHolds, labelsHold, functionsHold, userNumbersHold}
+use Rattle.book.specs.Refusals.{referenceHolds, numbersHold, leafSetsApart, referencesApart, maskAllows}
+use Rattle.book.specs.Refusals.{maskHolds, masksHold, lengthTests, checkTests, kindTests}
+use Rattle.book.specs.Refusals.{usersBlockTests, dataBlockTests, columnsBlockTests, functionsBlockTests}
+use Rattle.book.specs.Refusals.{ruleBlockTests, blockTests, contentTests, blockByBlock, bookTests, sealTests}
+use Rattle.book.specs.Tests.{firstFailing, refusedOr, answered}
 use Rattle.book.specs.Answers.{withCheck, sealBytes}
 use Rattle.book.specs.Shop.{padded, block, users, categories, columns, functions, rule, rule0, rule1, rule2, shop}
 use Rattle.book.proofs.Vectors.{checkCases}
-use Rattle.lineage.specs.Rows.{kindOf, kindAt}
+use Rattle.lineage.specs.Rows.{kindOf, kindAt, isValue, names, soundAs, rowHolds}
 use Rattle.lineage.specs.Paths.{through, pathsBy, pathsIn, paths, labels, takes, firstOperation, carries}
 use Rattle.lineage.specs.Accesses.{reaches, gives, isAccess, wordOf}
+use Rattle.lineage.specs.Answers.{planLengthHolds, rowTests, planTests}
 use Rattle.lineage.proofs.Vectors.{applyBoth, choose, output, condition, plan, state, city, price, avg, sum}
-use Rattle.verdicts.specs.Accesses.{accessesOf, flat, keep, everyAccess, actionFits, fits, fitting}
+use Rattle.verdicts.specs.Accesses.{accessesOf, keep, everyAccess, actionFits, fits, fitting}
 use Rattle.verdicts.specs.Breaking.{choicesFrom, operations, accepts, refusesAll, someChoiceRefused, breaks}
 use Rattle.verdicts.specs.Breaking.{brokenMask}
+use Rattle.verdicts.specs.Answers.{userTests, judgeTests, judgeAnswer}
+use Rattle.verdicts.specs.declared.Judged.{Judged}
+use Rattle.verdicts.specs.declared.Judged.the-variants.{Broken}
 
--- the user, the rows of a plan, and the mask of the rules that they break
+-- the user, the rows of a plan, and the mask that Judge answers
 unfoldable pub cases : List (ℕ × List (List ℕ) × ℕ)
 cases =
     -- "Empty plan, user 1: 0."
@@ -45,14 +58,20 @@ cases =
     ∷ (2, price ∷ state ∷ choose 0 1 1 ∷ [], 2)
     ∷ []
 
+-- Judge's answers, and beside them the checks of the last starred line
 pub starred :
-    _≡_ {A = List ℕ}
-    (map (λ c. brokenMask shop 3 (c .0) (accessesOf (headOf shop) (plan (c .1)))) cases
-    ++ map (λ c. checkSum (c .0)) checkCases)
-    (map (λ c. c .2) cases ++ map (λ c. c .1) checkCases)
-unfolding cases checkCases plan all any upTo from has upwardIn upward under leaf covers ownedBy support isUser isDataLeaf
-    supportOf supports coversUser inLeafSet weighted checkSum withCheck sealBytes padded block users categories
-    columns functions rule rule0 rule1 rule2 shop kindOf kindAt through pathsBy pathsIn paths labels takes
-    firstOperation carries reaches gives isAccess wordOf accessesOf flat keep everyAccess actionFits fits fitting
-    choicesFrom operations accepts refusesAll someChoiceRefused breaks brokenMask
+    _≡_ {A = List Judged × List ℕ}
+    (map (λ c. judgeAnswer shop (c .0) (plan (c .1))) cases, map (λ c. checkSum (c .0)) checkCases)
+    (map (λ c. Broken (c .2)) cases, map (λ c. c .1) checkCases)
+unfolding cases checkCases plan all any upTo from has upwardIn upward under leaf covers properDescendant ownedBy support
+    parentHolds isUser isDataLeaf supportOf supports coversUser inLeafSet weighted checkSum checkHolds between zeros
+    lengthHolds kindHolds usersCounted dataCounted columnsCounted functionsCounted ruleCounts referenceEnd ruleZeros
+    ruleCounted usersOrdered dataOrdered labelHolds labelsHold functionsHold userNumbersHold referenceHolds
+    numbersHold leafSetsApart referencesApart maskAllows maskHolds masksHold usersBlockTests dataBlockTests
+    columnsBlockTests functionsBlockTests ruleBlockTests blockTests checkTests kindTests contentTests lengthTests
+    blockByBlock bookTests sealTests firstFailing refusedOr answered withCheck sealBytes padded block users categories
+    columns functions rule rule0 rule1 rule2 shop kindOf kindAt isValue names soundAs rowHolds planLengthHolds
+    rowTests planTests through pathsBy pathsIn paths labels takes firstOperation carries reaches gives isAccess
+    wordOf accessesOf flat keep everyAccess actionFits fits fitting choicesFrom operations accepts refusesAll
+    someChoiceRefused breaks brokenMask userTests judgeTests judgeAnswer
 starred = refl

@@ -1,11 +1,15 @@
 -- Accesses, and which of them fit a reference of a rule. Document 01, "Breaking a rule". Assumes nothing.
-use Prim.Native.Nat.{ℕ, zero, suc}
+use Prim.Native.Nat.{ℕ, zero, suc, _+_, _*_}
 use mathlib.Core.Bool.{Bool, true, false, _&&_}
-use mathlib.Core.List.{List, [], _∷_, _++_, map}
+use mathlib.Core.List.{List, [], _∷_, map}
+use lib.ListN.{getD}
 use lib.Dec.{eqb, ltb}
-use Rattle.book.specs.Lists.{upTo}
+use Rattle.book.specs.Lists.{flat, upTo}
+use Rattle.book.specs.Blocks.{Head, Rule}
+use Rattle.book.specs.Sets.{has}
 use Rattle.book.specs.Head.{dataCount}
 use Rattle.book.specs.Rule.{action, inLeafSet}
+use Rattle.lineage.specs.Rows.{Plan}
 use Rattle.lineage.specs.Accesses.{isAccess}
 
 -- an access: 0 projection or 1 condition, a label, an operation
@@ -22,26 +26,27 @@ abbrev pub Accesses : Type 0
 Accesses = Access → Bool
 
 -- the accesses of a plan
-unfoldable pub accessesOf : List ℕ → List ℕ → Accesses
+unfoldable pub accessesOf : Head → Plan → Accesses
 accessesOf head plan x = isAccess head plan (x .channel) (x .leaf) (x .operation)
 
--- the lists that f gives, one after the other
-unfoldable pub flat : {A B : Type 0} → (A → List B) → List A → List B
-flat f [] = []
-flat f (x ∷ xs) = f x ++ flat f xs
+-- the set that 32 words hold: "bit d of word 16 × s + k is set exactly when (s, d, k) is an access"
+unfoldable pub heldBy : (words : List ℕ) → Accesses
+heldBy words x =
+    ltb (x .channel) 2
+    && (ltb (x .operation) 16 && has (getD words (16 * x .channel + x .operation) 0) (x .leaf))
 
 unfoldable pub keep : {A : Type 0} → (A → Bool) → List A → List A
 keep f [] = []
 keep {A} f (x ∷ xs) = elim (f x) as (λ b. List A) [ true ↦ x ∷ keep f xs | false ↦ keep f xs ]
 
 -- every access that a book has categories for: projections first, then by leaf, then by operation
-unfoldable pub everyAccess : List ℕ → List Access
+unfoldable pub everyAccess : Head → List Access
 everyAccess head =
     flat (λ s. flat (λ d. map (λ k. record { channel = s; leaf = d; operation = k }) (upTo 16)) (upTo (dataCount head)))
     (upTo 2)
 
 -- "1 projection, 2 condition, 3 access, meaning either"
-unfoldable pub actionFits : ℕ → ℕ → Bool
+unfoldable pub actionFits : (action channel : ℕ) → Bool
 actionFits zero s = false
 actionFits (suc zero) s = eqb s 0
 actionFits (suc (suc zero)) s = eqb s 1
@@ -49,9 +54,9 @@ actionFits (suc (suc (suc zero))) s = ltb s 2
 actionFits (suc (suc (suc (suc a)))) s = false
 
 -- "with fitting action and covered leaf"
-unfoldable pub fits : List ℕ → List ℕ → ℕ → Access → Bool
+unfoldable pub fits : (head : Head) (rule : Rule) (reference : ℕ) → Access → Bool
 fits head rule i x = actionFits (action rule i) (x .channel) && inLeafSet head rule i (x .leaf)
 
 -- the accesses of a set that fit reference i
-unfoldable pub fitting : List ℕ → List ℕ → Accesses → ℕ → List Access
+unfoldable pub fitting : (head : Head) (rule : Rule) → Accesses → (reference : ℕ) → List Access
 fitting head rule accesses i = keep (λ x. accesses x && fits head rule i x) (everyAccess head)

@@ -1,13 +1,12 @@
--- What Judge answers, whole: refusals first. Document 01, "The calls". Assumes nothing.
+-- The tests of Judge in document 01's order, and what it answers, whole. Document 01, "The calls". Assumes nothing.
 use Prim.Native.Nat.{ℕ}
-use mathlib.Core.List.{List, [], _∷_}
-use Rattle.book.specs.Blocks.{headOf}
+use mathlib.Core.List.{List, [], _∷_, _++_}
+use Rattle.book.specs.Blocks.{Book, Head, headOf}
 use Rattle.book.specs.Head.{isUser}
-use Rattle.book.specs.Refusals.{firstFailing}
-use Rattle.book.specs.Answers.{refuse, orElse, checkAnswer, ruleCount}
-use Rattle.book.specs.declared.Checked.{Checked}
-use Rattle.book.specs.declared.Checked.the-variants as checked
-use Rattle.lineage.specs.Answers.{planAnswer}
+use Rattle.book.specs.Tests.{Test, answered}
+use Rattle.book.specs.Refusals.{bookTests}
+use Rattle.lineage.specs.Rows.{Plan}
+use Rattle.lineage.specs.Answers.{planTests}
 use Rattle.verdicts.specs.Accesses.{accessesOf}
 use Rattle.verdicts.specs.Breaking.{brokenMask}
 use Rattle.verdicts.specs.declared.Judged.{Judged}
@@ -18,18 +17,14 @@ abbrev pub noUser : ℕ
 noUser = 20
 
 -- 20: "the user is no leaf"
-unfoldable pub userAnswer : List ℕ → ℕ → Checked
-userAnswer head user = refuse (firstFailing ((noUser, isUser head user) ∷ [])) 0 (checked.Accepted 0)
+unfoldable pub userTests : (head : Head) (user : ℕ) → List Test
+userTests head user = (noUser, 0, isUser head user) ∷ []
 
 -- "Book refusals; 20 [..]; 21; 22."
-unfoldable pub judgeCheck : List ℕ → ℕ → List ℕ → Checked
-judgeCheck book user plan =
-    orElse (checkAnswer book) (orElse (userAnswer (headOf book) user) (planAnswer (headOf book) plan))
+unfoldable pub judgeTests : (book : Book) (user : ℕ) (plan : Plan) → List Test
+judgeTests book user plan = bookTests book ++ userTests (headOf book) user ++ planTests (headOf book) plan
 
-unfoldable pub judgedOf : Checked → ℕ → Judged
-judgedOf (checked.Accepted n) mask = judged.Broken mask
-judgedOf (checked.Refused refusal) mask = judged.Refused refusal
-
-unfoldable pub judgeAnswer : List ℕ → ℕ → List ℕ → Judged
+unfoldable pub judgeAnswer : (book : Book) (user : ℕ) (plan : Plan) → Judged
 judgeAnswer book user plan =
-    judgedOf (judgeCheck book user plan) (brokenMask book (ruleCount book) user (accessesOf (headOf book) plan))
+    answered (judgeTests book user plan) judged.Refused
+    (judged.Broken (brokenMask book user (accessesOf (headOf book) plan)))

@@ -1,33 +1,20 @@
 // One rule against a set of accesses, given as 32 words: for each reference the operations with
-// which some access of the set fits it, and then at most 256 steps over these.
+// which some access of the set fits it, and then at most 256 choices of the first two.
 use book::fields::action;
 use book::fields::reference_count;
 use book::fields::restriction_count;
-use book::fields::restriction_mask;
 use book::rules::leaf_set;
 use book::sets::contains;
 use book::sets::single;
+use book::sets::word_if;
 ghost use mathlib.Core.Path.{_≡_};
-ghost use mathlib.Core.Bool.{_&&_, _||_, cond};
-ghost use Prim.Native.Nat.{ℕ, _+_, _<_};
+ghost use mathlib.Core.Bool.{_&&_};
+ghost use Prim.Native.Nat.{ℕ, _<_};
 ghost use lib.Dec.{ltb};
-ghost use lib.ListN.{getD};
-ghost use Rattle.book.specs.Lists.{any, upTo};
 ghost use Rattle.book.specs.Sets.{has};
-ghost use Rattle.book.specs.Rule.{restrictionCount, restrictionMask};
-ghost use Rattle.verdicts.specs.Accesses.{actionFits};
-ghost use Rattle.verdicts.specs.Words.{heldBy, maskTakes, offersOrNone, RuleSound};
-ghost use Rattle.verdicts.specs.Breaking.{someChoiceRefused};
-
-// A word, or the empty one.
-pub fn word_if(wanted: bool, word: u64) -> u64
-    ensures { λ r. ⌜ r ≡ cond wanted word 0 ⌝ }
-{
-    if wanted {
-        return word;
-    }
-    0
-}
+ghost use Rattle.verdicts.specs.Accesses.{actionFits, heldBy};
+ghost use Rattle.verdicts.specs.Inner.Words.{maskTakes, OfferedIfSound, RefusedIfSound};
+ghost use Rattle.verdicts.specs.Inner.Words.{Beside, refusedBeside, someRefused, TakenIfWhole};
 
 pub fn action_fits(action: usize, channel: usize) -> bool
     ensures { λ r. ⌜ r ≡ actionFits action channel ⌝ }
@@ -40,54 +27,22 @@ pub fn action_fits(action: usize, channel: usize) -> bool
     }
 }
 
-// The leaves that the words hold with operation k, in the channels that fit an action.
-fn held(words: [u64; 32], action: usize, k: usize) -> u64
-    ensures { λ r. ⌜ (k < 16 → (d : ℕ) → has r d ≡ ((actionFits action 0 && has (getD words k 0) d) || (actionFits action 1 && has (getD words (16 + k) 0) d))) ⌝ }
-{
-    if 16 <= k {
-        return 0;
-    }
-    let projected = word_if(action_fits(action, 0), words[k]);
-    let tested = word_if(action_fits(action, 1), words[16 + k]);
-    projected | tested
-}
-
 // The operations with which some access of the words fits reference i; of an absent reference,
 // operation 0 alone.
-fn offered(head: &[u8], rule: &[u8], words: [u64; 32], i: u8) -> u64
-    ensures { λ r. ⌜ (RuleSound (now (head .entry)) (now (rule .entry)) → (k : ℕ) → has r k ≡ (ltb k 16 && offersOrNone (now (head .entry)) (now (rule .entry)) (heldBy words) i k)) ⌝ }
+fn offered(t: &[u64], rule: &[u8], words: [u64; 32], i: u8) -> u64
+    ensures { λ r. ⌜ OfferedIfSound (now (t .entry)) (now (rule .entry)) (heldBy words) i r ⌝ }
 {
     if reference_count(rule) <= i as usize {
         return 1;
     }
-    let leaves = leaf_set(head, rule, i);
+    let leaves = leaf_set(t, rule, i);
     let wanted = action(rule, i);
+    let projected = word_if(action_fits(wanted, 0), leaves);
+    let tested = word_if(action_fits(wanted, 1), leaves);
     let mut found = 0u64;
     for k in 0..16usize {
-        found = found | word_if(held(words, wanted, k) & leaves != 0, single(k));
-    }
-    found
-}
-
-fn mask_takes(mask: u64, k: usize) -> bool
-    ensures { λ r. ⌜ r ≡ maskTakes mask k ⌝ }
-{
-    (mask == 0) | contains(mask, k)
-}
-
-// The operations of the third reference that some restriction takes beside a and b.
-fn taken_beside(rule: &[u8], a: usize, b: usize) -> u64
-    ensures { λ r. ⌜ ((k : ℕ) → has r k ≡ (ltb k 16 && any (λ j. maskTakes (restrictionMask (now (rule .entry)) j 0) a && (maskTakes (restrictionMask (now (rule .entry)) j 1) b && maskTakes (restrictionMask (now (rule .entry)) j 2) k)) (upTo (restrictionCount (now (rule .entry)))))) ⌝ }
-{
-    let n = restriction_count(rule);
-    let mut found = 0u64;
-    for j in 0..n {
-        let row = j as u8;
-        let first = restriction_mask(rule, row, 0);
-        let second = restriction_mask(rule, row, 1);
-        let third = restriction_mask(rule, row, 2);
-        let both = mask_takes(first, a) & mask_takes(second, b);
-        found = found | word_if(both, all_if_zero(third));
+        let met = (words[k] & projected) | (words[16 + k] & tested);
+        found = found | word_if(met != 0, single(k));
     }
     found
 }
@@ -102,19 +57,82 @@ pub fn all_if_zero(mask: u64) -> u64
     mask
 }
 
-// Whether some choice from the words is accepted by no restriction.
-pub fn breaks(head: &[u8], rule: &[u8], words: [u64; 32]) -> bool
-    ensures { λ r. ⌜ (RuleSound (now (head .entry)) (now (rule .entry)) → r ≡ someChoiceRefused (now (head .entry)) (now (rule .entry)) (heldBy words)) ⌝ }
+// The operations that restriction j takes at reference i, in word 3 × j + i.
+fn taken(rule: &[u8]) -> [u64; 24]
+    ensures { λ r. ⌜ TakenIfWhole (now (rule .entry)) r ⌝ }
 {
-    let first = offered(head, rule, words, 0);
-    let second = offered(head, rule, words, 1);
-    let third = offered(head, rule, words, 2);
-    for p in 0..256usize {
-        if contains(first, p / 16) & contains(second, p % 16) {
-            if third & !taken_beside(rule, p / 16, p % 16) != 0 {
+    let mut masks = [0u64; 24];
+    let n = restriction_count(rule);
+    // Tested here, so that no read below tests again.
+    if rule.len() < 112 {
+        return masks;
+    }
+    if 8 < n {
+        return masks;
+    }
+    for m in 0..3 * n {
+        let mask = 256 * (rule[64 + 2 * m] as u64) + (rule[65 + 2 * m] as u64);
+        masks[m] = all_if_zero(mask);
+    }
+    masks
+}
+
+// The operations of the third reference that some restriction takes beside a and b.
+fn taken_beside(masks: [u64; 24], a: usize, b: usize) -> u64
+    ensures { λ r. ⌜ Beside masks a b r ⌝ }
+{
+    let mut found = 0u64;
+    for j in 0..8usize {
+        let both = contains(masks[3 * j], a) & contains(masks[3 * j + 1], b);
+        found = found | word_if(both, masks[3 * j + 2]);
+    }
+    found
+}
+
+// Whether some choice of operations with a first is taken by no restriction.
+fn refused_beside(masks: [u64; 24], a: usize, second: u64, third: u64) -> bool
+    ensures { λ r. ⌜ r ≡ refusedBeside masks second third a ⌝ }
+{
+    for b in 0..16usize {
+        if contains(second, b) {
+            if third & !taken_beside(masks, a, b) != 0 {
                 return true;
             }
         }
     }
     false
+}
+
+// Whether some choice of operations is taken by no restriction.
+fn some_refused(masks: [u64; 24], first: u64, second: u64, third: u64) -> bool
+    ensures { λ r. ⌜ r ≡ someRefused masks first second third ⌝ }
+{
+    for a in 0..16usize {
+        if contains(first, a) {
+            if refused_beside(masks, a, second, third) {
+                return true;
+            }
+        }
+    }
+    false
+}
+
+// Whether some choice from the words is accepted by no restriction. Most rules end where a reference
+// is offered nothing.
+pub fn breaks(t: &[u64], rule: &[u8], words: [u64; 32]) -> bool
+    ensures { λ r. ⌜ RefusedIfSound (now (t .entry)) (now (rule .entry)) (heldBy words) r ⌝ }
+{
+    let first = offered(t, rule, words, 0);
+    if first == 0 {
+        return false;
+    }
+    let second = offered(t, rule, words, 1);
+    if second == 0 {
+        return false;
+    }
+    let third = offered(t, rule, words, 2);
+    if third == 0 {
+        return false;
+    }
+    some_refused(taken(rule), first, second, third)
 }

@@ -38,6 +38,22 @@ mod with_engine {
         Some(best(|| rules.clone().all(answered)))
     }
 
+    pub fn check_once(book: &[u8]) {
+        black_box(raw::check(black_box(book)));
+    }
+
+    pub fn flows_once(book: &[u8], plan: &[u8]) {
+        black_box(raw::flows(book, black_box(plan), &mut [0; raw::WORDS]));
+    }
+
+    pub fn judge_once(book: &[u8], user: u32, plan: &[u8]) {
+        black_box(raw::judge(book, user, black_box(plan)));
+    }
+
+    pub fn idle_once(book: &[u8], rule: u32) {
+        black_box(raw::idle(black_box(book), rule, &mut [0; raw::BUFFER]));
+    }
+
     /// Does the engine say that this user is the first to need the rule, or that none does?
     pub fn agrees(book: &[u8], rule: u32, needed: Option<u32>) -> bool {
         let answer = raw::idle(book, rule, &mut [0; raw::BUFFER]);
@@ -69,6 +85,14 @@ mod without {
     pub fn idle(_: &[u8], _: Range<u32>) -> Option<Duration> {
         None
     }
+
+    pub fn check_once(_: &[u8]) {}
+
+    pub fn flows_once(_: &[u8], _: &[u8]) {}
+
+    pub fn judge_once(_: &[u8], _: u32, _: &[u8]) {}
+
+    pub fn idle_once(_: &[u8], _: u32) {}
 
     pub fn agrees(_: &[u8], _: u32, _: Option<u32>) -> bool {
         true

@@ -1,10 +1,15 @@
 //! Times each call of the engine and of the second implementation, in one run, on the same bytes,
 //! and counts the steps of the engine's search.
+//!
+//! `bench count` counts the instructions of each call (valgrind is needed), and `bench stack` finds
+//! the smallest stack on which each call of the largest book runs.
 #![forbid(unsafe_code)]
 
 mod calls;
 mod clock;
+mod count;
 mod places;
+mod stack;
 mod steps;
 mod table;
 
@@ -22,9 +27,54 @@ const STEPS: u64 = 1_500_000;
 const CHOICES: u128 = 100_000;
 
 fn main() {
-    times();
-    println!();
-    counts();
+    let words: Vec<String> = std::env::args().skip(1).collect();
+    match words.iter().map(String::as_str).collect::<Vec<_>>()[..] {
+        [] => {
+            times();
+            println!();
+            counts();
+        }
+        ["count"] => instructions(),
+        ["stack"] => stack::print(),
+        ["once", call, book] => count::once(call, &input_named(book)),
+        ["on", bytes, call, book] => stack::run(bytes, call, &input_named(book)),
+        _ => {
+            eprintln!("bench [count | stack]");
+            std::process::exit(2);
+        }
+    }
+}
+
+/// The books for timing, and one that is worst for Judge.
+fn all() -> Vec<(String, Draft, u32)> {
+    let mut all = named::all();
+    all.push(("all choices accepted".to_string(), named::accepting(), 0));
+    all
+}
+
+/// The input of a book by its name.
+fn input_named(name: &str) -> Input {
+    let found = all().into_iter().find(|(book, _, _)| book == name);
+    let (name, draft, rule) = found.expect("a book of that name");
+    Input::new(name, draft, rule..rule + 1)
+}
+
+/// Counts the instructions of each call on each book, beside those of a plain loop over the sums.
+fn instructions() {
+    table::count_head();
+    for (name, _, _) in all() {
+        let hard = name.starts_with("hard");
+        let mut sums = None;
+        for call in &count::CALLS {
+            // A hard book is hard for Idle alone.
+            if hard && call.name != "idle" {
+                continue;
+            }
+            let number = count::instructions(call, &name);
+            sums = sums.or(number.filter(|_| call.name == "sums"));
+            table::count_row(&name, call.name, number, sums);
+        }
+    }
 }
 
 fn times() {
@@ -75,7 +125,10 @@ struct Input {
 
 impl Input {
     fn new(name: String, draft: Draft, rules: Range<u32>) -> Input {
-        let plan = plans::full(&mut Random::new(1), &draft);
+        let plan = match name.as_str() {
+            "all choices accepted" => named::accepting_plan(),
+            _ => plans::full(&mut Random::new(1), &draft),
+        };
         let user = books::draft::leaves(&draft.users)[0];
         Input {
             name,
@@ -107,7 +160,8 @@ fn check(input: &Input) {
     });
 }
 
-/// A plain loop over the same bytes: are all check sums right?
+/// A plain loop over the same bytes: are all check sums right? Not inlined, so that it can be counted.
+#[inline(never)]
 fn check_sums(book: &[u8]) -> bool {
     book.chunks_exact(512).all(|block| {
         let mut sum = 0;

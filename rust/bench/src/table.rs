@@ -88,3 +88,22 @@ fn print_steps(book: &str, [rule, users, firsts, pairs, turns, took, answer]: [S
     let sought = format!("{rule:>4} {users:>5} {firsts:>8} {pairs:>10}");
     println!("{book:<28} {sought} {turns:>10} {took:>10} {answer:>7}");
 }
+
+/// Prints the head of the table of instructions.
+pub fn count_head() {
+    count_print(["book", "call", "instructions", "to sums"].map(str::to_string));
+}
+
+/// Prints the instructions of a call, and their ratio to those of the sums.
+pub fn count_row(book: &str, call: &str, number: Option<u64>, sums: Option<u64>) {
+    let ratio = match (number, sums) {
+        (Some(number), Some(sums)) if sums > 0 => format!("{:.1}", number as f64 / sums as f64),
+        _ => "-".to_string(),
+    };
+    let number = number.map_or("-".to_string(), |number| number.to_string());
+    count_print([book.to_string(), call.to_string(), number, ratio]);
+}
+
+fn count_print([book, call, number, ratio]: [String; 4]) {
+    println!("{book:<30} {call:<15} {number:>14} {ratio:>8}");
+}

@@ -231,3 +231,35 @@ pub fn all() -> Vec<(String, Draft, u32)> {
     all.push(("hard, twenty together".to_string(), draft, rule));
     all
 }
+
+/// A book that is worst for Judge: 32 rules of three references, whose last restriction accepts
+/// every choice of ten operations for each, the others none.
+pub fn accepting() -> Draft {
+    let ten = 0b111_1111_1110;
+    let rule = Rule {
+        user: 0,
+        excluded: vec![],
+        references: (1..=3).map(|leaf| reference(leaf, ACCESS)).collect(),
+        restrictions: (0..8).map(|j| if j < 7 { [2, 4, 2 << j] } else { [ten; 3] }).collect(),
+    };
+    Draft {
+        users: vec![0],
+        data: vec![(0, ten), (0, 0), (0, 0), (0, 0)],
+        columns: vec![1, 2, 3],
+        functions: (1..=10).collect(),
+        rules: vec![rule; 32],
+    }
+}
+
+/// Its plan: every leaf is output under each of the ten operations.
+pub fn accepting_plan() -> Vec<u8> {
+    let mut rows: Vec<[u8; 4]> = (0..3).map(|column| [1, column, 0, 0]).collect();
+    for leaf in 0..3 {
+        for function in 0..10 {
+            let applied = rows.len() as u8;
+            rows.push([2, function, leaf, 255]);
+            rows.push([4, applied, 0, 0]);
+        }
+    }
+    rows.concat()
+}

@@ -2,7 +2,7 @@
 use Prim.Native.Nat.{_-_, _^_, _≤_}
 use lib.Bits.{bitAnd}
 use borrow.Author.Needs.{needs}
-use Rattle.book.specs.Head.{parentIn}
+use Rattle.book.specs.Inner.Reading.{parentIn}
 use Rattle.book.proofs.Members.{has-minus, has-zero}
 use Rattle.book.proofs.Hierarchies.{Named, named-none, named-more, named-end}
 use Rattle.book.proofs.categories.leaves.Statement.{statement}

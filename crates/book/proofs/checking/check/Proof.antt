@@ -1,40 +1,26 @@
--- The three passes joined are the whole answer; a length that holds gives a number of blocks that fits a byte.
--- Assumes nothing.
-use native.Mathlib.Omega.{arith}
+-- The answer by the outcome of the tests, made by the words of the book's own head. Assumes nothing.
 use mathlib.Core.Path.{sym, _∙_}
-use lib.ListN.{length}
-use borrow.Author.Tests.{not-true, not-false}
 use borrow.Author.Needs.{needs}
-use Rattle.book.proofs.Tests.{length-true}
-use Rattle.book.proofs.Answers.{check-short, check-long}
+use Rattle.book.proofs.CheckLaws.{check-accepted, check-refused}
 use Rattle.book.proofs.checking.check.Statement.{statement}
 use Rattle.book.proofs.checking.check.Tie as tie
 
 returns : tie.Need-returns
 returns c =
-    let long = c .before .before .length-holds in
-    let short = sym (long .ensures) ∙ not-true (long .result) (c .before .if1 .taken) in
-    c .refused .ensures ∙ check-short (c .before .before .before .before .args .book .now) short
-
-cast-n : tie.Need-cast-n
-cast-n c =
-    let long = c .before .length-holds in
-    let n = length (c .before .before .before .args .book .now) in
-    let l = length-true n (sym (long .ensures) ∙ not-false (long .result) (c .if1 .left)) in
-    omega arith
+    let k = c .before .before .before in
+    let head = k .before .before .before .head-of in
+    let words = k .before .before .head-words in
+    check-accepted (k .before .before .before .before .before .args .book .now) (c .rule-count .result)
+    (sym (k .test-book .ensures (rw (← (head .ensures)) (words .ensures))) ∙ c .before .enum-told .given .1)
+    (c .rule-count .ensures .0)
 
 returns-2 : tie.Need-returns-2
 returns-2 c =
-    let passes = c .before .before .before .before in
-    let long = passes .before .before .length-holds in
-    let x = passes .pass-over in
-    let y = c .before .before .before .pass-over2 in
-    let z = c .before .before .pass-over3 in
-    let a = c .before .or-else in
-    check-long (passes .before .before .before .before .args .book .now)
-    (x .result) (y .result) (z .result) (a .result) (c .or-else2 .result)
-    (sym (long .ensures) ∙ not-false (long .result) (passes .before .if1 .left))
-    (x .ensures) (y .ensures) (z .ensures) (a .ensures) (c .or-else2 .ensures)
+    let k = c .before .before .before in
+    let head = k .before .before .before .head-of in
+    let words = k .before .before .head-words in
+    check-refused (k .before .before .before .before .before .args .book .now) _
+    (sym (k .test-book .ensures (rw (← (head .ensures)) (words .ensures))) ∙ c .before .outcome .given .1)
 
 pub check-spec : {M : Type 1} → statement M
 check-spec =
@@ -42,11 +28,11 @@ check-spec =
     (tie.spec
     (λ c κs. search needs)
     (λ c κs. search needs)
+    (λ c. search needs)
+    (λ c κs. search needs)
+    (λ c. search needs)
+    (λ c κs. search needs)
+    (λ c. search needs)
+    (λ c. search needs)
     returns
-    cast-n
-    (λ c κs. search needs)
-    (λ c κs. search needs)
-    (λ c κs. search needs)
-    (λ c κs. search needs)
-    (λ c κs. search needs)
     returns-2)

@@ -25,8 +25,9 @@ abbrev μ-loop : tie.MeasureT-loop
 loop-holds : tie.Need-loop-holds Inv-loop μ-loop
 loop-holds c =
     let body = c .part .result .now in
-    let short = part-short (c .before .before .args .block .now) 0 510 body (c .part .ensures) in
-    (search needs, search needs, short, weighted-none body, search needs)
+    let count = c .before .summed in
+    let short = part-short (c .before .before .before .args .block .now) 0 (count .result) body (c .part .ensures) in
+    (search needs, search needs, omega (arith, short, count .ensures .within), weighted-none body, search needs)
 
 cast-sum-2 : tie.Need-cast-sum-2 Inv-loop μ-loop
 cast-sum-2 c = omega (arith, c .shared-slice-known2 .given (c .before .before .loop .i))
@@ -57,10 +58,13 @@ loop-again c =
 
 returns : tie.Need-returns Inv-loop μ-loop
 returns c =
-    let block = c .before .before .before .before .args .block .now in
+    let block = c .before .before .before .before .before .args .block .now in
+    let count = c .before .before .before .summed in
     let part = c .before .before .part in
     let at = c .before .loop in
-    let whole = weighted-whole block (part .result .now) (at .i) (at .sum) (part .ensures) (omega arith) (at .inv .3) in
+    let whole =
+    weighted-whole block (part .result .now) (count .result) (at .i) (at .sum) (count .ensures) (part .ensures)
+    (omega arith) (at .inv .3) in
     (whole, omega arith)
 
 pub check-sum-spec : {M : Type 1} → statement M
@@ -69,6 +73,7 @@ check-sum-spec =
     (tie.spec
     Inv-loop
     μ-loop
+    (λ c κs. search needs)
     (λ c κs. search needs)
     loop-holds
     (λ c. search needs)

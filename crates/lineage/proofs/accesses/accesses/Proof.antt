@@ -6,7 +6,7 @@ use lib.ListN.{getD}
 use Rattle.book.specs.Blocks.{headOf}
 use Rattle.book.proofs.Accepted.{accepted-head}
 use Rattle.lineage.specs.Rows.{rowCount}
-use Rattle.lineage.specs.Table.{Reached}
+use Rattle.lineage.specs.Inner.Table.{Reached}
 use Rattle.lineage.proofs.Accepted.{accepted-plan, plan-sound, plan-given}
 use Rattle.lineage.proofs.Words.{access-words}
 use Rattle.lineage.proofs.accesses.accesses.Statement.{statement}
@@ -14,20 +14,20 @@ use borrow.Author.Needs.{needs}
 use Rattle.lineage.proofs.accesses.accesses.Tie as tie
 
 returns : tie.Need-returns
-returns c n m book plan =
-    let a = c .before .before .before .args in
-    let p = accepted-plan (headOf (a .book .now)) (a .plan .now) m plan .1 in
+returns c words both =
+    let a = c .before .before .before .before .args in
+    let p = accepted-plan (headOf (a .book .now)) (a .plan .now) (both .1) in
     absurd (omega (arith, p .short))
 
 returns-2 : tie.Need-returns-2
-returns-2 c n m book plan =
-    let a = c .before .before .before .before .before .before .before .args in
+returns-2 c words both =
+    let a = c .before .before .before .before .before .before .before .before .args in
     let head = headOf (a .book .now) in
-    let b = accepted-head (a .book .now) n book in
-    let p = accepted-plan head (a .plan .now) m plan .1 in
+    let b = accepted-head (a .book .now) (both .0) in
+    let p = accepted-plan head (a .plan .now) (both .1) in
     let same = c .before .before .before .head-of .ensures in
     let table : Reached head (a .plan .now) (rowCount (a .plan .now)) (c .before .before .reach-table .result) =
-    (rw same at (c .before .before .reach-table .ensures)) (plan-sound head (a .plan .now) b p) (omega (arith, p .short)) in
+    (rw same at (c .before .before .reach-table .ensures)) words (plan-sound head (a .plan .now) b p) (omega (arith, p .short)) in
     access-words head (a .plan .now) (c .gathered .result) (search needs) (λ w h. let f : Fits w64 (getD (c .gathered .result) w 0) = search needs in f .fits)
     (c .gathered .ensures head table (plan-given head (a .plan .now) b p))
 

@@ -4,7 +4,7 @@ use Prim.Native.Nat.{ℕ, _-_, _≤_, _<_}
 use native.Mathlib.Omega.{arith}
 use mathlib.Core.Path.{_≡_}
 use mathlib.Core.List.{List}
-use Rattle.lineage.specs.Table.{Gathered, Given, Reached}
+use Rattle.lineage.specs.Inner.Table.{Gathered, Given, Reached}
 use Rattle.lineage.proofs.Words.{gathered-none}
 use Rattle.lineage.proofs.accesses.gathered.Statement.{statement}
 use Rattle.lineage.proofs.accesses.gathered.Tie as tie

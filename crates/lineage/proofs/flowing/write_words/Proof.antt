@@ -12,7 +12,7 @@ use Rattle.lineage.proofs.flowing.write_words.Tie as tie
 
 abbrev Inv-loop : tie.InvT-loop
 Inv-loop words₀ from w₀ words w =
-    (w ≤ 32) × (length words ≡ length words₀) × (length words₀ ≡ 32 → Filled 32 (λ j. getD from j 0) words w)
+    (w ≤ 32) × (length words ≡ length words₀) × (length words₀ ≡ 32 → Filled 32 (λ j x. x ≡ getD from j 0) words w)
 
 abbrev μ-loop : tie.MeasureT-loop
 μ-loop words₀ from w₀ words w = 32 - w

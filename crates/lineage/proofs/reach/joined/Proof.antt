@@ -1,7 +1,7 @@
 -- One word a turn (`Filled`). Assumes nothing.
 use Prim.Native.Nat.{_-_}
 use native.Mathlib.Omega.{arith}
-use mathlib.Core.Path.{refl}
+use mathlib.Core.Path.{_≡_, refl}
 use lib.Bits.{bitOr}
 use lib.ListN.{getD}
 use Rattle.lineage.proofs.Tables.{Filled, fill-none, fill-more}
@@ -10,7 +10,7 @@ use Rattle.lineage.proofs.reach.joined.Statement.{statement}
 use Rattle.lineage.proofs.reach.joined.Tie as tie
 
 abbrev Inv-loop : tie.InvT-loop
-Inv-loop a b r₀ k₀ r k = Filled 16 (λ j. bitOr (getD a j 0) (getD b j 0)) r k
+Inv-loop a b r₀ k₀ r k = Filled 16 (λ j x. x ≡ bitOr (getD a j 0) (getD b j 0)) r k
 
 abbrev μ-loop : tie.MeasureT-loop
 μ-loop a b r₀ k₀ r k = 16 - k

@@ -1,5 +1,5 @@
 -- The word of the place, and its bit. Assumes nothing.
-use Rattle.search.specs.Table.{meets}
+use Rattle.search.specs.Inner.Table.{meets}
 use borrow.Author.Needs.{needs}
 use Rattle.search.proofs.closing.meets.Statement.{statement}
 use Rattle.search.proofs.closing.meets.Tie as tie

@@ -6,18 +6,18 @@ use Rattle.search.proofs.idling.needs.Statement.{statement}
 use Rattle.search.proofs.idling.needs.Tie as tie
 
 returns : tie.Need-returns
-returns c n accepted l =
-    let total = c .before .before .before .before .before .before .before .before .rule-total in
+returns c held accepted l =
+    let total = c .before .before .before .before .before .before .before .before .rule-count in
     let known = c .before .before .before .before .before .before .before .before .before .shared-slice-known in
     let a = c .before .before .before .before .before .before .before .before .before .before .args in
     let rule = c .before .before .before .before .before .before .rule-at in
     let head = c .before .before .before .head-of in
     let references = c .before .before .before .before .before .reference-count in
-    needs-first (a .book .now) n accepted (λ i. omega (arith, known .given i)) (a .rule) l (total .result) (total .ensures .0)
+    needs-first (a .book .now) accepted (λ i. omega (arith, known .given i)) (a .rule) l (total .result) (total .ensures .0)
     (rule .result .now) (head .result .now) (rule .ensures) (head .ensures) (references .result) (references .ensures .0)
     (c .before .before .before .before .before .before .before .table .result) (c .before .before .obtainable .result)
-    (c .before .covered-by .result) (c .before .before .before .before .before .before .before .table .ensures)
-    (c .before .before .obtainable .ensures) (c .before .covered-by .ensures) (c .first-user .result)
+    (c .before .covered-by .result) (c .before .before .before .before .before .before .before .table .ensures held)
+    (c .before .before .obtainable .ensures) (c .before .covered-by .ensures held) (c .first-user .result)
     (c .first-user .ensures)
 
 pub needs-spec : {M : Type 1} → statement M

@@ -18,7 +18,7 @@ returns-2 c long =
     let x = told .0 .1 .0 in
     let y = told .0 .1 .1 .0 in
     let z = told .0 .1 .1 .1 .0 in
-    let rows = c .before .before .before .before .before .row-total in
+    let rows = c .before .before .before .before .before .row-count in
     let plan = c .before .before .before .shown-plan in
     rw (told .1) (
       shown-answer (a .head .now) (plan .result) (a .buffer .now) u x y z (rows .result) (rows .ensures .0)

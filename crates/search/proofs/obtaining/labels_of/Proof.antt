@@ -7,7 +7,7 @@ use Rattle.book.specs.Sets.{WordOf}
 use Rattle.book.specs.Head.{columnCount}
 use Rattle.lineage.specs.Paths.{labels}
 use Rattle.search.specs.Obtainable.{labelled}
-use Rattle.search.proofs.Building.{gather-none, gather-more, gather-end}
+use Rattle.search.proofs.Obtained.{gather-none, gather-more, gather-end}
 use borrow.Author.Needs.{needs}
 use Rattle.search.proofs.obtaining.labels_of.Statement.{statement}
 use Rattle.search.proofs.obtaining.labels_of.Tie as tie

@@ -1,24 +1,24 @@
--- One word a turn (`Built`): four leaves with sixteen operations each. Assumes nothing.
+-- One word a turn (`Filled`): four leaves with sixteen operations each. Assumes nothing.
 use Prim.Native.Nat.{ℕ, _-_, _*_, _%_, _<_}
 use native.Mathlib.Omega.{arith}
 use mathlib.Core.Bool.{Bool, _&&_}
 use denote.Ref.{now}
 use Rattle.search.specs.Obtainable.{labelled, operated}
 use Rattle.search.proofs.Fours.{four-tests}
-use Rattle.search.proofs.Building.{Built, build-none, build-more}
+use Rattle.lineage.proofs.Tables.{Filled, fill-none, fill-more}
 use Rattle.search.proofs.Obtained.{HadWord, had-holds}
 use borrow.Author.Needs.{needs}
 use Rattle.search.proofs.obtaining.obtainable.Statement.{statement}
 use Rattle.search.proofs.obtaining.obtainable.Tie as tie
 
 abbrev Inv-loop : tie.InvT-loop
-Inv-loop head labels operations had₀ w₀ had w = Built 32 (HadWord head) had w
+Inv-loop head labels operations had₀ w₀ had w = Filled 32 (HadWord head) had w
 
 abbrev μ-loop : tie.MeasureT-loop
 μ-loop head labels operations had₀ w₀ had w = 32 - w
 
 loop-holds : tie.Need-loop-holds Inv-loop μ-loop
-loop-holds c = build-none (search needs)
+loop-holds c = fill-none (search needs)
 
 loop-again : tie.Need-loop-again Inv-loop μ-loop
 loop-again c =
@@ -29,7 +29,7 @@ loop-again c =
     let labels = c .before .before .before .before .before .before .before .before .labels-of .ensures in
     let operations = c .before .before .before .before .before .before .before .operations-of .ensures in
     let small : w < 32 = c .before .before .before .before .before .loop-test .taken in
-    build-more (c .before .before .before .before .before .before .loop .inv) small
+    fill-more (c .before .before .before .before .before .before .loop .inv) small
     (λ i l.
     four-tests test d (c .before .before .before .before .operations-for .result)
     (c .before .before .before .operations-for2 .result) (c .before .before .operations-for3 .result)

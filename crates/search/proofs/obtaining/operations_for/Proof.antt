@@ -12,16 +12,18 @@ use Rattle.search.proofs.obtaining.operations_for.Tie as tie
 
 returns : tie.Need-returns
 returns c labels operations l k small =
+    let a = c .before .before .before .before .args in
     rw
-    (word-member (labelled (now (c .before .before .before .before .args .head))) (c .before .before .before .before .args .labels) (c .before .before .before .before .args .d) true labels (sym (c .before .if1 .taken) ∙ c .before .before .contains .ensures) l)
-    (had-operations (now (c .before .before .before .before .args .head)) (c .before .before .before .before .args .d)
-    (c .support .result) (c .before .before .before .before .args .operations) (c .support .ensures .0) operations k
-    small)
+    (word-member (labelled (now (a .head))) (a .labels) (a .d) true labels
+    (sym (c .before .if1 .taken) ∙ c .before .before .contains .ensures) l)
+    (had-operations (now (a .head)) (a .d) (c .support .result) (a .operations) (c .support .ensures .0) operations k small)
 
 returns-2 : tie.Need-returns-2
 returns-2 c labels operations l k small =
+    let a = c .before .before .before .args in
     rw (
-      word-member (labelled (now (c .before .before .before .args .head))) (c .before .before .before .args .labels) (c .before .before .before .args .d) false labels (sym (c .if1 .left) ∙ c .before .contains .ensures) l,
+      word-member (labelled (now (a .head))) (a .labels) (a .d) false labels
+          (sym (c .if1 .left) ∙ c .before .contains .ensures) l,
       has-zero k,
     )
 

@@ -6,7 +6,7 @@ use Rattle.book.specs.Lists.{any, upTo}
 use Rattle.book.specs.Sets.{WordOf}
 use Rattle.book.specs.Head.{functionCount, operation}
 use Rattle.book.proofs.Lists.{eqb-sym}
-use Rattle.search.proofs.Building.{gather-none, gather-more, gather-end}
+use Rattle.search.proofs.Obtained.{gather-none, gather-more, gather-end}
 use borrow.Author.Needs.{needs}
 use Rattle.search.proofs.obtaining.operations_of.Statement.{statement}
 use Rattle.search.proofs.obtaining.operations_of.Tie as tie

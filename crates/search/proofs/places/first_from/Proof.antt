@@ -22,8 +22,8 @@ returns-2 : tie.Need-returns-2 Inv-loop μ-loop
 returns-2 c h =
     let a = c .before .before .before .args in
     let f : Fits w64 (getD (a .t1) (a .p / 64) 0) = search needs in
-    first-here (a .t1) (a .p) (c .lowest .result) (omega arith) (f .fits) (c .lowest .ensures .1 (c .before .if2 .taken) .1)
-    (c .lowest .ensures .2)
+    first-here (a .t1) (a .p) (c .lowest .result) (omega arith) (f .fits)
+    (c .lowest .ensures .member (c .before .if2 .taken) .1) (c .lowest .ensures .skipped)
 
 loop-holds : tie.Need-loop-holds Inv-loop μ-loop
 loop-holds c =
@@ -33,9 +33,9 @@ loop-holds c =
 returns-3 : tie.Need-returns-3 Inv-loop μ-loop
 returns-3 c h =
     let a = c .before .before .before .before .before .before .args in
-    let found = c .lowest2 .ensures .1 (c .before .if3 .taken) in
+    let found = c .lowest2 .ensures .member (c .before .if3 .taken) in
     first-later (a .t1) (a .p) (c .before .before .before .loop .w) (c .lowest2 .result) (omega arith) (omega arith)
-    (c .before .before .before .loop .inv .2) (found .0) (found .1) (c .lowest2 .ensures .2)
+    (c .before .before .before .loop .inv .2) (found .0) (found .1) (c .lowest2 .ensures .skipped)
 
 loop-again : tie.Need-loop-again Inv-loop μ-loop
 loop-again c =

@@ -11,7 +11,11 @@ cast-result c = omega (arith, trailing-le 64 (c .args .word))
 returns : tie.Need-returns
 returns c =
     let w = c .args .word in
-    (trailing-le 64 w, trailing-member 64 w (c .fits .word .fits), trailing-skips 64 w)
+    record {
+      bound = trailing-le 64 w;
+      member = trailing-member 64 w (c .fits .word .fits);
+      skipped = trailing-skips 64 w;
+    }
 
 pub lowest-spec : {M : Type 1} → statement M
 lowest-spec = tie.close (tie.spec cast-result returns)

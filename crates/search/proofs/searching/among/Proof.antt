@@ -2,9 +2,10 @@
 use Prim.Native.Nat.{_-_}
 use native.Mathlib.Omega.{arith}
 use Rattle.book.specs.Sets.{has}
-use Rattle.search.specs.Search.{solvesIn, solvesFirst, Searched}
+use Rattle.search.specs.Inner.Closing.{Within}
+use Rattle.search.specs.Inner.Search.{solvesIn, solvesFirst, Searched}
 use Rattle.search.proofs.Solutions.{Seeking, seeking-start, seeking-more, seeking-end}
-use Rattle.search.proofs.Solutions.{Within, grown-within, found-solved, nothing-unsolved}
+use Rattle.search.proofs.Solutions.{grown-within, found-solved, nothing-unsolved}
 use Rattle.search.proofs.SearchSteps.{in-inside, in-lessen, among-none, among-found}
 use borrow.Author.Needs.{needs}
 use Rattle.search.proofs.searching.among.Statement.{statement}
@@ -22,9 +23,8 @@ loop-holds : tie.Need-loop-holds Inv-loop μ-loop
 loop-holds c begun =
     let a = c .before .before .before .args in
     seeking-start (solvesIn (a .t .now) (a .r) (a .n) (a .firsts) (a .seconds) (a .before .places)) (λ b z w. b)
-    (a .firsts)
-    (in-inside (a .t .now) (a .r) (a .n) (a .firsts) (a .seconds) (a .before .places)) (a .rules) (a .before .rules)
-    (c .first-from .result)
+    (a .firsts) (a .rules) (a .before .rules) (c .first-from .result)
+    (in-inside (a .t .now) (a .r) (a .n) (a .firsts) (a .seconds) (a .before .places) (has (a .before .rules)))
     (c .first-from .ensures (omega arith))
 
 returns : tie.Need-returns Inv-loop μ-loop
@@ -58,10 +58,8 @@ loop-again c begun =
     nothing-unsolved (solvesFirst (a .t .now) (a .r) (a .n) (loop .a) (a .seconds) (a .before .places)) (a .rules)
     (loop .seen) (sought .result) (told .0 .0) (told .0 .1 .0) (told .1) (sought .ensures inside) in
     seeking-more (solvesIn (a .t .now) (a .r) (a .n) (a .firsts) (a .seconds) (a .before .places)) (λ b z w. b)
-    (a .firsts)
-    (in-inside (a .t .now) (a .r) (a .n) (a .firsts) (a .seconds) (a .before .places))
-    (in-lessen (a .t .now) (a .r) (a .n) (a .firsts) (a .seconds) (a .before .places)) (a .rules) (a .before .rules)
-    (loop .seen)
+    (in-lessen (a .t .now) (a .r) (a .n) (a .firsts) (a .seconds) (a .before .places)) (a .firsts) (a .rules)
+    (a .before .rules) (loop .seen)
     (told .0 .0) (loop .a) (c .first-from2 .result) (c .first-from2 .ensures (omega arith)) (none .more) (none .only)
     (among-none (a .t .now) (a .r) (a .n) (a .firsts) (a .seconds) (a .before .places) (loop .a) (has (a .rules))
     (has (loop .seen)) (has (told .0 .0)) none)
@@ -73,9 +71,7 @@ returns-2 c begun =
     let a = c .before .before .before .before .before .args in
     let loop = c .before .loop in
     seeking-end (solvesIn (a .t .now) (a .r) (a .n) (a .firsts) (a .seconds) (a .before .places)) (λ b z w. b)
-    (a .firsts)
-    (in-inside (a .t .now) (a .r) (a .n) (a .firsts) (a .seconds) (a .before .places)) (a .rules) (a .before .rules)
-    (loop .seen) (loop .a)
+    (a .firsts) (a .rules) (a .before .rules) (loop .seen) (loop .a)
     (search needs) (c .loop-test .left) (loop .inv begun)
 
 pub among-spec : {M : Type 1} → statement M

@@ -2,7 +2,7 @@
 use mathlib.Core.Path.{_≡_}
 use lib.ListN.{length}
 use Rattle.book.specs.Sets.{has}
-use Rattle.search.specs.Search.{solvesFirst, solvesBeside}
+use Rattle.search.specs.Inner.Search.{solvesFirst, solvesBeside}
 use Rattle.search.specs.declared.sifting.Remaining.{Remaining}
 use Rattle.search.proofs.Solutions.{grown-join, grown-within, searched-through}
 use Rattle.search.proofs.SearchSteps.{first-back, first-there}

@@ -1,6 +1,6 @@
 -- The candidates less what breaks a rule by itself, and the search among them. Assumes nothing.
 use Rattle.book.proofs.Members.{has-zero}
-use Rattle.search.specs.Search.{solves, solvesIn}
+use Rattle.search.specs.Inner.Search.{solves, solvesIn}
 use Rattle.search.proofs.Sieves.{both}
 use Rattle.search.proofs.Solutions.{searched-through}
 use Rattle.search.proofs.Candidates.{solves-back, solves-there, solves-within}

@@ -7,25 +7,12 @@ use Rattle.search.proofs.searching.thirds.Tie as tie
 
 returns : tie.Need-returns
 returns c =
-    let a = c .before .before .before .before .before .before .before .before .args in
-    let accepted = c .before .before .before .accepted-beside in
-    let third = c .before .before .before .before .reference-at3 in
-    let second = c .before .before .before .before .before .reference-at2 in
-    let first = c .before .before .before .before .before .before .reference-at in
-    let less = c .before .less-operations in
+    let a = c .before .before .before .before .before .args in
+    let accepted = c .before .before .before .accepted-third in
+    let rest = c .before .without-operations in
     thirds-made (a .t .now) (a .r) (a .n) (a .rules) (a .a) (a .y) (a .before)
-    (record { places = less .result; rules = a .before .rules; last = a .before .last }) (c .sift .result)
-    (accepted .result) (rw (first .ensures .0, second .ensures .0, third .ensures .0) at (accepted .ensures))
-    (less .ensures) refl (c .sift .ensures)
+    (record { places = rest .result; rules = a .before .rules; last = a .before .last }) (c .sift .result)
+    (accepted .result) (accepted .ensures) (rest .ensures) refl (c .sift .ensures)
 
 pub thirds-spec : {M : Type 1} → statement M
-thirds-spec =
-    tie.close
-    (tie.spec
-    (λ c κs. search needs)
-    (λ c κs. search needs)
-    (λ c κs. search needs)
-    (λ c κs. search needs)
-    (λ c κs. search needs)
-    (λ c κs. search needs)
-    returns)
+thirds-spec = tie.close (tie.spec (λ c κs. search needs) (λ c κs. search needs) (λ c κs. search needs) returns)

@@ -11,13 +11,15 @@ use Rattle.search.proofs.sifting.again.Tie as tie
 
 returns : tie.Need-returns
 returns c =
-    let a = c .before .before .before .before .args in
-    let test = c .before .before .contains in
-    let small = ltb-true _ _ (and-left (ltb (a .before .last) 32) (test .result) (c .before .if1 .taken)) in
+    let a = c .before .before .before .before .before .args in
+    let test = c .before .before .before .contains in
+    let taken = c .before .before .if1 .taken in
+    let small = ltb-true _ _ (and-left (ltb (a .before .last) 32) (test .result) taken) in
     sifted-turn (a .t .now) (a .rules) (a .b) (a .c) (λ q. false) (λ q. false) (a .before .last) (a .before)
     (a .before) (c .turn .result) small
-    (sym (test .ensures) ∙ and-right (ltb (a .before .last) 32) (test .result) (c .before .if1 .taken)) (λ j d n. d)
-    (sifted-start (a .t .now) (a .rules) (a .b) (a .c) (a .before)) (c .turn .ensures small)
+    (sym (test .ensures) ∙ and-right (ltb (a .before .last) 32) (test .result) taken) (λ j d n. d)
+    (sifted-start (a .t .now) (a .rules) (a .b) (a .c) (a .before))
+    (c .turn .ensures (a .b) (a .c) small (c .before .closing-masks .ensures))
 
 returns-2 : tie.Need-returns-2
 returns-2 c =
@@ -25,4 +27,7 @@ returns-2 c =
     sifted-start (a .t .now) (a .rules) (a .b) (a .c) (a .before)
 
 pub again-spec : {M : Type 1} → statement M
-again-spec = tie.close (tie.spec (λ c. search needs) (λ c κs. search needs) (λ c κs. search needs) returns returns-2)
+again-spec =
+    tie.close
+    (tie.spec (λ c. search needs) (λ c κs. search needs) (λ c κs. search needs) (λ c κs. search needs) returns
+    returns-2)

@@ -7,8 +7,8 @@ use Rattle.search.proofs.sifting.next_after.Tie as tie
 returns : tie.Need-returns
 returns c =
     let a = c .before .before .before .args in
-    let low = c .lowest .ensures .1 (c .before .if1 .taken) in (
-      c .lowest .ensures .0,
+    let low = c .lowest .ensures .member (c .before .if1 .taken) in (
+      c .lowest .ensures .bound,
       λ some. (low .0, later-member (a .rules) (c .before .before .below .result) (c .lowest .result) (low .1)),
     )
 

@@ -1,26 +1,30 @@
--- One rule a turn (`Built`). Assumes nothing.
+-- One rule a turn (`Filled`). Assumes nothing.
 use Prim.Native.Nat.{_-_}
 use native.Mathlib.Omega.{arith}
-use Rattle.search.proofs.Building.{Built, build-none, build-more}
-use Rattle.search.proofs.RuleWords.{CoveredWord}
+use Rattle.book.specs.Blocks.{headOf}
+use Rattle.book.specs.Inner.Words.{HeadWords}
+use Rattle.lineage.proofs.Tables.{Filled, fill-none, fill-more}
+use Rattle.search.specs.Inner.Table.{CoveredWord}
 use borrow.Author.Needs.{needs}
 use Rattle.search.proofs.tables.covered_by.Statement.{statement}
 use Rattle.search.proofs.tables.covered_by.Tie as tie
 
 abbrev Inv-loop : tie.InvT-loop
-Inv-loop book n covered₀ r₀ covered r = Built 32 (CoveredWord book n) covered r
+Inv-loop book head n covered₀ r₀ covered r =
+    HeadWords (headOf book) head → Filled 32 (CoveredWord book n) covered r
 
 abbrev μ-loop : tie.MeasureT-loop
-μ-loop book n covered₀ r₀ covered r = 32 - r
+μ-loop book head n covered₀ r₀ covered r = 32 - r
 
 loop-holds : tie.Need-loop-holds Inv-loop μ-loop
-loop-holds c = build-none (search needs)
+loop-holds c held = fill-none (search needs)
 
 loop-again : tie.Need-loop-again Inv-loop μ-loop
-loop-again c = build-more (c .before .before .loop .inv) (c .before .loop-test .taken) (c .covered-at .ensures)
+loop-again c held =
+    fill-more (c .before .before .loop .inv held) (c .before .loop-test .taken) (c .covered-at .ensures held)
 
 returns : tie.Need-returns Inv-loop μ-loop
-returns c r u l m = c .before .loop .inv .at r (omega arith) u m
+returns c held r l = c .before .loop .inv held .at r (omega arith)
 
 pub covered-by-spec : {M : Type 1} → statement M
 covered-by-spec =

@@ -9,7 +9,7 @@ use Rattle.search.proofs.tables.fitting_word.Statement.{statement}
 use Rattle.search.proofs.tables.fitting_word.Tie as tie
 
 returns : tie.Need-returns
-returns c i l small =
+returns c i l =
     let leaves = c .before .before .before .before .before .before .before .args .leaves in
     let d = c .before .before .before .before .before .before .before .args .w % 16 * 4 in
     rw (← (c .before .before .before .before .before .before .action-fits .ensures), c .before .before .before .before .before .if1 .taken)
@@ -23,7 +23,7 @@ returns c i l small =
     (c .four .ensures i l))
 
 returns-2 : tie.Need-returns-2
-returns-2 c i l small = rw (← (c .before .action-fits .ensures), c .if1 .left, has-zero i)
+returns-2 c i l = rw (← (c .before .action-fits .ensures), c .if1 .left, has-zero i)
 
 pub fitting-word-spec : {M : Type 1} → statement M
 fitting-word-spec =

@@ -4,7 +4,7 @@ use native.Mathlib.Omega.{arith}
 use mathlib.Core.Bool.{_&&_, not}
 use lib.Dec.{eqb}
 use Rattle.verdicts.proofs.Marks.{Marks, marks-none, marks-more}
-use Rattle.search.specs.Search.{othersFor}
+use Rattle.search.specs.Inner.Search.{othersFor}
 use Rattle.search.proofs.UserLaws.{other-test, others-end}
 use borrow.Author.Needs.{needs}
 use Rattle.search.proofs.users.others.Statement.{statement}

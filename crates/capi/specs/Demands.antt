@@ -1,0 +1,41 @@
+-- What the numbers of pspec_judge and pspec_idle say, for whoever calls the C library: demands 2 and 3 over the number
+-- itself. A number from 2^32 on is a refusal; below it, it is the value. Assumes nothing.
+use Prim.Native.Nat.{ℕ, _/_, _%_, _≤_, _<_}
+use mathlib.Core.Path.{_≡_}
+use mathlib.Core.List.{List}
+use Rattle.book.specs.Blocks.{Book, headOf}
+use Rattle.lineage.specs.Rows.{Plan}
+use Rattle.verdicts.specs.Accesses.{accessesOf}
+use Rattle.verdicts.specs.Semantics.{SatisfiesPolicy}
+use Rattle.verdicts.specs.Demand.{JudgeAccepted, Demand2}
+use Rattle.search.specs.Demand.{IdleAccepted, NobodyAlone, ShownIn}
+
+-- the least number that is a refusal
+abbrev pub refusals : ℕ
+refusals = 4294967296
+
+-- pspec_judge: the number is the mask
+pub record JudgeSays (book : Book) (user : ℕ) (plan : Plan) (answer : ℕ) : Type 0 where
+  -- nothing is refused exactly when book, user and plan are accepted
+  pub accepted : answer < refusals → JudgeAccepted book user plan
+  pub accepts : JudgeAccepted book user plan → answer < refusals
+  -- 0 opens the gate: exactly for an accepted query that satisfies the policy
+  pub zero-satisfies : answer ≡ 0 → SatisfiesPolicy book user (accessesOf (headOf book) plan)
+  pub satisfies-zero :
+      JudgeAccepted book user plan → SatisfiesPolicy book user (accessesOf (headOf book) plan) → answer ≡ 0
+  -- bit r tells whether the query satisfies rule r
+  pub demand : answer < refusals → Demand2 book user (accessesOf (headOf book) plan) answer
+
+-- pspec_idle: the number is 0, or user × 256 + rows
+pub record IdleSays (book : Book) (r : ℕ) (before after : List ℕ) (answer : ℕ) : Type 0 where
+  -- nothing is refused exactly when the book is accepted, the rule is there and the buffer is long enough
+  pub accepted : answer < refusals → IdleAccepted book r before
+  pub accepts : IdleAccepted book r before → answer < refusals
+  -- 0: "no user and accepted plan of 0 to 64 rows break r alone"
+  pub zero-nobody : answer ≡ 0 → NobodyAlone book r
+  pub nobody-zero : IdleAccepted book r before → NobodyAlone book r → answer ≡ 0
+  -- any other value: the first user and plan that do, the plan in the buffer
+  pub shows : 0 < answer → answer < refusals → ShownIn book r before after (answer / 256) (answer % 256)
+  -- otherwise the buffer is as it was
+  pub zero-keeps : answer ≡ 0 → after ≡ before
+  pub refused-keeps : refusals ≤ answer → after ≡ before

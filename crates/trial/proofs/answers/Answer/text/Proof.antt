@@ -1,0 +1,29 @@
+-- The loop does not pass the slice's end. Assumes nothing.
+use borrow.Author.Needs.{needs}
+use Prim.Native.Nat.{_≤_, _-_}
+use lib.ListN.{length}
+use Rattle.trial.proofs.answers.Answer.text.Statement.{statement}
+use Rattle.trial.proofs.answers.Answer.text.Tie as tie
+use Rattle.trial.proofs.answers.Answer.text.Reads as reads
+use Rattle.trial.proofs.answers.Answer.text.Lts as lts
+use Rattle.trial.proofs.answers.Answer.byte.Reads as byte-reads
+
+abbrev Inv-loop : tie.InvT-loop
+Inv-loop text answer₀ i₀ i-end answer i = i-end ≤ length text
+
+abbrev μ-loop : tie.MeasureT-loop
+μ-loop text answer₀ i₀ i-end answer i = i-end - i
+
+pub text-spec : {M : Type 1} → statement M
+text-spec =
+    tie.close
+    (tie.spec
+    Inv-loop
+    μ-loop
+    (λ c. search needs)
+    (λ c. search needs)
+    (λ c κs. search needs)
+    (λ c. search needs)
+    (λ c. search needs)
+    (λ c. search needs)
+    (λ c. search needs))

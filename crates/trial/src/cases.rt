@@ -1,0 +1,167 @@
+// A file of cases, a line a case. A line that starts with # is a comment; one that starts with +
+// has edits for every case below it, up to the next such line. What stands before = in a case is a
+// label and what is tried, with bars between the parts; what stands after it is the answer expected.
+use crate::answers::Answer;
+use crate::answers::malformed;
+use crate::answers::say;
+use crate::books::build;
+use crate::checking;
+use crate::flowing;
+use crate::idling;
+use crate::judging;
+use crate::numbers;
+use crate::numbers::Numbers;
+use crate::plans::plan_of;
+use crate::reading;
+use crate::sealing;
+use crate::text::after;
+use crate::text::before;
+use crate::text::piece;
+use crate::text::starts;
+use book::bytes::byte_at;
+use book::bytes::part;
+use std::num::wrapping_add_u64;
+
+pub enum Call {
+    Check,
+    Seal,
+    Flows,
+    Judge,
+    Idle,
+    Readers,
+}
+
+struct Tally {
+    cases: u64,
+    right: u64,
+    // Where the line of common edits starts.
+    common: usize,
+}
+
+// Whether a case of the call may have so many numbers.
+fn may_ask(call: Call, asked: Numbers) -> bool {
+    match call {
+        Call::Check => asked.within(0, 1),
+        Call::Seal => asked.within(1, 1),
+        Call::Flows => asked.within(0, 2),
+        Call::Judge => asked.within(1, 3),
+        Call::Idle => asked.within(1, 4),
+        Call::Readers => asked.within(1, 4),
+    }
+}
+
+fn answered(call: Call, asked: Numbers, book: &[u8], plan: &[u8]) -> Answer {
+    match call {
+        Call::Check => checking::answered(asked, book),
+        Call::Flows => flowing::answered(asked, book, plan),
+        Call::Judge => judging::answered(asked, book, plan),
+        Call::Idle => idling::answered(asked, book),
+        _ => reading::answered(asked, book),
+    }
+}
+
+fn built(call: Call, asked: Numbers, rows: &[u8], common: &[u8], edits: &[u8]) -> Answer {
+    let book = build(common, edits);
+    let plan = plan_of(rows);
+    let blocks = book.bytes;
+    let bytes = plan.bytes;
+    answered(call, asked, &blocks, part(&bytes, 0, plan.length)).if_sound(book.sound & plan.sound)
+}
+
+// The rows of a plan stand before the edits.
+fn tried(call: Call, common: &[u8], parts: &[u8]) -> Answer {
+    let asked = numbers::read(before(parts, b'|'));
+    let texts = after(parts, b'|');
+    if !may_ask(call, asked) {
+        return malformed();
+    }
+    match call {
+        Call::Seal => sealing::answered(asked, texts),
+        Call::Flows => built(call, asked, before(texts, b'|'), common, after(texts, b'|')),
+        Call::Judge => built(call, asked, before(texts, b'|'), common, after(texts, b'|')),
+        _ => built(call, asked, b"", common, texts),
+    }
+}
+
+fn report(label: &[u8], expected: &[u8], answer: Answer) {
+    say(label).text(b"- expected")
+        .text(expected)
+        .text(b", answered")
+        .print();
+    answer.text(b"\n").print();
+}
+
+// Whether the case answers what it expects.
+fn holds(call: Call, common: &[u8], line: &[u8]) -> bool {
+    let case = before(line, b'=');
+    let expected = after(line, b'=');
+    let answer = tried(call, common, after(case, b'|'));
+    if answer.is(expected) {
+        return true;
+    }
+    report(before(case, b'|'), expected, answer);
+    false
+}
+
+fn counted(tally: Tally, right: bool) -> Tally {
+    Tally {
+        cases: wrapping_add_u64(tally.cases, 1),
+        right: wrapping_add_u64(tally.right, right as u64),
+        common: tally.common,
+    }
+}
+
+fn line_at(tally: Tally, call: Call, file: &[u8], i: usize) -> Tally {
+    if !starts(file, i, b'\n') {
+        return tally;
+    }
+    let line = piece(file, i, b'\n');
+    let mark = byte_at(line, 0) as u8;
+    if (line.len() == 0) | (mark == b'#') {
+        return tally;
+    }
+    if mark == b'+' {
+        return Tally {
+            cases: tally.cases,
+            right: tally.right,
+            common: i,
+        };
+    }
+    let common = after(piece(file, tally.common, b'\n'), b'+');
+    counted(tally, holds(call, common, line))
+}
+
+fn tally_of(call: Call, file: &[u8]) -> Tally {
+    let mut tally = Tally {
+        cases: 0,
+        right: 0,
+        common: file.len(),
+    };
+    for i in 0..file.len() {
+        let next = line_at(tally, call, file, i);
+        tally = next;
+    }
+    tally
+}
+
+fn print_tally(name: &[u8], tally: Tally) {
+    say(name).text(b": ")
+        .number(tally.cases)
+        .text(b" cases, ")
+        .number(tally.right)
+        .text(b" as expected\n")
+        .print();
+}
+
+// A file that fills the room may go on.
+pub fn try_file(call: Call, name: &[u8]) {
+    let mut room = io::large_buffer();
+    let file = os::open_read(name);
+    let n = io::read_full(file, &mut room);
+    libc::close(file);
+    if 65535 < n {
+        say(name).text(b": too long\n").print();
+        return;
+    }
+    print_tally(name, tally_of(call, &room[..n]));
+}

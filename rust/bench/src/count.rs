@@ -1,0 +1,60 @@
+//! Counts the instructions of one call with callgrind, which do not depend on what else the machine
+//! is doing. The program runs itself under valgrind, one call each time.
+
+use crate::{calls, check_sums, Input};
+use std::hint::black_box;
+use std::process::Command;
+
+/// A call to count: its name, the symbol that it is counted in, and how many rows its plan has.
+pub struct Counted {
+    pub name: &'static str,
+    symbol: &'static str,
+    rows: usize,
+}
+
+/// The plain loop over the sums comes first: the others are given as its multiples.
+pub const CALLS: [Counted; 6] = [
+    counted("sums", "*check_sums*", 0),
+    counted("check", "pspec_check", 0),
+    counted("flows, 64 rows", "pspec_flows", 64),
+    counted("judge, 8 rows", "pspec_judge", 8),
+    counted("judge, 64 rows", "pspec_judge", 64),
+    counted("idle", "pspec_idle", 0),
+];
+
+const fn counted(name: &'static str, symbol: &'static str, rows: usize) -> Counted {
+    Counted { name, symbol, rows }
+}
+
+/// The instructions of one call on a book, or nothing where valgrind is missing or fails.
+pub fn instructions(call: &Counted, book: &str) -> Option<u64> {
+    let this = std::env::current_exe().ok()?;
+    let run = Command::new("valgrind")
+        .arg("--tool=callgrind")
+        .arg("--callgrind-out-file=/dev/null")
+        .arg(format!("--toggle-collect={}", call.symbol))
+        .arg(this)
+        .args(["once", call.name, book])
+        .output()
+        .ok()?;
+    let said = String::from_utf8_lossy(&run.stderr);
+    let line = said.lines().find(|line| line.contains("Collected :"))?;
+    line.rsplit(':').next()?.trim().parse().ok()
+}
+
+/// Makes the one call that is counted.
+pub fn once(name: &str, input: &Input) {
+    let Some(call) = CALLS.iter().find(|call| call.name == name) else {
+        return;
+    };
+    let plan = &input.plan[..input.plan.len().min(4 * call.rows)];
+    match call.symbol {
+        "pspec_check" => calls::check_once(&input.book),
+        "pspec_flows" => calls::flows_once(&input.book, plan),
+        "pspec_judge" => calls::judge_once(&input.book, input.user, plan),
+        "pspec_idle" => calls::idle_once(&input.book, input.rules.start),
+        _ => {
+            black_box(check_sums(black_box(&input.book)));
+        }
+    }
+}
