@@ -19,15 +19,29 @@ cd "$root"
 . ./kit.sh
 needs rt
 same_kit
+folder=$(mktemp -d)
+ticking=
+trap '[ -z "$ticking" ] || kill "$ticking"; rm -r "$folder"' EXIT
+
+# On a terminal, the seconds so far, in one place.
+tick() {
+    local seconds=0
+    while sleep 1; do
+        seconds=$((seconds + 1))
+        printf '\r%s s \r' "$seconds" >&2
+    done
+}
+
 mkdir -p target/log
 echo "proving and building the report: some minutes the first time" >&2
+if [ -t 2 ]; then tick & ticking=$!; fi
 if ! rt check policyreport 2>&1 | tee target/log/report | grep --line-buffered '^rt: ' >&2; then
     echo "not proved: target/log/report says why" >&2
     exit 1
 fi
+[ -z "$ticking" ] || kill "$ticking"
+ticking=
 
 # the program reads small.book in its folder
-folder=$(mktemp -d)
-trap 'rm -r "$folder"' EXIT
 cp -- "$book" "$folder/small.book"
 cd "$folder" && "$root/target/bin/policyreport"

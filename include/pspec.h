@@ -46,7 +46,7 @@ extern "C" {
 /*
  * Refusal numbers. Where several apply, the first in this order is given: 1; 2 over all blocks; 3 over
  * all blocks; 4 to 9 block by block; then the call's own from 20 on. The place is the block for 2 to 9,
- * the row for 22, and 0 for all others.
+ * the row for 22, and 0 for all others. docs/FORMAT.md says what causes each and what to do.
  */
 enum pspec_refusal {
     PSPEC_NOT_REFUSED = 0,

@@ -1,6 +1,6 @@
 //! The words of the command line.
 
-use crate::text::shown;
+use crate::phrases::shown;
 
 /// A command: what stands after its name, and what it does.
 #[derive(Debug, PartialEq, Eq)]
@@ -218,10 +218,10 @@ impl Arguments {
     }
 }
 
-/// Reads the words after the program's name; else what is wrong with them.
+/// Reads the words after the program's name; else what is wrong with them, and where help is.
 pub fn read(words: &[String]) -> Result<Asked, String> {
     let Some((first, rest)) = words.split_first() else {
-        return Err("found no command".to_string());
+        return Err(format!("found no command\n\n{}", usage()));
     };
     match (first.as_str(), rest) {
         ("help" | "--help" | "-h", []) => return Ok(Asked::Help(None)),
@@ -235,17 +235,17 @@ pub fn read(words: &[String]) -> Result<Asked, String> {
     }
     let arguments = Arguments::of(command, rest).filter(Arguments::complete);
     arguments.map(Asked::Command).ok_or_else(|| {
-        let found = shown(&words.join(" "));
-        format!("found '{found}'; expected {}", command.usage())
+        let (found, name) = (shown(&words.join(" ")), command.name);
+        let usage = command.usage();
+        format!("found '{found}'; expected {usage}\n'pspec-book {name} --help' says more")
     })
 }
 
 fn known(name: &str) -> Result<&'static Command, String> {
     let command = COMMANDS.iter().find(|command| command.name == name);
     command.ok_or_else(|| {
-        let names: Vec<&str> = COMMANDS.iter().map(|command| command.name).collect();
         let found = shown(name);
-        format!("found '{found}'; expected {} or help", names.join(", "))
+        format!("found '{found}'; expected a command\n\n{}", usage())
     })
 }
 

@@ -1,8 +1,8 @@
 //! The book of a policy.
 
 use crate::explain;
+use crate::mistake::Mistakes;
 use crate::policy::Policy;
-use crate::text::Mistakes;
 use pspec::Book;
 
 /// The sealed book, if the engine accepts it; else why not, in the policy's words.

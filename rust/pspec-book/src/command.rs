@@ -6,10 +6,11 @@ use crate::files::{self, open, read_text};
 use crate::help::HELP;
 use crate::judge::{self, NotJudged};
 use crate::lineage::{self, Traced};
+use crate::mistake::Mistakes;
 use crate::named::NamedBook;
+use crate::phrases::{counted, shown};
 use crate::plan::{self, PlanText};
 use crate::report::{self, RuleReport};
-use crate::text::{counted, shown, Mistakes};
 use crate::{build, explain, html, labels, policy, show};
 use std::io::{self, Write};
 

@@ -1,6 +1,6 @@
 //! Why a rule is idle, by asking the engine about books with rules left out.
 
-use crate::text::counted_list;
+use crate::phrases::counted_list;
 use pspec::{Book, Refusal, BLOCK};
 
 /// Why a rule is idle.
@@ -14,6 +14,14 @@ pub enum WhyIdle {
 }
 
 impl WhyIdle {
+    /// The rules that cover it; none where nothing can break it.
+    pub fn rules(&self) -> &[usize] {
+        match self {
+            WhyIdle::Unbreakable => &[],
+            WhyIdle::Covered(rules) => rules,
+        }
+    }
+
     /// In words, after 'idle'.
     pub fn text(&self) -> String {
         match self {

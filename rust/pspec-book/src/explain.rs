@@ -7,12 +7,13 @@
 
 use crate::contents::{bits, Contents, Reference, Rule};
 use crate::hierarchy::{children, leaves, under};
+use crate::mistake::{mistake, Mistake, Mistakes};
 use crate::named::NamedBook;
 use crate::names::Names;
+use crate::phrases::shown;
 use crate::plan::PlanText;
 use crate::policy::Policy;
 use crate::rule::operations;
-use crate::text::{mistake, shown, Mistake, Mistakes};
 use pspec::Refusal;
 
 /// Why the engine refuses the book of a policy: it is asked about each column and each rule alone,

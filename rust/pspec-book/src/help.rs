@@ -44,6 +44,7 @@ arguments, a file that can't be read or written, or names of another book; 3 for
 when some rule is idle. With --json the answer is one line of JSON; what is refused is said in words
 on the other output, and the status is the same.
 
-Every answer about a book comes from the proved engine: the book check, Judge and Idle. This program
-stands outside the proof: that a text means the blocks made of it, and the words around an answer,
-are tried by tests only.";
+Every answer about a book comes from the proved engine: the book check, Flows, Judge and Idle. Why a
+rule is idle is found by asking it about books with rules left out. This program stands outside the
+proof: that a text means the blocks made of it, which accesses break a rule and from which lines they
+come, and the words around an answer are tried by tests only.";

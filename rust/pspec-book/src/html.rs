@@ -6,9 +6,9 @@ use crate::covering::WhyIdle;
 use crate::drawing::{drawing, escaped, Label};
 use crate::hierarchy::is_leaf;
 use crate::named::NamedBook;
+use crate::phrases::{counted, joined};
 use crate::report::{Found, RuleReport};
 use crate::rule::operations;
-use crate::text::counted;
 use crate::words;
 use pspec::Access;
 
@@ -87,7 +87,7 @@ fn why_idle(why: &WhyIdle) -> String {
                 1 => "rule",
                 _ => "one of the rules",
             };
-            let rules = words::joined(&numbers, "and");
+            let rules = joined(&numbers, "and");
             format!("Idle: whoever breaks it breaks {one} {rules} too.")
         }
     }

@@ -5,6 +5,8 @@ use std::fmt;
 /// A value.
 #[derive(Clone, Debug, PartialEq, Eq)]
 pub enum Json {
+    /// Nothing.
+    Null,
     /// True or false.
     Bool(bool),
     /// A number.
@@ -37,6 +39,7 @@ impl Json {
 impl fmt::Display for Json {
     fn fmt(&self, f: &mut fmt::Formatter<'_>) -> fmt::Result {
         match self {
+            Json::Null => write!(f, "null"),
             Json::Bool(value) => write!(f, "{value}"),
             Json::Number(value) => write!(f, "{value}"),
             Json::Text(text) => write!(f, "{}", quoted(text)),
@@ -75,10 +78,10 @@ mod tests {
             ("b", Json::texts(["x\"y\\z\n", "é"])),
             (
                 "c",
-                Json::List(vec![Json::Bool(true), Json::Object(vec![])]),
+                Json::List(vec![Json::Bool(true), Json::Null, Json::Object(vec![])]),
             ),
         ]);
-        let text = r#"{"a":[1,20],"b":["x\"y\\z\u000a","é"],"c":[true,{}]}"#;
+        let text = r#"{"a":[1,20],"b":["x\"y\\z\u000a","é"],"c":[true,null,{}]}"#;
         assert_eq!(value.to_string(), text);
     }
 }

@@ -4,11 +4,12 @@ use crate::breaking::breaking;
 use crate::explain;
 use crate::json::Json;
 use crate::lineage::{self, Traced};
+use crate::mistake::Mistakes;
 use crate::named::NamedBook;
 use crate::names::Names;
 use crate::plan;
 use crate::rule;
-use crate::text::{place, Mistakes};
+use crate::text::place;
 use pspec::{Access, Refusal};
 
 /// Why no judgement is given.

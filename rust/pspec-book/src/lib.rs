@@ -1,8 +1,8 @@
 //! Policies as text, over the safe wrapper of the engine.
 //!
 //! A policy file names users, data, columns, functions and rules; `build` makes the engine's blocks
-//! of it and `show` makes text of blocks again. `report` and `judge` put the engine's answers in
-//! the policy's names.
+//! of it and `show` makes text of blocks again. `report`, `judge` and `flows` put the engine's
+//! answers in the policy's names.
 //!
 //! All of this stands outside the proved core. The engine decides whether a book is accepted, which
 //! rules a plan breaks and which are idle; that the text means the blocks is this crate's word,
@@ -24,7 +24,7 @@
 //! let policy = pspec_book::policy::read(text)?;
 //! let book = pspec_book::build::book(&policy)?;
 //! assert_eq!(book.rule_count(), 1);
-//! # Ok::<(), pspec_book::text::Mistakes>(())
+//! # Ok::<(), pspec_book::mistake::Mistakes>(())
 //! ```
 #![forbid(unsafe_code)]
 #![warn(missing_docs)]
@@ -46,8 +46,10 @@ pub mod json;
 pub mod judge;
 pub mod labels;
 pub mod lineage;
+pub mod mistake;
 pub mod named;
 pub mod names;
+pub mod phrases;
 pub mod plan;
 pub mod policy;
 pub mod report;

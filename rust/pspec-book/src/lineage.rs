@@ -7,8 +7,8 @@ use crate::contents::{Contents, UNLABELLED};
 use crate::json::Json;
 use crate::named::NamedBook;
 use crate::names::Names;
+use crate::phrases::counted_list;
 use crate::plan::PlanText;
-use crate::text::counted_list;
 use pspec::{Access, Action, Refusal};
 use std::collections::{BTreeMap, BTreeSet};
 
@@ -38,8 +38,8 @@ impl Traced {
             Action::Condition => "condition",
         };
         let operation = match self.access.operation {
-            0 => "",
-            k => names.operation(k),
+            0 => Json::Null,
+            k => Json::Text(names.operation(k).to_string()),
         };
         let line = |(&line, columns): (&usize, &BTreeSet<usize>)| {
             let columns = Json::numbers(columns);
@@ -49,7 +49,7 @@ impl Traced {
         Json::Object(vec![
             ("action", Json::Text(action.to_string())),
             ("leaf", Json::Text(leaf)),
-            ("operation", Json::Text(operation.to_string())),
+            ("operation", operation),
             ("lines", Json::list(&self.lines, line)),
         ])
     }

@@ -1,6 +1,5 @@
 //! Policies as text: see `pspec-book help`.
 
-use pspec_book::arguments::usage;
 use pspec_book::command::{run, Outcome};
 use pspec_book::fault::Fault;
 use std::ffi::OsString;
@@ -31,12 +30,8 @@ fn status(ran: Result<Outcome, Fault>) -> u8 {
             eprintln!("{why}");
             1
         }
-        Err(Fault::File(why)) => {
+        Err(Fault::File(why) | Fault::Usage(why)) => {
             eprintln!("{why}");
-            2
-        }
-        Err(Fault::Usage(why)) => {
-            eprintln!("{why}\n\n{}", usage());
             2
         }
     }

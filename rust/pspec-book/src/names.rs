@@ -5,7 +5,9 @@
 //! for no other. A digest would be shorter, but then two books could share one.
 
 use crate::contents::{Contents, OPERATIONS};
-use crate::text::{self, mistake, Cursor, Line, Mistake, Section};
+use crate::mistake::{mistake, Mistake};
+use crate::phrases::shown;
+use crate::text::{self, Cursor, Line, Section};
 use pspec::{Book, BLOCK};
 
 /// The names of a book's numbers.
@@ -78,7 +80,7 @@ impl Names {
             *list = listed(header, needed.len(), sections.next(), end)?;
         }
         if let Some(section) = sections.next() {
-            let what = format!("found '{}'; expected the end", section.header.text);
+            let what = format!("found '{}'; expected the end", shown(section.header.text));
             return Err(mistake(section.header.number, what));
         }
         Ok(names)
@@ -137,6 +139,7 @@ fn fitting(first: Option<Section>, book: &Book, end: usize) -> Result<(), Mistak
         mistake(line, format!("{what}: these are not its names. {advice}"))
     };
     if found != "book" {
+        let found = shown(found);
         let what = format!("found '{found}'; expected 'book' and the bytes of the book");
         return Err(another(line, what));
     }
@@ -169,6 +172,7 @@ fn listed(
     };
     let (line, found) = (section.header.number, section.header.text);
     if found != header {
+        let found = shown(found);
         return Err(mistake(
             line,
             format!("found '{found}'; expected '{header}'"),

@@ -12,9 +12,10 @@
 //! `output` and `where` are rows too.
 
 use crate::contents::Contents;
+use crate::mistake::{mistake, Mistake, Mistakes};
 use crate::named::NamedBook;
 use crate::names::Names;
-use crate::text::{self, mistake, place, Cursor, Line, Mistake, Mistakes};
+use crate::text::{self, place, Cursor, Line};
 use pspec::Plan;
 
 /// A plan and the lines that its rows come from.

@@ -27,9 +27,11 @@
 //! appearance, from 1.
 
 use crate::contents::{Category, Contents, OPERATIONS, UNLABELLED};
+use crate::mistake::{mistake, Mistake, Mistakes};
 use crate::names::Names;
+use crate::phrases::shown;
 use crate::rule;
-use crate::text::{self, mistake, shown, Cursor, Line, Mistake, Mistakes, Section};
+use crate::text::{self, Cursor, Line, Section};
 use crate::tree::Tree;
 
 /// A policy: what it says, its names, and the lines that they come from.

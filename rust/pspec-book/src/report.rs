@@ -3,9 +3,9 @@
 use crate::covering::{why_idle, WhyIdle};
 use crate::json::Json;
 use crate::named::NamedBook;
+use crate::phrases::counted_list;
 use crate::plan::accesses;
 use crate::rule;
-use crate::text::counted_list;
 use pspec::{Access, Idleness, Plan, Refusal};
 use std::io::{self, IsTerminal, Write};
 
@@ -78,10 +78,9 @@ impl RuleReport {
             ("idle", Json::Bool(self.is_idle())),
         ];
         fields.extend(match &self.found {
-            Found::Idle(WhyIdle::Unbreakable) => vec![("unbreakable", Json::Bool(true))],
-            Found::Idle(WhyIdle::Covered(by)) => vec![
-                ("unbreakable", Json::Bool(false)),
-                ("covered_by", Json::numbers(by)),
+            Found::Idle(why) => vec![
+                ("unbreakable", Json::Bool(*why == WhyIdle::Unbreakable)),
+                ("covered_by", Json::numbers(why.rules())),
             ],
             Found::Needed {
                 user, words, plan, ..

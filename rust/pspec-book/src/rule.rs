@@ -8,8 +8,9 @@
 //! A rule is written on one line. Restrictions are joined by `or`; `=> forbid` has none.
 
 use crate::contents::{bits, Reference, Rule, OPERATIONS};
+use crate::mistake::{mistake, Mistake};
 use crate::names::Names;
-use crate::text::{is_name, mistake, Cursor, Line, Mistake};
+use crate::text::{is_name, Cursor, Line};
 
 /// The actions; the first has number 1.
 const ACTIONS: [&str; 3] = ["projection", "condition", "access"];

@@ -1,113 +1,7 @@
-//! Lines and words of a text, and mistakes in it.
+//! Lines and words of a text.
 
-use std::error::Error;
-use std::fmt;
-
-/// A mistake in a text. The file's name is put before it by whoever opened the file.
-#[derive(Clone, Debug, PartialEq, Eq)]
-pub struct Mistake {
-    /// The number of the line, from 1.
-    pub line: usize,
-    /// What is wrong there.
-    pub what: String,
-}
-
-impl fmt::Display for Mistake {
-    fn fmt(&self, f: &mut fmt::Formatter<'_>) -> fmt::Result {
-        write!(f, "{}: {}", self.line, self.what)
-    }
-}
-
-impl Error for Mistake {}
-
-/// A mistake on a line.
-pub fn mistake(line: usize, what: impl Into<String>) -> Mistake {
-    let what = what.into();
-    Mistake { line, what }
-}
-
-/// The mistakes of a text, at least one: the first of each line, lowest line first.
-#[derive(Clone, Debug, PartialEq, Eq)]
-pub struct Mistakes(Vec<Mistake>);
-
-/// The most mistakes that are shown.
-const MOST_SHOWN: usize = 20;
-
-impl Mistakes {
-    /// These mistakes, or nothing where there are none.
-    pub fn of(mut mistakes: Vec<Mistake>) -> Result<(), Mistakes> {
-        mistakes.sort_by_key(|mistake| mistake.line);
-        mistakes.dedup_by_key(|mistake| mistake.line);
-        match mistakes.is_empty() {
-            true => Ok(()),
-            false => Err(Mistakes(mistakes)),
-        }
-    }
-
-    /// Each of them.
-    pub fn iter(&self) -> impl Iterator<Item = &Mistake> {
-        self.0.iter()
-    }
-
-    /// One a line, after the file's name.
-    pub fn in_file(&self, file: &str) -> String {
-        let shown = self.0.iter().take(MOST_SHOWN);
-        let mut lines: Vec<String> = shown.map(|mistake| format!("{file}:{mistake}")).collect();
-        if self.0.len() > MOST_SHOWN {
-            let more = counted(self.0.len() - MOST_SHOWN, "mistake");
-            lines.push(format!("{file}: and {more} more"));
-        }
-        lines.join("\n")
-    }
-}
-
-impl From<Mistake> for Mistakes {
-    fn from(mistake: Mistake) -> Mistakes {
-        Mistakes(vec![mistake])
-    }
-}
-
-impl fmt::Display for Mistakes {
-    fn fmt(&self, f: &mut fmt::Formatter<'_>) -> fmt::Result {
-        let lines: Vec<String> = self.0.iter().map(Mistake::to_string).collect();
-        f.write_str(&lines.join("\n"))
-    }
-}
-
-impl Error for Mistakes {}
-
-/// A number and a word, in the plural where it is not one.
-pub fn counted(count: usize, word: &str) -> String {
-    match count {
-        1 => format!("1 {word}"),
-        _ => format!("{count} {word}s"),
-    }
-}
-
-/// A list of numbers after what they count, as 'lines 1, 2 and 4'.
-pub fn counted_list(word: &str, numbers: &[String]) -> String {
-    match numbers {
-        [] => format!("no {word}"),
-        [one] => format!("{word} {one}"),
-        [first @ .., last] => format!("{word}s {} and {last}", first.join(", ")),
-    }
-}
-
-/// The most letters of a word that are shown.
-const LETTERS_SHOWN: usize = 80;
-
-/// A found text as it is shown: cut where it is long, with a code for what can't be seen.
-pub fn shown(found: &str) -> String {
-    let letter = |c: char| match c {
-        '\'' | '"' | '\\' => c.to_string(),
-        _ => c.escape_debug().to_string(),
-    };
-    let mut shown: String = found.chars().take(LETTERS_SHOWN).map(letter).collect();
-    if found.chars().nth(LETTERS_SHOWN).is_some() {
-        shown += "...";
-    }
-    shown
-}
+use crate::mistake::{mistake, Mistake};
+use crate::phrases::shown;
 
 /// A line that says something.
 #[derive(Clone, Copy, Debug, PartialEq, Eq)]
@@ -321,14 +215,6 @@ mod tests {
         );
         assert_eq!(words("x: -"), ["x", ":", "-"]);
         assert_eq!(words("é=ü"), ["é", "=", "ü"]);
-    }
-
-    #[test]
-    fn what_is_found_is_shown() {
-        assert_eq!(shown("a'b\u{200b}é"), "a'b\\u{200b}é");
-        assert_eq!(shown(&"x".repeat(100_000)).len(), 83);
-        assert_eq!(counted(1, "rule"), "1 rule");
-        assert_eq!(counted(0, "rule"), "0 rules");
     }
 
     #[test]

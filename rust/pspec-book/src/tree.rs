@@ -1,6 +1,8 @@
 //! A tree by indentation.
 
-use crate::text::{mistake, shown, Line, Mistake};
+use crate::mistake::{mistake, Mistake};
+use crate::phrases::shown;
+use crate::text::Line;
 
 /// The categories from the root to the last line's, each with its indentation.
 #[derive(Default)]

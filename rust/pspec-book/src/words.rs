@@ -4,16 +4,8 @@ use crate::contents::{bits, Reference, Rule};
 use crate::hierarchy::is_leaf;
 use crate::named::NamedBook;
 use crate::names::Names;
+use crate::phrases::joined;
 use pspec::{Access, Action};
-
-/// Words with a last one after 'and' or 'or'.
-pub fn joined(words: &[String], last: &str) -> String {
-    match words {
-        [] => String::new(),
-        [one] => one.clone(),
-        [first @ .., end] => format!("{} {last} {end}", first.join(", ")),
-    }
-}
 
 /// A rule as a sentence.
 pub fn rule(rule: &Rule, named: &NamedBook) -> String {

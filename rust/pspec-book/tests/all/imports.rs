@@ -15,7 +15,7 @@ fn imports(name: &str) -> Imports {
         let text = fs::read_to_string(&file).expect("it is text");
         let module = file.file_stem().expect("it has a name").to_string_lossy();
         let words = text.split("crate::").skip(1);
-        let end = |c: char| !c.is_alphanumeric() && c != '_' && c != ',' && c != ' ';
+        let end = |c: char| !c.is_alphanumeric() && !c.is_whitespace() && c != '_' && c != ',';
         let named = words.flat_map(|rest| {
             let rest = rest.trim_start_matches('{');
             let list = &rest[..rest.find(end).unwrap_or(rest.len())];

@@ -2,6 +2,7 @@
 
 mod any_rows;
 mod any_text;
+mod commands;
 mod common;
 mod examples;
 mod format;
@@ -11,5 +12,6 @@ mod mistakes;
 mod page;
 mod program;
 mod round_trip;
+mod running;
 mod scripts;
 mod stopped;
