@@ -53,13 +53,6 @@ mod with_engine {
     pub fn idle_once(book: &[u8], rule: u32) {
         black_box(raw::idle(black_box(book), rule, &mut [0; raw::BUFFER]));
     }
-
-    /// Does the engine say that this user is the first to need the rule, or that none does?
-    pub fn agrees(book: &[u8], rule: u32, needed: Option<u32>) -> bool {
-        let answer = raw::idle(book, rule, &mut [0; raw::BUFFER]);
-        let user = raw::value(answer).map(|value| raw::shown(value).map(|(user, _)| user));
-        user == Ok(needed)
-    }
 }
 
 #[cfg(not(feature = "engine"))]
@@ -93,8 +86,4 @@ mod without {
     pub fn judge_once(_: &[u8], _: u32, _: &[u8]) {}
 
     pub fn idle_once(_: &[u8], _: u32) {}
-
-    pub fn agrees(_: &[u8], _: u32, _: Option<u32>) -> bool {
-        true
-    }
 }

@@ -1,5 +1,4 @@
-//! Times each call of the engine and of the second implementation, in one run, on the same bytes,
-//! and counts the steps of the engine's search.
+//! Times each call of the engine and of the second implementation, in one run, on the same bytes.
 //!
 //! `bench count` counts the instructions of each call (valgrind is needed), and `bench stack` finds
 //! the smallest stack on which each call of the largest book runs.
@@ -8,9 +7,7 @@
 mod calls;
 mod clock;
 mod count;
-mod places;
 mod stack;
-mod steps;
 mod table;
 
 use books::{named, plans, Draft, Random};
@@ -29,11 +26,7 @@ const CHOICES: u128 = 100_000;
 fn main() {
     let words: Vec<String> = std::env::args().skip(1).collect();
     match words.iter().map(String::as_str).collect::<Vec<_>>()[..] {
-        [] => {
-            times();
-            println!();
-            counts();
-        }
+        [] => times(),
         ["count"] => instructions(),
         ["stack"] => stack::print(),
         ["once", call, book] => count::once(call, &input_named(book)),
@@ -96,20 +89,6 @@ fn times() {
         input.rules = all;
         idle(&input);
         idle_naive(&input);
-    }
-}
-
-/// Counts the steps for the rule asked about, of every book.
-fn counts() {
-    table::steps_head();
-    for (name, draft, rule) in named::all() {
-        let bytes = draft.bytes();
-        let book = reading::read(&bytes).expect("it is accepted");
-        let (steps, needed) = steps::count(&book, rule as usize);
-        let needed = needed.map(|user| user as u32);
-        // A model that answers otherwise has not gone the engine's way.
-        assert!(calls::agrees(&bytes, rule, needed), "{name}");
-        table::steps_row(&name, rule, &steps, needed);
     }
 }
 

@@ -1,6 +1,5 @@
-//! The table of times, and that of steps.
+//! The table of times, and that of instructions.
 
-use crate::steps::Steps;
 use std::time::Duration;
 
 /// One line: a call on a book, and the times that there are.
@@ -59,34 +58,6 @@ fn ratio(of: Option<Duration>, to: Option<Duration>) -> String {
         }
         _ => "-".to_string(),
     }
-}
-
-/// Prints the head of the table of steps.
-pub fn steps_head() {
-    let cells = [
-        "rule", "users", "firsts", "pairs", "turns", "took", "answer",
-    ];
-    print_steps("book", cells.map(str::to_string));
-}
-
-/// Prints the steps for a rule of a book, and the first user who needs it.
-pub fn steps_row(book: &str, rule: u32, steps: &Steps, needed: Option<u32>) {
-    let answer = if needed.is_some() { "needed" } else { "idle" };
-    let cells = [
-        rule.to_string(),
-        steps.users.to_string(),
-        steps.firsts.to_string(),
-        steps.pairs.to_string(),
-        steps.turns.to_string(),
-        steps.took.to_string(),
-        answer.to_string(),
-    ];
-    print_steps(book, cells);
-}
-
-fn print_steps(book: &str, [rule, users, firsts, pairs, turns, took, answer]: [String; 7]) {
-    let sought = format!("{rule:>4} {users:>5} {firsts:>8} {pairs:>10}");
-    println!("{book:<28} {sought} {turns:>10} {took:>10} {answer:>7}");
 }
 
 /// Prints the head of the table of instructions.

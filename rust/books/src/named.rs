@@ -240,7 +240,9 @@ pub fn accepting() -> Draft {
         user: 0,
         excluded: vec![],
         references: (1..=3).map(|leaf| reference(leaf, ACCESS)).collect(),
-        restrictions: (0..8).map(|j| if j < 7 { [2, 4, 2 << j] } else { [ten; 3] }).collect(),
+        restrictions: (0..8)
+            .map(|j| if j < 7 { [2, 4, 2 << j] } else { [ten; 3] })
+            .collect(),
     };
     Draft {
         users: vec![0],
