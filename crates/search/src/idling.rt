@@ -7,7 +7,7 @@ use crate::showing::row_count;
 use crate::showing::shown_plan;
 use crate::showing::write_plan;
 use crate::tables::covered_by;
-use crate::tables::table;
+use crate::tables::fill_table;
 use crate::users::Needs;
 use crate::users::first_user;
 use book::Tested;
@@ -53,7 +53,8 @@ fn needs(book: &[u8], head: &[u64], rule: u8) -> Needs
         → rule < ruleCount (now (book .entry)) → FirstNeeds (now (book .entry)) rule s) ⌝ }
 {
     let n = rule_count(book);
-    let t = table(book, head, n);
+    let mut t = [0u64; 4096];
+    fill_table(&mut t, book, head, n);
     let references = reference_count(rule_at(book, rule)) as u8;
     first_user(
         &t,

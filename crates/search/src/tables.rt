@@ -15,6 +15,7 @@ use verdicts::breaking::action_fits;
 use verdicts::breaking::all_if_zero;
 ghost use mathlib.Core.Path.{_≡_};
 ghost use Prim.Native.Nat.{ℕ, _/_, _≤_, _<_};
+ghost use lib.ListN.{length};
 ghost use Rattle.book.specs.Blocks.{headOf};
 ghost use Rattle.book.specs.Inner.Words.{HeadWords};
 ghost use Rattle.book.specs.Sets.{has};
@@ -103,15 +104,15 @@ fn leaf_sets(book: &[u8], head: &[u64], n: u8) -> [u64; 96]
     sets
 }
 
-// The tables of the first n rules.
-pub fn table(book: &[u8], head: &[u64], n: u8) -> [u64; 4096]
-    ensures { λ r. ⌜ (HeadWords (headOf (now (book .entry))) (now (head .entry)) → n ≤ 32
-        → TableHolds (now (book .entry)) n r) ⌝ }
+// The tables of the first n rules, written where the caller keeps them: by value they would be
+// copied.
+pub fn fill_table(t: &mut [u64], book: &[u8], head: &[u64], n: u8)
+    ensures { λ _. ⌜ (HeadWords (headOf (now (book .entry))) (now (head .entry)) → n ≤ 32
+        → length (now (t .entry)) ≡ 4096 → TableHolds (now (book .entry)) n (now (t .exit))) ⌝ }
 {
     let sets = leaf_sets(book, head, n);
-    let mut t = [0u64; 4096];
-    if 32 < n {
-        return t;
+    if t.len() < 128 * (n as usize) {
+        return;
     }
     for q in 0..n {
         let words = rule_words(rule_at(book, q), &sets, q);
@@ -119,7 +120,6 @@ pub fn table(book: &[u8], head: &[u64], n: u8) -> [u64; 4096]
             t[128 * (q as usize) + k] = words[k];
         }
     }
-    t
 }
 
 // The users that rule r covers, if it is one of the first n.

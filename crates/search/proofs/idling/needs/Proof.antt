@@ -7,16 +7,17 @@ use Rattle.search.proofs.idling.needs.Tie as tie
 
 returns : tie.Need-returns
 returns c held accepted l =
-    let total = c .before .before .before .before .before .before .before .before .rule-count in
-    let known = c .before .before .before .before .before .before .before .before .before .before .shared-slice-known in
-    let a = c .before .before .before .before .before .before .before .before .before .before .before .args in
+    let total = c .before .before .before .before .before .before .before .before .before .before .rule-count in
+    let known = c .before .before .before .before .before .before .before .before .before .before .before .before .shared-slice-known in
+    let a = c .before .before .before .before .before .before .before .before .before .before .before .before .before .args in
     let rule = c .before .before .before .before .before .before .rule-at in
     let head = c .before .before .before .head-of in
     let references = c .before .before .before .before .before .reference-count in
+    let filled = c .before .before .before .before .before .before .before .before .fill-table in
     needs-first (a .book .now) accepted (λ i. omega (arith, known .given i)) (a .rule) l (total .result) (total .ensures .0)
     (rule .result .now) (head .result .now) (rule .ensures) (head .ensures) (references .result) (references .ensures .0)
-    (c .before .before .before .before .before .before .before .table .result) (c .before .before .obtainable .result)
-    (c .before .covered-by .result) (c .before .before .before .before .before .before .before .table .ensures held)
+    (filled .last .0) (c .before .before .obtainable .result)
+    (c .before .covered-by .result) (λ few. filled .ensures held few (search needs))
     (c .before .before .obtainable .ensures) (c .before .covered-by .ensures held) (c .first-user .result)
     (c .first-user .ensures)
 
@@ -25,6 +26,7 @@ needs-spec =
     tie.close
     (tie.spec
     (λ c κs. search needs)
+    (λ c. search needs)
     (λ c κs. search needs)
     (λ c κs. search needs)
     (λ c κs. search needs)
