@@ -21,7 +21,9 @@
  * something is refused. So the functions at the end of this file give the answer's own parts (proved:
  * crates/capi/proofs/Unpacking.antt).
  *
- * Not proved: this file. A call on the small book took at most 80 KiB of stack (pspec_idle); the calls use
+ * Not proved: this file, and that there is stack enough. On the largest book the smallest stacks that
+ * worked were 16 KiB for pspec_check, 33 KiB for pspec_flows and pspec_judge, 50 KiB for pspec_idle
+ * (bench stack); on a thread with less the process is stopped. Give them 128 KiB. The calls use
  * memcpy and memset and nothing else from outside.
  */
 #ifndef PSPEC_H
