@@ -18,7 +18,7 @@ use Rattle.book.specs.Inner.Words.{subtree}
 use Rattle.book.specs.Inner.Testing.{referencesHold, presentLeaf}
 use Rattle.book.proofs.Lists.{all-three, and-left, and-false, or-rest, or-otherwise, same-test, all-at, at-all}
 use Rattle.book.proofs.Lists.{all-same}
-use Rattle.book.proofs.Members.{has-zero, has-single, has-and, has-minus, disjoint-test}
+use Rattle.book.proofs.Members.{has-zero, has-single, has-minus, disjoint-test}
 
 -- Proper descendants, where the hierarchy fits a word
 
@@ -225,7 +225,7 @@ leaf-sets-apart head rule a b c small few p q r a-at b-at c-at =
 abbrev pub maskWithin : List ℕ → ℕ → ℕ → ℕ → Bool
 maskWithin rule j i a = all (λ k. not (has (restrictionMask rule j i) k) || has a k) (upTo 16)
 
-pub mask-holds-at :
+mask-holds-at :
     (head rule : List ℕ) (j i a : ℕ)
     → ((k : ℕ) → has a k ≡ maskAllows head rule i k)
     → maskWithin rule j i a ≡ maskHolds head rule j i

@@ -6,10 +6,9 @@ use mathlib.Core.Bool.{Bool, true, false, _&&_, _||_, not}
 use mathlib.Core.List.{List, [], _∷_}
 use lib.ListN.{getD}
 use lib.Dec.{eqb, ltb, leb}
-use borrow.Author.Tests.{leb-true, eqb-true, not-true, not-false}
+use borrow.Author.Tests.{leb-true, eqb-true, not-false}
 use Rattle.book.specs.Lists.{all, upTo}
 use Rattle.book.specs.Sets.{has}
-use Rattle.book.specs.Hierarchies.{leaf}
 use Rattle.book.specs.Head.{userCount, dataCount, dataParent, columnCount, functionCount, isDataLeaf}
 use Rattle.book.specs.Rule.{referenceCount, excludedUserCount, restrictionCount, exclusionCount}
 use Rattle.book.specs.Blocks.{blockAt, headOf, checkHolds}

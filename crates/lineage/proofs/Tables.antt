@@ -1,9 +1,7 @@
 -- Laws of the loops that fill words: one word a turn, and one row of sixteen. Assumes nothing.
 use Prim.Native.Nat.{ℕ, _+_, _*_, _/_, _%_, _≤_, _<_}
 use native.Mathlib.Omega.{arith}
-use native.Mathlib.Nat.{eq-or-lt-of-le}
 use mathlib.Core.Path.{_≡_, refl, sym, ap, _∙_}
-use mathlib.Core.Logic.{⊎-elim}
 use mathlib.Core.Bool.{Bool, true, false, _&&_, cond}
 use mathlib.Core.List.{List}
 use lib.ListN.{length, getD, set, length-set, List·getD-eq-default}
@@ -12,33 +10,7 @@ use lib.Bits.{bitOr, or-zero-r}
 use lib.Dec.{eqb, ltb}
 use borrow.Author.Tests.{lt-ltb, le-ltb, eqb-true, eqb-false, eq-eqb, ne-eqb}
 use Rattle.book.proofs.Lists.{and-end, and-false, ltb-more}
-
--- the first k of n words have a property
-
-pub record Filled (n : ℕ) (P : ℕ → ℕ → Type 0) (l : List ℕ) (k : ℕ) : Type 0 where
-  pub bound : k ≤ n
-  pub size : length l ≡ n
-  pub at : (j : ℕ) → j < k → P j (getD l j 0)
-
-pub fill-none : {n : ℕ} {P : ℕ → ℕ → Type 0} {l : List ℕ} → length l ≡ n → Filled n P l 0
-fill-none e = record { bound = omega arith; size = e; at = λ j h. absurd (omega arith) }
-
-pub fill-more :
-    {n : ℕ} {P : ℕ → ℕ → Type 0} {l : List ℕ} {k v : ℕ} →
-    Filled n P l k → k < n → P k v → Filled n P (set l k v) (k + 1)
-fill-more {n} {P} {l} {k} {v} old h p =
-    record {
-      bound = omega arith;
-      size = length-set l k v ∙ old .size;
-      at = λ j m. go j (omega arith);
-    }
-  where
-    go : (j : ℕ) → j ≤ k → P j (getD (set l k v) j 0)
-    go j m =
-        ⊎-elim
-        (λ (q : j ≡ k). rw (q, getD-set-same l k v 0 (omega (arith, old .size))) p)
-        (λ (q : j < k). rw (getD-set-other l k j v 0 (λ z. omega arith)) (old .at j q))
-        (eq-or-lt-of-le m)
+pub use Rattle.book.proofs.Loops.{Filled, fill-none, fill-more}
 
 -- the first k elements of row i are new, all others old
 

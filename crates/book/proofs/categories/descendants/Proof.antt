@@ -1,9 +1,7 @@
 -- One falling pass: the law `gathered-more` is its step. Assumes nothing.
-use Prim.Native.Nat.{_+_, _-_, _<_}
+use Prim.Native.Nat.{_+_, _-_}
 use native.Mathlib.Omega.{arith}
-use mathlib.Core.Path.{_≡_, _∙_}
-use mathlib.Core.Bool.{cond}
-use lib.Dec.{ltb}
+use mathlib.Core.Path.{_≡_}
 use borrow.Author.Needs.{needs}
 use Rattle.book.specs.Inner.Reading.{countIn, parentIn}
 use Rattle.book.proofs.HeadWords.{Gathered, gathered-none, gathered-more, gathered-end}

@@ -3,7 +3,7 @@ use Prim.Native.Nat.{_-_, _≤_, _<_}
 use native.Mathlib.Omega.{arith}
 use mathlib.Core.Path.{_≡_}
 use borrow.Author.Needs.{needs}
-use Rattle.book.specs.Head.{dataCount, supportOf}
+use Rattle.book.specs.Head.{supportOf}
 use Rattle.book.proofs.Loops.{Filled, fill-none, fill-more}
 use Rattle.book.proofs.HeadWords.{below-capped}
 use Rattle.book.proofs.categories.supports.Statement.{statement}

@@ -1,6 +1,6 @@
 -- Each number is the field of its definition, and so is its test (`proper-all`); the leaves are `inLeafSet`, opened.
 -- Assumes nothing.
-use mathlib.Core.Path.{_≡_, _∙_}
+use mathlib.Core.Path.{_∙_}
 use borrow.Author.Tests.{lt-ltb, le-ltb, le-leb, lt-leb}
 use borrow.Author.Needs.{needs}
 use Rattle.book.specs.Head.{dataCount, dataParent}

@@ -2,9 +2,8 @@
 -- references, and once the numbers hold the masks can be read. Assumes nothing.
 use borrow.Author.Needs.{needs}
 use mathlib.Core.Path.{_≡_, _∙_}
-use mathlib.Core.Bool.{false, _&&_, not}
+use mathlib.Core.Bool.{false, not}
 use Rattle.book.specs.Refusals.{ruleBlockTests, ruleCounted, numbersHold}
-use Rattle.book.specs.Inner.Testing.{referencesHold}
 use Rattle.book.proofs.Answers.{fails, passes, none-fails}
 use Rattle.book.proofs.References.{references-three, leaf-sets-apart}
 use Rattle.book.proofs.Tests.{few-references, references-held}

@@ -1,5 +1,5 @@
 -- Each number is the field of its definition, and so is its test (`proper-all`). Assumes nothing.
-use mathlib.Core.Path.{_≡_, _∙_}
+use mathlib.Core.Path.{_∙_}
 use borrow.Author.Needs.{needs}
 use Rattle.book.specs.Head.{userCount, userParent}
 use Rattle.book.specs.Refusals.{userNumbersHold}

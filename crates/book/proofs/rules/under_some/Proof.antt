@@ -1,12 +1,8 @@
 -- One category of the list a turn: the law `under-more`. Assumes nothing.
-use Prim.Native.Nat.{ℕ, _≤_, _-_}
+use Prim.Native.Nat.{_≤_, _-_}
 use native.Mathlib.Omega.{arith}
-use mathlib.Core.Path.{_≡_}
-use mathlib.Core.Bool.{_&&_}
-use mathlib.Core.List.{List}
 use lib.ListN.{length, take}
 use lib.Seq.{take-all}
-use lib.Dec.{ltb}
 use borrow.Author.Needs.{needs}
 use Rattle.book.specs.Lists.{any}
 use Rattle.book.specs.Inner.Reading.{countIn, parentIn}

@@ -1,5 +1,5 @@
 -- Each arm is the field of the record. Assumes nothing.
-use mathlib.Core.Path.{_≡_, _∙_}
+use mathlib.Core.Path.{_∙_}
 use borrow.Author.Needs.{needs}
 use Rattle.book.proofs.words.count_of.Statement.{statement}
 use Rattle.book.proofs.words.count_of.Tie as tie

@@ -1,6 +1,6 @@
 -- The word is the field of the record. Assumes nothing.
 use native.Mathlib.Omega.{arith}
-use mathlib.Core.Path.{_≡_, _∙_}
+use mathlib.Core.Path.{_∙_}
 use borrow.Author.Needs.{needs}
 use Rattle.book.proofs.words.support_of.Statement.{statement}
 use Rattle.book.proofs.words.support_of.Tie as tie

@@ -1,7 +1,6 @@
 -- One pass over the categories; the law `supported-more` is its step. Assumes nothing.
 use Prim.Native.Nat.{_-_, _≤_}
 use native.Mathlib.Omega.{arith}
-use mathlib.Core.Path.{_≡_}
 use borrow.Author.Needs.{needs}
 use Rattle.book.specs.Inner.Words.{HeadWords}
 use Rattle.book.proofs.Support.{Supported, supported-none, supported-more, supported-end}

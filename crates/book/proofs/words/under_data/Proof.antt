@@ -1,5 +1,4 @@
 -- A word's place below 64; from there on nothing is under c (`subtree-past`). Assumes nothing.
-use mathlib.Core.Path.{_≡_, _∙_}
 use borrow.Author.Needs.{needs}
 use Rattle.book.specs.Head.{dataCount, dataParent}
 use Rattle.book.proofs.HeadWords.{subtree-past}
