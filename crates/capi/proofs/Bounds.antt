@@ -1,14 +1,13 @@
 -- Every refusal that a call can give has a number from 1 to 255 and a place below 256. Assumes nothing.
-use Prim.Native.Nat.{ℕ, zero, suc, _+_, _%_, _≤_, _<_}
+use Prim.Native.Nat.{ℕ, zero, suc, _+_, _≤_, _<_}
 use native.Mathlib.Omega.{arith}
 use mathlib.Core.Path.{_≡_, refl, sym, _∙_}
 use mathlib.Core.Bool.{Bool, true, false, cond}
 use mathlib.Core.List.{List, [], _∷_, _++_}
 use lib.ListN.{length}
-use lib.Dec.{eqb, ltb, leb}
+use lib.Dec.{eqb}
 use Rattle.book.specs.Lists.{flat, from, upTo}
-use Rattle.book.specs.Blocks.{headOf, blockAt, blockCount, ruleCount}
-use Rattle.book.specs.Head.{isUser}
+use Rattle.book.specs.Blocks.{headOf, blockAt, blockCount, ruleAt, ruleCount}
 use Rattle.book.specs.Tests.{Test, Passes, firstFailing, refusedOr, answered}
 use Rattle.book.specs.Refusals.{usersBlockTests, dataBlockTests, columnsBlockTests, functionsBlockTests}
 use Rattle.book.specs.Refusals.{ruleBlockTests, blockTests, checkTests, kindTests, contentTests, blockByBlock}
@@ -21,7 +20,7 @@ use Rattle.book.specs.declared.Tested.the-variants as tested
 use Rattle.book.specs.declared.Checked.the-variants as checked
 use Rattle.book.specs.declared.Sealed.the-variants as sealed
 use Rattle.book.proofs.Answers.{append-passed, first-append, last-passed}
-use Rattle.book.proofs.Tests.{length-true, rule-tests}
+use Rattle.book.proofs.Tests.{length-true}
 use Rattle.lineage.specs.Rows.{rowCount}
 use Rattle.lineage.specs.Answers.{planLengthHolds, rowTests, planTests, wordsTests, flowsTests, flowsAnswer}
 use Rattle.lineage.specs.declared.Flowed.the-variants as flowed
@@ -31,8 +30,11 @@ use Rattle.verdicts.specs.declared.Judged.the-variants as judged
 use Rattle.search.specs.Answers.{ruleTests, bufferTests, idleTests, idlenessOf, idleAnswer}
 use Rattle.search.specs.Alone.{First, none, shown, firstAlone}
 use Rattle.search.specs.Choices.{Candidate}
-use Rattle.search.specs.declared.Idleness.{Idleness}
 use Rattle.search.specs.declared.Idleness.the-variants as idleness
+use Rattle.blocked.specs.Associations.{Pair}
+use Rattle.blocked.specs.Open.{firstClosed}
+use Rattle.blocked.specs.Answers.{forbidTests, blockedTests, closedAnswer, blockingOf, blockedAnswer}
+use Rattle.blocked.specs.declared.Blocking.the-variants as blocking
 
 -- a refusal that fits one byte for its number and one for its place
 pub record Small (x : Refusal) : Type 0 where
@@ -177,7 +179,7 @@ plan-bounded head plan =
     flat-bounded (rowTests head plan) (rowCount plan)
     (λ i l. last-bounded _ _ _ (omega arith) (omega arith) (omega (arith, short .1))))
 
--- The five calls
+-- The six calls
 
 -- an answer is a refusal only where a test refuses
 refused-small :
@@ -214,6 +216,11 @@ unfolding idlenessOf
 no-refusal head none x e = let z : _≡_ {A = ℕ} 0 1 = cc in omega arith
 no-refusal head (shown c) x e = let z : _≡_ {A = ℕ} 0 1 = cc in omega arith
 
+pub never-refused : (f : First Pair) (x : Refusal) → blockingOf f ≡ blocking.Refused x → ⊥
+unfolding blockingOf closedAnswer
+never-refused none x e = let z : _≡_ {A = ℕ} 0 1 = cc in omega arith
+never-refused (shown p) x e = let z : _≡_ {A = ℕ} 0 1 = cc in omega arith
+
 module _ (book : List ℕ) where
   pub flows-small : (plan words : List ℕ) (x : Refusal) → flowsAnswer book plan words ≡ flowed.Refused x → Small x
   unfolding flowsAnswer flowsTests wordsTests
@@ -241,6 +248,16 @@ module _ (book : List ℕ) where
       refused-small (idleTests book r buffer) idleness.Refused (idlenessOf (headOf book) (firstAlone book r))
       (λ x y e. cc) (no-refusal (headOf book) (firstAlone book r))
       (append-bounded (bookTests book ++ ruleTests book r) (bufferTests buffer)
+      (append-bounded (bookTests book) (ruleTests book r) (book-bounded book)
+      (λ e. last-bounded _ _ _ (omega arith) (omega arith) (omega arith)))
+      (λ e. last-bounded _ _ _ (omega arith) (omega arith) (omega arith)))
+
+  pub blocked-small : (r : ℕ) (x : Refusal) → blockedAnswer book r ≡ blocking.Refused x → Small x
+  unfolding blockedAnswer blockedTests ruleTests forbidTests
+  blocked-small r =
+      refused-small (blockedTests book r) blocking.Refused (blockingOf (firstClosed book r)) (λ x y e. cc)
+      (never-refused (firstClosed book r))
+      (append-bounded (bookTests book ++ ruleTests book r) (forbidTests (ruleAt book r))
       (append-bounded (bookTests book) (ruleTests book r) (book-bounded book)
       (λ e. last-bounded _ _ _ (omega arith) (omega arith) (omega arith)))
       (λ e. last-bounded _ _ _ (omega arith) (omega arith) (omega arith)))

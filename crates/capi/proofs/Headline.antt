@@ -1,5 +1,6 @@
--- What the numbers of pspec_judge and pspec_idle say: the demands, over the packed answer. Assumes nothing.
-use Prim.Native.Nat.{ℕ, _+_, _*_, _/_, _%_, _≤_, _<_}
+-- What the numbers of pspec_judge, pspec_idle and pspec_blocked say: the demands, over the packed answer. Assumes
+-- nothing.
+use Prim.Native.Nat.{ℕ, _+_, _*_, _/_, _%_, _≤_}
 use native.Mathlib.Omega.{arith}
 use mathlib.Core.Path.{_≡_, refl, sym, subst, _∙_}
 use mathlib.Core.List.{List}
@@ -22,10 +23,17 @@ use Rattle.search.specs.declared.Idleness.{Idleness}
 use Rattle.search.specs.declared.Idleness.the-variants as idleness
 use Rattle.search.proofs.DemandLaws.{demand, idle-answer}
 use Rattle.search.proofs.IdleLaws.{idle-accepted, idle-refused, idle-told}
-use Rattle.capi.specs.Packing.{packed, refusalPacked, judgePacked, idlePacked}
-use Rattle.capi.specs.Demands.{JudgeSays, IdleSays}
-use Rattle.capi.proofs.Bounds.{Small, judge-small, idle-small, no-refusal}
-use Rattle.capi.proofs.Unpacking.{judge-mask, idle-parts}
+use Rattle.blocked.specs.Associations.{Pair}
+use Rattle.blocked.specs.Open.{firstClosed}
+use Rattle.blocked.specs.Answers.{closedAnswer, blockedAnswer}
+use Rattle.blocked.specs.Demand.{BlockedAccepted}
+use Rattle.blocked.specs.declared.Blocking.{Blocking}
+use Rattle.blocked.specs.declared.Blocking.the-variants as blocking
+use Rattle.blocked.proofs.DemandLaws as blocked
+use Rattle.capi.specs.Packing.{packed, refusalPacked, judgePacked, idlePacked, blockedPacked}
+use Rattle.capi.specs.Demands.{JudgeSays, IdleSays, BlockedParts, BlockedSays}
+use Rattle.capi.proofs.Bounds.{Small, judge-small, idle-small, blocked-small, no-refusal, never-refused}
+use Rattle.capi.proofs.Unpacking.{Bytes, judge-mask, idle-parts, blocked-bytes}
 
 -- a refusal's number is past every value
 refusal-past : (x : Refusal) → Small x → 4294967296 ≤ refusalPacked x
@@ -146,3 +154,84 @@ pub idle-promised :
     × (after ≡ idleBuffer book r before)
     × IdleSays book r before after answer
 idle-promised book r before after answer e b = (e, b, rw b (idle-says book r before answer e))
+
+-- Blocked
+
+-- the number of a user and three bytes goes apart into these, and into no others
+module _ (answer user first second third : ℕ) (e : answer ≡ 16777216 * user + first + 256 * second + 65536 * third)
+    (b : Bytes user first second third) where
+  apart :
+      (answer / 16777216 ≡ user)
+      × (answer % 256 ≡ first)
+      × (answer / 256 % 256 ≡ second)
+      × (answer / 65536 % 256 ≡ third)
+  apart = (omega arith, omega arith, omega arith, omega arith)
+
+  parts-of : (p : Pair) → blocking.Closed user first second third ≡ closedAnswer p → BlockedParts answer p
+  unfolding closedAnswer
+  parts-of p k =
+      record { user = apart .0 ∙ cc; first = apart .1 ∙ cc; second = apart .2 ∙ cc; third = apart .3 ∙ cc }
+
+  of-parts : (p : Pair) → BlockedParts answer p → blocking.Closed user first second third ≡ closedAnswer p
+  unfolding closedAnswer
+  of-parts p parts =
+      rw (
+        sym (apart .0) ∙ parts .user,
+        sym (apart .1) ∙ parts .first,
+        sym (apart .2) ∙ parts .second,
+        sym (apart .3) ∙ parts .third,
+      )
+
+module _ (book : List ℕ) (r : ℕ) where
+  tells : BlockedAccepted book r → (x : Refusal) → blockedAnswer book r ≡ blocking.Refused x → ⊥
+  tells given x h =
+      never-refused (firstClosed book r) x
+      (sym (blocked.blocked-answer book r (blocked.blocked-passes book r given)) ∙ h)
+
+  pub blocked-says : (answer : ℕ) → answer ≡ blockedPacked (blockedAnswer book r) → BlockedSays book r answer
+  unfolding blockedPacked packed
+  blocked-says answer same = go (blockedAnswer book r) refl
+    where
+      go : (a : Blocking) → blockedAnswer book r ≡ a → BlockedSays book r answer
+      go blocking.Open h =
+          let e : answer ≡ 0 = same ∙ rw h (omega arith) in
+          let given =
+          blocked.blocked-told book r (λ x f. let k = sym h ∙ f in let z : _≡_ {A = ℕ} 0 1 = cc in omega arith) in
+          record {
+            accepted = λ l. given;
+            accepts = λ g. omega arith;
+            zero-none = λ z. blocked.demand book r given .open-none h;
+            none-zero = λ g n. e;
+            shows = λ some low. absurd (omega arith);
+            named = λ p within parts some low. absurd (omega arith);
+          }
+      go (blocking.Closed user first second third) h =
+          let e : answer ≡ 16777216 * user + first + 256 * second + 65536 * third = same ∙ rw h (omega arith) in
+          let given =
+          blocked.blocked-told book r (λ x f. let k = sym h ∙ f in let z : _≡_ {A = ℕ} 0 1 = cc in omega arith) in
+          let holds = blocked.demand book r given in
+          let b = blocked-bytes book r user first second third h in
+          let closed : blockedAnswer book r ≡ blocking.Open → ⊥ =
+          λ f. let k = sym h ∙ f in let z : _≡_ {A = ℕ} 0 1 = cc in omega arith in
+          let told = holds .otherwise closed in
+          record {
+            accepted = λ l. given;
+            accepts = λ g. omega arith;
+            zero-none = λ z. absurd (omega arith);
+            none-zero = λ g n. absurd (closed (holds .none-open n));
+            shows = λ some low.
+                (told .0, parts-of answer user first second third e b (told .0) (sym h ∙ told .1), told .2);
+            named = λ p within parts some low.
+                holds .named p within (h ∙ of-parts answer user first second third e b p parts);
+          }
+      go (blocking.Refused x) h =
+          let e : answer ≡ refusalPacked x = same ∙ rw h in
+          let past = refusal-past x (blocked-small book r x h) in
+          record {
+            accepted = λ l. absurd (omega arith);
+            accepts = λ g. absurd (tells g x h);
+            zero-none = λ z. absurd (omega arith);
+            none-zero = λ g n. absurd (tells g x h);
+            shows = λ some low. absurd (omega arith);
+            named = λ p within parts some low. absurd (omega arith);
+          }

@@ -19,9 +19,13 @@ use Rattle.verdicts.specs.declared.Judged.the-variants as judged
 use Rattle.search.specs.Answers.{idleAnswer}
 use Rattle.search.specs.declared.Idleness.{Idleness}
 use Rattle.search.specs.declared.Idleness.the-variants as idleness
+use Rattle.blocked.specs.Answers.{blockedAnswer}
+use Rattle.blocked.specs.declared.Blocking.{Blocking}
+use Rattle.blocked.specs.declared.Blocking.the-variants as blocking
 use Rattle.capi.specs.Packing.{packed, refusalPacked, checkPacked, sealPacked, flowsPacked, judgePacked}
-use Rattle.capi.specs.Packing.{idlePacked}
+use Rattle.capi.specs.Packing.{idlePacked, blockedPacked}
 use Rattle.capi.proofs.Bounds.{Small, check-small, seal-small, flows-small, judge-small, idle-small}
+use Rattle.capi.proofs.Bounds.{blocked-small}
 
 -- below 256 a number is its last byte
 pub refusal-packed :
@@ -91,3 +95,20 @@ module _ (book : List ℕ) (rule : ℕ) (buffer : List ℕ) (a : Idleness) (same
       (user rows : ℕ) → a ≡ idleness.Needed user rows → 256 * user + rows ≡ idlePacked (idleAnswer book rule buffer)
   unfolding idlePacked packed
   idle-needed user rows e = rw (sym same ∙ e) (omega arith)
+
+module _ (book : List ℕ) (rule : ℕ) (a : Blocking) (same : a ≡ blockedAnswer book rule) where
+  pub blocked-refused :
+      (x : Refusal) (r : ℕ) → a ≡ blocking.Refused x → Packs r x → r ≡ blockedPacked (blockedAnswer book rule)
+  unfolding blockedPacked
+  blocked-refused x r e p = let h = sym same ∙ e in rw h (small-packs r x (blocked-small book rule x h) p)
+
+  pub blocked-open : a ≡ blocking.Open → 0 ≡ blockedPacked (blockedAnswer book rule)
+  unfolding blockedPacked packed
+  blocked-open e = rw (sym same ∙ e) (omega arith)
+
+  pub blocked-closed :
+      (user first second third : ℕ)
+      → a ≡ blocking.Closed user first second third
+      → 16777216 * user + first + 256 * second + 65536 * third ≡ blockedPacked (blockedAnswer book rule)
+  unfolding blockedPacked packed
+  blocked-closed user first second third e = rw (sym same ∙ e) (omega arith)

@@ -10,7 +10,7 @@ use lib.ListN.{length, length-append}
 use lib.Dec.{eqb}
 use lib.Pow.{pow-mono}
 use Rattle.book.specs.Blocks.{headOf, ruleAt, ruleCount}
-use Rattle.book.specs.Head.{userCount}
+use Rattle.book.specs.Head.{dataCount, userCount}
 use Rattle.book.specs.Rule.{referenceCount}
 use Rattle.book.specs.Answers.{checkAnswer, sealAnswer}
 use Rattle.book.specs.declared.Refusal.{Refusal}
@@ -18,6 +18,7 @@ use Rattle.book.specs.declared.Checked.the-variants as checked
 use Rattle.book.specs.declared.Sealed.the-variants as sealed
 use Rattle.book.proofs.Accepted.{accepted-head, accepted-length, accepted-rule}
 use Rattle.book.proofs.CheckLaws.{accepted-passes}
+use Rattle.book.proofs.Lists.{and-both}
 use Rattle.lineage.specs.Rows.{rowCount}
 use Rattle.lineage.specs.Answers.{flowsAnswer}
 use Rattle.lineage.specs.declared.Flowed.the-variants as flowed
@@ -39,9 +40,16 @@ use Rattle.search.proofs.DemandLaws.{idle-answer}
 use Rattle.search.proofs.IdleLaws.{idle-told}
 use Rattle.search.proofs.Orders.{shown-alone, user-below}
 use Rattle.search.proofs.ShownPlans.{shown-few}
+use Rattle.blocked.specs.Associations.{Datum, Pair, inScopeAt, isAssociation, isAssociationFrom}
+use Rattle.blocked.specs.Answers.{datumByte, closedAnswer, blockedAnswer}
+use Rattle.blocked.specs.Demand.{InScope}
+use Rattle.blocked.specs.declared.Blocking.the-variants as blocking
+use Rattle.blocked.proofs.DemandLaws.{blocked-told, demand}
+use Rattle.blocked.proofs.ScopeLaws.{covers-user, datum-bounds}
 use Rattle.capi.specs.Packing.{packed, refusalPacked, checkPacked, sealPacked, flowsPacked, judgePacked}
-use Rattle.capi.specs.Packing.{idlePacked}
+use Rattle.capi.specs.Packing.{idlePacked, blockedPacked}
 use Rattle.capi.proofs.Bounds.{Small, check-small, seal-small, flows-small, judge-small, idle-small}
+use Rattle.capi.proofs.Bounds.{blocked-small}
 
 -- what is taken out of r: the bits from 40 on, the 8 bits from 32 on, the low 32 bits
 pub record Parts (r number place value : ℕ) : Type 0 where
@@ -96,6 +104,13 @@ module _ (x : Refusal) where
       → Refuses (idlePacked (idleAnswer book r buffer)) x
   unfolding idlePacked
   idle-refused-parts book r buffer h = rw h (refusal-parts x (idle-small book r buffer x h))
+
+  pub blocked-refused-parts :
+      (book : List ℕ) (r : ℕ)
+      → blockedAnswer book r ≡ blocking.Refused x
+      → Refuses (blockedPacked (blockedAnswer book r)) x
+  unfolding blockedPacked
+  blocked-refused-parts book r h = rw h (refusal-parts x (blocked-small book r x h))
 
 -- Book check: the number of rules
 
@@ -192,3 +207,81 @@ idle-parts book r buffer user rows h =
         let some = rows-some (headOf book) (ruleAt book r) (c .choice) (rule .references-some) (s .1) in
         let few = shown-few (headOf book) (ruleAt book r) head (rule .references-most) (c .choice) (s .1) in
         (omega arith, omega arith, omega arith)
+
+-- Blocked: the user is small, each byte is one, and the first is not 0, so that r is not open's 0
+
+module _ (head rule : List ℕ) (most : dataCount head ≤ 64) where
+  bytes-small :
+      (n i : ℕ) (a : List Datum) → isAssociationFrom head rule n i a ≡ true → (j : ℕ) → datumByte a j < 256
+  unfolding isAssociationFrom datumByte
+  bytes-small n i [] h j = omega arith
+  bytes-small zero i (x ∷ a) h j = absurd (false≢true h)
+  bytes-small (suc n) i (x ∷ a) h zero =
+      let b = and-both (inScopeAt head rule i x) (isAssociationFrom head rule n (suc i) a) h in
+      let bounds = datum-bounds head rule i x (b .0) in
+      omega arith
+  bytes-small (suc n) i (x ∷ a) h (suc j) =
+      bytes-small n (suc i) a (and-both (inScopeAt head rule i x) (isAssociationFrom head rule n (suc i) a) h .1) j
+
+first-some :
+    (head rule : List ℕ) (n : ℕ) (a : List Datum)
+    → 1 ≤ n
+    → isAssociationFrom head rule n 0 a ≡ true
+    → 128 ≤ datumByte a 0
+unfolding isAssociationFrom datumByte
+first-some head rule zero a l h = absurd (omega arith)
+first-some head rule (suc n) [] l h = absurd (false≢true h)
+first-some head rule (suc n) (x ∷ a) l h = omega arith
+
+-- a user and three bytes that go apart again
+pub record Bytes (user first second third : ℕ) : Type 0 where
+  pub user-small : user < 32
+  pub first-there : 128 ≤ first
+  pub first-small : first < 256
+  pub second-small : second < 256
+  pub third-small : third < 256
+
+pub blocked-bytes :
+    (book : List ℕ) (r user first second third : ℕ)
+    → blockedAnswer book r ≡ blocking.Closed user first second third
+    → Bytes user first second third
+unfolding closedAnswer isAssociation
+blocked-bytes book r user first second third h =
+    let given = blocked-told book r (λ x e. let k = sym h ∙ e in let z : _≡_ {A = ℕ} 0 1 = cc in omega arith) in
+    let told =
+    demand book r given .otherwise (λ e. let k = sym h ∙ e in let z : _≡_ {A = ℕ} 0 1 = cc in omega arith) in
+    let p : Pair = told .0 in
+    let k : blocking.Closed user first second third ≡ closedAnswer p = sym h ∙ told .1 in
+    let within : InScope (headOf book) (ruleAt book r) p = told .2 .scope in
+    let rule = accepted-rule book (given .book-accepted) r (given .rule-there) in
+    let head = accepted-head book (given .book-accepted) in
+    let covered = covers-user (headOf book) (ruleAt book r) (p .user) (within .covered) in
+    let below = user-below (headOf book) (p .user) covered in
+    let most : userCount (headOf book) ≤ 32 = head .users-most in
+    let small =
+    bytes-small (headOf book) (ruleAt book r) (head .data-most) (referenceCount (ruleAt book r)) 0 (p .association)
+    (within .association) in
+    let some =
+    first-some (headOf book) (ruleAt book r) (referenceCount (ruleAt book r)) (p .association) (rule .references-some)
+    (within .association) in
+    let eu : user ≡ p .user = cc in
+    let ea : first ≡ datumByte (p .association) 0 = cc in
+    let eb : second ≡ datumByte (p .association) 1 = cc in
+    let ec : third ≡ datumByte (p .association) 2 = cc in
+    record {
+      user-small = omega arith;
+      first-there = rw ea some;
+      first-small = rw ea (small 0);
+      second-small = rw eb (small 1);
+      third-small = rw ec (small 2);
+    }
+
+pub blocked-parts :
+    (book : List ℕ) (r user first second third : ℕ)
+    → blockedAnswer book r ≡ blocking.Closed user first second third
+    → Parts (blockedPacked (blockedAnswer book r)) 0 0 (16777216 * user + first + 256 * second + 65536 * third)
+    × Bytes user first second third
+unfolding blockedPacked
+blocked-parts book r user first second third h =
+    let b = blocked-bytes book r user first second third h in
+    (rw h (packed-parts 0 0 (16777216 * user + first + 256 * second + 65536 * third) (omega arith) (omega arith)), b)

@@ -1,14 +1,17 @@
--- What the numbers of pspec_judge and pspec_idle say, for whoever calls the C library: demands 2 and 3 over the number
--- itself. A number from 2^32 on is a refusal; below it, it is the value. Assumes nothing.
+-- What the numbers of pspec_judge, pspec_idle and pspec_blocked say, for whoever calls the C library: demands 2 and 3
+-- and N1 over the number itself. A number from 2^32 on is a refusal; below it, it is the value. Assumes nothing.
 use Prim.Native.Nat.{ℕ, _/_, _%_, _≤_, _<_}
 use mathlib.Core.Path.{_≡_}
 use mathlib.Core.List.{List}
-use Rattle.book.specs.Blocks.{Book, headOf}
+use Rattle.book.specs.Blocks.{Book, headOf, ruleAt}
 use Rattle.lineage.specs.Rows.{Plan}
 use Rattle.verdicts.specs.Accesses.{accessesOf}
 use Rattle.verdicts.specs.Semantics.{SatisfiesPolicy}
 use Rattle.verdicts.specs.Demand.{JudgeAccepted, Demand2}
 use Rattle.search.specs.Demand.{IdleAccepted, NobodyAlone, ShownIn}
+use Rattle.blocked.specs.Associations.{Pair}
+use Rattle.blocked.specs.Answers.{datumByte}
+use Rattle.blocked.specs.Demand.{BlockedAccepted, InScope, ClosedFirst, NoneClosed}
 
 -- the least number that is a refusal
 abbrev pub refusals : ℕ
@@ -39,3 +42,29 @@ pub record IdleSays (book : Book) (r : ℕ) (before after : List ℕ) (answer : 
   -- otherwise the buffer is as it was
   pub zero-keeps : answer ≡ 0 → after ≡ before
   pub refused-keeps : refusals ≤ answer → after ≡ before
+
+-- the number taken apart: a user, and a byte for each of three references
+pub record BlockedParts (answer : ℕ) (p : Pair) : Type 0 where
+  pub user : answer / 16777216 ≡ p .user
+  pub first : answer % 256 ≡ datumByte (p .association) 0
+  pub second : answer / 256 % 256 ≡ datumByte (p .association) 1
+  pub third : answer / 65536 % 256 ≡ datumByte (p .association) 2
+
+-- pspec_blocked: the number is 0, or user × 2^24 + the bytes of the references
+pub record BlockedSays (book : Book) (r : ℕ) (answer : ℕ) : Type 0 where
+  -- nothing is refused exactly when the book is accepted, the rule is there and it has a restriction
+  pub accepted : answer < refusals → BlockedAccepted book r
+  pub accepts : BlockedAccepted book r → answer < refusals
+  -- 0: every user and association of the rule's scope can be opened
+  pub zero-none : answer ≡ 0 → NoneClosed book r
+  pub none-zero : BlockedAccepted book r → NoneClosed book r → answer ≡ 0
+  -- any other value: the first user and association that cannot
+  pub shows : 0 < answer → answer < refusals → (p : Pair) × BlockedParts answer p × ClosedFirst book r p
+  -- whoever reads the number as a user and an association of the scope has read that pair
+  pub named :
+      (p : Pair)
+      → InScope (headOf book) (ruleAt book r) p
+      → BlockedParts answer p
+      → 0 < answer
+      → answer < refusals
+      → ClosedFirst book r p

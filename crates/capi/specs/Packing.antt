@@ -12,6 +12,8 @@ use Rattle.verdicts.specs.declared.Judged.{Judged}
 use Rattle.verdicts.specs.declared.Judged.the-variants as judged
 use Rattle.search.specs.declared.Idleness.{Idleness}
 use Rattle.search.specs.declared.Idleness.the-variants as idleness
+use Rattle.blocked.specs.declared.Blocking.{Blocking}
+use Rattle.blocked.specs.declared.Blocking.the-variants as blocking
 
 unfoldable pub packed : ℕ → ℕ → ℕ → ℕ
 packed number place value = 1099511627776 * number + 4294967296 * place + value
@@ -44,3 +46,10 @@ unfoldable pub idlePacked : Idleness → ℕ
 idlePacked idleness.Idle = packed 0 0 0
 idlePacked (idleness.Needed user rows) = packed 0 0 (256 * user + rows)
 idlePacked (idleness.Refused refusal) = refusalPacked refusal
+
+-- Blocked: 0 when open, else user × 2^24 and the references' bytes, the first lowest
+unfoldable pub blockedPacked : Blocking → ℕ
+blockedPacked blocking.Open = packed 0 0 0
+blockedPacked (blocking.Closed user first second third) =
+    packed 0 0 (16777216 * user + first + 256 * second + 65536 * third)
+blockedPacked (blocking.Refused refusal) = refusalPacked refusal

@@ -1,6 +1,9 @@
-// The five calls for C and Rust, each answer packed in one number (specs/Packing.antt). What the
-// numbers of Judge and Idle mean is specs/Demands.antt. A slice is a pointer and a length in elements.
+// The six calls for C and Rust, each answer packed in one number (specs/Packing.antt). What the
+// numbers of Judge, Idle and Blocked mean is specs/Demands.antt. A slice is a pointer and a length in
+// elements.
 // No call asks anything of the bytes or the numbers it is given.
+use blocked::Blocking;
+use blocked::blocked;
 use book::Checked;
 use book::Refusal;
 use book::Sealed;
@@ -18,9 +21,10 @@ ghost use Rattle.book.specs.Answers.{checkAnswer, sealAnswer, sealBytes};
 ghost use Rattle.lineage.specs.Answers.{flowsAnswer, flowsWords};
 ghost use Rattle.verdicts.specs.Answers.{judgeAnswer};
 ghost use Rattle.search.specs.Answers.{idleAnswer, idleBuffer};
-ghost use Rattle.capi.specs.Demands.{IdleSays, JudgeSays};
-ghost use Rattle.capi.specs.Packing.{checkPacked, flowsPacked, idlePacked, judgePacked, refusalPacked};
-ghost use Rattle.capi.specs.Packing.{sealPacked};
+ghost use Rattle.blocked.specs.Answers.{blockedAnswer};
+ghost use Rattle.capi.specs.Demands.{BlockedSays, IdleSays, JudgeSays};
+ghost use Rattle.capi.specs.Packing.{blockedPacked, checkPacked, flowsPacked, idlePacked, judgePacked};
+ghost use Rattle.capi.specs.Packing.{refusalPacked, sealPacked};
 
 // A refusal's number and place, above the value's 32 bits.
 fn packed(refusal: Refusal) -> u64
@@ -87,5 +91,25 @@ pub extern "C" fn pspec_idle(book: &[u8], rule: u32, buffer: &mut [u8]) -> u64
         Idleness::Refused(refusal) => packed(refusal),
         Idleness::Idle => 0,
         Idleness::Needed { user, rows } => 256 * (user as u64) + rows as u64,
+    }
+}
+
+#[no_mangle]
+pub extern "C" fn pspec_blocked(book: &[u8], rule: u32) -> u64
+    ensures { λ r. ⌜ (r ≡ blockedPacked (blockedAnswer (now (book .entry)) rule))
+        × BlockedSays (now (book .entry)) rule r ⌝ }
+{
+    match blocked(book, rule) {
+        Blocking::Refused(refusal) => packed(refusal),
+        Blocking::Open => 0,
+        Blocking::Closed {
+            user,
+            first,
+            second,
+            third,
+        } => 16777216 * (user as u64)
+            + first as u64
+            + 256 * (second as u64)
+            + 65536 * (third as u64),
     }
 }

@@ -1,6 +1,5 @@
 -- Laws of breaking a rule alone: an accepted plan that does has a choice that does, by the same user. Assumes nothing.
 use Prim.Native.Nat.{ℕ, _<_}
-use native.Mathlib.Omega.{arith}
 use mathlib.Core.Path.{_≡_, refl, sym, ap, _∙_}
 use mathlib.Core.Logic.{⊎-elim}
 use mathlib.Core.Bool.{Bool, true, false, _&&_, _||_, not, false≢true}
@@ -18,10 +17,10 @@ use Rattle.lineage.specs.Rows.{kindAt, rowA, rowCount}
 use Rattle.lineage.specs.Paths.{labels, takes}
 use Rattle.lineage.specs.Accesses.{gives, isAccess, reaches}
 use Rattle.lineage.proofs.Accepted.{Had, PlanHolds, Taken, accepted-plan, reaches-had}
-use Rattle.verdicts.specs.Accesses.{Access, Accesses, accessesOf, fitting, same}
+use Rattle.verdicts.specs.Accesses.{Access, Accesses, accessesOf, fitting, members, same}
 use Rattle.verdicts.specs.Breaking.{breaks, choicesFrom, operations, refusesAll, someChoiceRefused}
 use Rattle.verdicts.proofs.Accesses.{same-equal, same-self}
-use Rattle.verdicts.proofs.Monotone.{breaks-monotone, refused-same}
+use Rattle.verdicts.proofs.Monotone.{breaks-monotone, breaks-same}
 use Rattle.verdicts.proofs.Quantifiers.{any-at, at-any}
 use Rattle.search.specs.Obtainable.{canBeHad, labelled, operated}
 use Rattle.search.specs.Choices.{isChoice, isChoiceFrom}
@@ -67,10 +66,6 @@ module _ (head : List ℕ) where
       (reaches head plan (rowA plan (w .0)) (x .leaf) (x .operation)) (w .1)))
 
 -- A choice and a rule
-
--- the accesses of a choice
-abbrev pub members : List Access → Accesses
-members c x = any (same x) c
 
 pub members-within : (c : List Access) (D : Accesses) → all D c ≡ true → (x : Access) → members c x ≡ true → D x ≡ true
 members-within c D h x m =
@@ -155,9 +150,7 @@ module _ (book : List ℕ) (r user : ℕ) (D : Accesses) where
   unfolding breaksAlone breaks spared
   alone-same E e =
       let agree : (q : ℕ) → breaks (headOf book) (ruleAt book q) user D ≡ breaks (headOf book) (ruleAt book q) user E =
-      λ q.
-      ap (λ (b : Bool). coversUser (headOf book) (ruleAt book q) user && b)
-      (refused-same (headOf book) (ruleAt book q) D E (λ x k. e x)) in
+      λ q. breaks-same (headOf book) (ruleAt book q) user D E e in
       rw (agree r)
       (ap (λ (b : Bool). breaks (headOf book) (ruleAt book r) user E && b)
       (all-same spared (λ q. eqb q r || not (breaks (headOf book) (ruleAt book q) user E))

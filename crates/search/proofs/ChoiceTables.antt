@@ -14,7 +14,7 @@ use Rattle.book.specs.Blocks.{headOf, ruleAt}
 use Rattle.book.specs.Rule.{referenceCount, restrictionCount, restrictionMask}
 use Rattle.book.proofs.Accepted.{HeadHolds}
 use Rattle.book.proofs.Lists.{and-both, and-end, and-false, any-from-same, any-same, or-rest, same-test}
-use Rattle.verdicts.specs.Accesses.{Access, fits, same}
+use Rattle.verdicts.specs.Accesses.{Access, fits, members, same}
 use Rattle.verdicts.specs.Inner.Words.{RuleSound, maskTakes}
 use Rattle.verdicts.specs.Breaking.{operations, refusesAll, someChoiceRefused}
 use Rattle.verdicts.proofs.Choices.{onThree, refuses-padded, refusesThree}
@@ -28,7 +28,7 @@ use Rattle.search.specs.Inner.Closing.{acceptedAt}
 use Rattle.search.specs.Inner.Search.{candidate, referenceAt, refuses}
 use Rattle.search.proofs.Rising.{all-member, member-all, member-any}
 use Rattle.search.proofs.Orders.{choice-had}
-use Rattle.search.proofs.AloneLaws.{members, members-within, own-refused, refused-choice}
+use Rattle.search.proofs.AloneLaws.{members-within, own-refused, refused-choice}
 use Rattle.search.proofs.ChoicePlaces.{Stand, choice-one, choice-three, choice-two, stand-one, stand-two}
 use Rattle.search.proofs.ChoicePlaces.{stands, standsAt}
 

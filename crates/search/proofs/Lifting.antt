@@ -18,7 +18,7 @@ use Rattle.book.specs.Rule.{coversUser, excludedUsers, referenceCount, userCate
 use Rattle.book.specs.Refusals.{BookAccepted}
 use Rattle.book.proofs.Accepted.{RuleHolds, accepted-head, accepted-rule}
 use Rattle.book.proofs.Lists.{all-same, and-assoc, and-both, and-left, any-from-same, not-any, or-either}
-use Rattle.verdicts.specs.Accesses.{Access}
+use Rattle.verdicts.specs.Accesses.{Access, members}
 use Rattle.verdicts.specs.Inner.Words.{RuleSound}
 use Rattle.verdicts.specs.Breaking.{breaks, someChoiceRefused}
 use Rattle.verdicts.proofs.Accesses.{leaf-set-below, Apart}
@@ -33,7 +33,7 @@ use Rattle.search.specs.Inner.First.{FirstNeeds, foundOf}
 use Rattle.search.specs.declared.users.Needs.{Needs}
 use Rattle.search.specs.declared.users.Needs.the-variants.{Nobody, User}
 use Rattle.search.proofs.Orders as orders
-use Rattle.search.proofs.AloneLaws.{candidate-members, members}
+use Rattle.search.proofs.AloneLaws.{candidate-members}
 use Rattle.search.proofs.Placements.{drops-refused}
 use Rattle.search.proofs.ChoicePlaces.{Stand, before-triple, choice-places, places-choice}
 use Rattle.search.proofs.ChoicePlaces.{stands-most}

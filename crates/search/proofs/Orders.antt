@@ -2,7 +2,7 @@
 -- Assumes nothing.
 use Prim.Native.Nat.{ℕ, zero, suc, _≤_, _<_}
 use native.Mathlib.Omega.{arith}
-use mathlib.Core.Path.{_≡_, refl, _∙_}
+use mathlib.Core.Path.{_≡_, refl}
 use mathlib.Core.Logic.{_⊎_}
 use mathlib.Core.Bool.{Bool, true, false, _&&_, _||_, not, false≢true}
 use mathlib.Core.List.{List, [], _∷_, map, List·Memᴰ, List·Memᴰ·head, Memᴰ·cast, Memᴰ·map}
@@ -19,14 +19,14 @@ use Rattle.book.proofs.Lists.{and-true, and-left, and-right, and-both, or-true,
 use Rattle.verdicts.specs.Accesses.{Access, Accesses, everyAccess, fits, fitting, keep, same}
 use Rattle.verdicts.specs.Breaking.{choicesFrom}
 use Rattle.verdicts.proofs.Accesses.{access, in-fitting, same-equal, same-self}
-use Rattle.verdicts.proofs.Quantifiers.{any-at, any-keep, at-any, flat-all}
+use Rattle.verdicts.proofs.Quantifiers.{any-at, flat-all}
 use Rattle.search.specs.Obtainable.{canBeHad, labelled, operated}
 use Rattle.search.specs.Choices.{Candidate, accessBefore, candidateBefore, candidates, choiceBefore, choicesOf}
 use Rattle.search.specs.Choices.{isChoice, isChoiceFrom}
 use Rattle.search.specs.Alone.{none, shown, candidateAlone, firstAlone}
 use Rattle.search.proofs.Rising.{all-member, any-member, first-nothing, first-something, flat-every}
-use Rattle.search.proofs.Rising.{flat-member, keep-passes, map-every, none-first, rising, rising-flat}
-use Rattle.search.proofs.Rising.{rising-keep, rising-map, shown-first, upTo-rising}
+use Rattle.search.proofs.Rising.{flat-member, keep-member, keep-passes, map-every, none-first, rising, rising-flat}
+use Rattle.search.proofs.Rising.{rising-keep, rising-map, shown-first, upTo-member, upTo-rising}
 
 -- The orders
 
@@ -110,22 +110,26 @@ accesses-rising head =
     (upTo (dataCount head)) (upTo-rising (dataCount head)))
     (upTo 2) (upTo-rising 2)
 
-pub choices-rising :
-    (n i : ℕ) (lists : ℕ → List Access)
-    → ((j : ℕ) → rising accessBefore (lists j) ≡ true)
-    → rising choiceBefore (choicesFrom n i lists) ≡ true
-unfolding choicesFrom rising all
-choices-rising zero i lists h = refl
-choices-rising (suc n) i lists h =
-    rising-flat choiceBefore accessBefore (λ x. map (λ c. x ∷ c) (choicesFrom n (suc i) lists))
-    (λ x y l.
-    map-every (λ a. all (choiceBefore a) (map (λ d. y ∷ d) (choicesFrom n (suc i) lists))) (λ c. x ∷ c)
-    (λ c. map-every (choiceBefore (x ∷ c)) (λ d. y ∷ d) (λ d. before-first x y c d l) (choicesFrom n (suc i) lists))
-    (choicesFrom n (suc i) lists))
-    (λ x.
-    rising-map choiceBefore choiceBefore (λ c. x ∷ c) (before-rest x) (choicesFrom n (suc i) lists)
-    (choices-rising n (suc i) lists h))
-    (lists i) (h i)
+-- choices from rising lists rise, where the first part that differs decides
+module _ {A : Type 0} (before : A → A → Bool) (later : List A → List A → Bool)
+    (first : (x y : A) (c d : List A) → before x y ≡ true → later (x ∷ c) (y ∷ d) ≡ true)
+    (rest : (x : A) (c d : List A) → later c d ≡ true → later (x ∷ c) (x ∷ d) ≡ true) where
+  pub choices-rising :
+      (n i : ℕ) (lists : ℕ → List A)
+      → ((j : ℕ) → rising before (lists j) ≡ true)
+      → rising later (choicesFrom n i lists) ≡ true
+  unfolding choicesFrom rising all
+  choices-rising zero i lists h = refl
+  choices-rising (suc n) i lists h =
+      rising-flat later before (λ x. map (λ c. x ∷ c) (choicesFrom n (suc i) lists))
+      (λ x y l.
+      map-every (λ a. all (later a) (map (λ d. y ∷ d) (choicesFrom n (suc i) lists))) (λ c. x ∷ c)
+      (λ c. map-every (later (x ∷ c)) (λ d. y ∷ d) (λ d. first x y c d l) (choicesFrom n (suc i) lists))
+      (choicesFrom n (suc i) lists))
+      (λ x.
+      rising-map later later (λ c. x ∷ c) (rest x) (choicesFrom n (suc i) lists)
+      (choices-rising n (suc i) lists h))
+      (lists i) (h i)
 
 module _ (head rule : List ℕ) where
   pub candidates-rising : rising candidateBefore (candidates head rule) ≡ true
@@ -138,7 +142,8 @@ module _ (head rule : List ℕ) where
       (choicesOf head rule))
       (λ u.
       rising-map candidateBefore choiceBefore (candidate u) (λ c d. before-choice c d u) (choicesOf head rule)
-      (choices-rising (referenceCount rule) 0 (fitting head rule (canBeHad head))
+      (choices-rising accessBefore choiceBefore before-first before-rest (referenceCount rule) 0
+      (fitting head rule (canBeHad head))
       (λ i.
       rising-keep accessBefore (λ x. canBeHad head x && fits head rule i x) (everyAccess head) (accesses-rising head))))
       (keep (isUser head) (upTo (userCount head)))
@@ -265,13 +270,9 @@ module _ (head rule : List ℕ) (holds : HeadHolds head) where
       → List·Memᴰ c (candidates head rule)
   unfolding candidates choicesOf isChoice
   candidate-in c u h =
-      let found =
-      any-member (eqb (c .user)) (keep (isUser head) (upTo (userCount head)))
-      (any-keep (eqb (c .user)) (isUser head) (upTo (userCount head))
-      ∙ at-any (λ v. isUser head v && eqb (c .user) v) (userCount head) (c .user) (user-below head (c .user) u)
-      (and-true (isUser head (c .user)) (eqb (c .user) (c .user)) u (eq-eqb (c .user) (c .user) refl))) in
       flat-member (λ v. map (candidate v) (choicesOf head rule)) (keep (isUser head) (upTo (userCount head))) (c .user) c
-      (Memᴰ·cast (eqb-true (c .user) (found .0) (found .2)) (found .1))
+      (keep-member (isUser head) (upTo (userCount head)) (c .user)
+      (upTo-member (userCount head) (c .user) (user-below head (c .user) u)) u)
       (Memᴰ·map (candidate (c .user))
       (choice-in head rule holds (canBeHad head) (referenceCount rule) 0 (c .choice) h
       (choice-had head rule (referenceCount rule) 0 (c .choice) h)))

@@ -12,7 +12,7 @@ use Rattle.book.specs.Blocks.{headOf, ruleAt}
 use Rattle.book.specs.Rule.{inLeafSet, action, referenceCount, restrictionCount, restrictionMask}
 use Rattle.book.proofs.Lists.{and-true, and-right, and-both, and-or, or-left, or-right, same-test}
 use Rattle.book.proofs.Lists.{any-same, any-append, any-from-same, any-one}
-use Rattle.verdicts.specs.Accesses.{Access, Accesses, actionFits, fits, same}
+use Rattle.verdicts.specs.Accesses.{Access, Accesses, actionFits, fits, members, same}
 use Rattle.verdicts.specs.Inner.Words.{RuleSound, beside, maskTakes, offersOrNone}
 use Rattle.verdicts.specs.Breaking.{someChoiceRefused}
 use Rattle.verdicts.proofs.Quantifiers.{any-at, at-any, any-below}
@@ -23,7 +23,6 @@ use Rattle.search.specs.Inner.Places.{accessAt, chosenAt, choiceAt, nowh
 use Rattle.search.specs.Inner.Table.{meets, takesAt, takesOperation, TableHolds}
 use Rattle.search.specs.Inner.Closing.{acceptedAt, closesAt, closesBy, closes}
 use Rattle.search.specs.Inner.Search.{drops}
-use Rattle.search.proofs.AloneLaws.{members}
 
 -- Tests in another order
 

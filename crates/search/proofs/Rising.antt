@@ -1,16 +1,17 @@
 -- Laws of lists in rising order, of their members, and of the first member that passes a test. Assumes nothing.
-use Prim.Native.Nat.{ℕ, zero, suc}
+use Prim.Native.Nat.{ℕ, zero, suc, _<_}
 use native.Mathlib.Omega.{arith}
 use mathlib.Core.Path.{_≡_, refl, sym, subst, _∙_}
 use mathlib.Core.Logic.{_⊎_, inl, inr, ⊎-elim}
 use mathlib.Core.Bool.{Bool, true, false, _&&_, _||_, false≢true}
 use mathlib.Core.List.{List, [], _∷_, _++_, map, List·Memᴰ, List·Memᴰ·head, List·Memᴰ·tail, List·Memᴰ·not-nil}
-use mathlib.Core.List.{List·Memᴰ·cases-cons, Memᴰ·append-left, Memᴰ·append-right}
-use lib.Dec.{ltb}
-use borrow.Author.Tests.{lt-ltb}
+use mathlib.Core.List.{List·Memᴰ·append-cases, List·Memᴰ·cases-cons, Memᴰ·append-left, Memᴰ·append-right, Memᴰ·cast}
+use lib.Dec.{eqb, ltb}
+use borrow.Author.Tests.{eqb-true, eq-eqb, lt-ltb}
 use Rattle.book.specs.Lists.{flat, all, any, from, upTo}
 use Rattle.book.proofs.Lists.{and-true, and-both, append-all, map-all, from-all, or-true}
 use Rattle.verdicts.specs.Accesses.{keep}
+use Rattle.verdicts.proofs.Quantifiers.{at-any}
 use Rattle.search.specs.Alone.{First, none, shown, firstIn}
 
 -- Tests of a whole list
@@ -121,6 +122,44 @@ flat-member g [] x y m n = absurd (List·Memᴰ·not-nil m)
 flat-member g (z ∷ l) x y m n =
     ⊎-elim (λ (e : x ≡ z). Memᴰ·append-left (flat g l) (rw e at n))
     (λ (k : List·Memᴰ x l). Memᴰ·append-right (g z) (flat-member g l x y k n)) (List·Memᴰ·cases-cons m)
+
+-- the list that a member of several lists joined comes from
+pub flat-from :
+    {A B : Type 0} (g : B → List A) (l : List B) (y : A)
+    → List·Memᴰ y (flat g l)
+    → (x : B) × List·Memᴰ x l × List·Memᴰ y (g x)
+unfolding flat
+flat-from g [] y m = absurd (List·Memᴰ·not-nil m)
+flat-from g (z ∷ l) y m =
+    ⊎-elim (λ (n : List·Memᴰ y (g z)). (z, List·Memᴰ·head refl, n))
+    (λ (n : List·Memᴰ y (flat g l)).
+    let found = flat-from g l y n in
+    (found .0, List·Memᴰ·tail (found .1), found .2))
+    (List·Memᴰ·append-cases (g z) m)
+
+pub upTo-member : (n j : ℕ) → j < n → List·Memᴰ j (upTo n)
+upTo-member n j l =
+    let found = any-member (eqb j) (upTo n) (at-any (eqb j) n j l (eq-eqb j j refl)) in
+    Memᴰ·cast (eqb-true j (found .0) (found .2)) (found .1)
+
+-- what passes is kept
+pub keep-member :
+    {A : Type 0} (f : A → Bool) (l : List A) (x : A) → List·Memᴰ x l → f x ≡ true → List·Memᴰ x (keep f l)
+unfolding keep
+keep-member f [] x m h = absurd (List·Memᴰ·not-nil m)
+keep-member {A} f (y ∷ l) x m h =
+    go (f y) refl (List·Memᴰ·cases-cons m) (λ n. keep-member f l x n h)
+  where
+    go :
+        (b : Bool)
+        → f y ≡ b
+        → (x ≡ y) ⊎ List·Memᴰ x l
+        → (List·Memᴰ x l → List·Memᴰ x (keep f l))
+        → List·Memᴰ x (elim b as (λ t. List A) [ true ↦ y ∷ keep f l | false ↦ keep f l ])
+    go true e (inl q) more = List·Memᴰ·head q
+    go true e (inr n) more = List·Memᴰ·tail (more n)
+    go false e (inl q) more = absurd (false≢true (sym e ∙ (rw q at h)))
+    go false e (inr n) more = more n
 
 -- Rising order
 

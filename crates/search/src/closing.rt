@@ -24,7 +24,7 @@ pub fn meets(t: &[u64], q: u8, i: u8, p: usize) -> bool
 }
 
 // The operations that restriction j of rule q takes at reference i.
-fn taken_word(t: &[u64], q: u8, i: u8, j: u8) -> u64
+pub fn taken_word(t: &[u64], q: u8, i: u8, j: u8) -> u64
     ensures { λ r. ⌜ r ≡ getD (now (t .entry)) (128 * q + 99 + 8 * i + j) 0 ⌝ }
 {
     word_at(t, 128 * (q as usize) + 99 + 8 * (i as usize) + j as usize)

@@ -33,7 +33,7 @@ pub enum Sought {
 }
 
 // The places that can be chosen for the reference that stands i-th.
-fn candidates(t: &[u64], r: u8, n: u8, had: [u64; 32], i: u8) -> [u64; 33]
+pub fn candidates(t: &[u64], r: u8, n: u8, had: [u64; 32], i: u8) -> [u64; 33]
     ensures { λ c. ⌜ PlacesOf (candidate (now (t .entry)) r n had i) c ⌝ }
 {
     let reference = reference_at(n, i);

@@ -23,7 +23,7 @@ ghost use Rattle.search.specs.Inner.Table.{FittingWords, ReferenceWords,
 ghost use Rattle.search.specs.Inner.Table.{TableHolds, CoveredWord, CoversHold};
 
 // The first four leaves of a set, each with every operation.
-fn spread(leaves: u64) -> u64
+pub fn spread(leaves: u64) -> u64
     ensures { λ r. ⌜ ((i : ℕ) → i < 64 → has r i ≡ has leaves (i / 16)) ⌝ }
 {
     four(

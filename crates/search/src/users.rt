@@ -29,7 +29,7 @@ pub enum Needs {
 const UNSETTLED: u64 = 18446744073709551615;
 
 // Whether rule q covers user u.
-fn covers(covered: [u64; 32], q: u8, u: u8) -> bool
+pub fn covers(covered: [u64; 32], q: u8, u: u8) -> bool
     ensures { λ r. ⌜ r ≡ coversIn covered q u ⌝ }
 {
     if q < 32 {

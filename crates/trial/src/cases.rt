@@ -4,6 +4,7 @@
 use crate::answers::Answer;
 use crate::answers::malformed;
 use crate::answers::say;
+use crate::blocking;
 use crate::books::build;
 use crate::checking;
 use crate::flowing;
@@ -28,6 +29,7 @@ pub enum Call {
     Flows,
     Judge,
     Idle,
+    Blocked,
     Readers,
 }
 
@@ -46,6 +48,7 @@ fn may_ask(call: Call, asked: Numbers) -> bool {
         Call::Flows => asked.within(0, 2),
         Call::Judge => asked.within(1, 3),
         Call::Idle => asked.within(1, 4),
+        Call::Blocked => asked.within(1, 2),
         Call::Readers => asked.within(1, 4),
     }
 }
@@ -56,6 +59,7 @@ fn answered(call: Call, asked: Numbers, book: &[u8], plan: &[u8]) -> Answer {
         Call::Flows => flowing::answered(asked, book, plan),
         Call::Judge => judging::answered(asked, book, plan),
         Call::Idle => idling::answered(asked, book),
+        Call::Blocked => blocking::answered(asked, book),
         _ => reading::answered(asked, book),
     }
 }

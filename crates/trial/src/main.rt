@@ -1,7 +1,8 @@
 // Tries the calls on books, blocks and plans of every kind. The cases are data, with the answers
-// that are worked out from document 01 beside them; a case that answers something else gets a line,
-// and each file one with its counts.
+// that are worked out from documents 01 and 02 beside them; a case that answers something else gets
+// a line, and each file one with its counts.
 mod answers; // answers as text
+mod blocking; // Blocked
 mod books; // building books to try
 mod cases; // a file's lines
 mod checking; // Book check
@@ -24,5 +25,6 @@ fn main() {
     try_file(Call::Flows, b"flows.cases");
     try_file(Call::Judge, b"judge.cases");
     try_file(Call::Idle, b"idle.cases");
+    try_file(Call::Blocked, b"blocked.cases");
     try_file(Call::Readers, b"readers.cases");
 }

@@ -1,7 +1,7 @@
 -- Laws of more accesses: what is offered, refused and broken stays so. Sets that agree on what a book has categories
 -- for are the same to a rule. Assumes nothing.
 use Prim.Native.Nat.{ℕ, zero, suc}
-use mathlib.Core.Path.{_≡_, sym, _∙_}
+use mathlib.Core.Path.{_≡_, sym, ap, _∙_}
 use mathlib.Core.Bool.{Bool, true, _&&_}
 use mathlib.Core.List.{List, _∷_}
 use Rattle.book.specs.Lists.{upTo}
@@ -65,6 +65,14 @@ refused-same head rule D E same =
     same-test (someChoiceRefused head rule D) (someChoiceRefused head rule E)
     (refused-wider head rule D E (λ x k h. sym (same x k) ∙ h))
     (refused-wider head rule E D (λ x k h. same x k ∙ h))
+
+pub breaks-same :
+    (head rule : List ℕ) (user : ℕ) (D E : Accesses)
+    → ((x : Access) → D x ≡ E x)
+    → breaks head rule user D ≡ breaks head rule user E
+unfolding breaks
+breaks-same head rule user D E same =
+    ap (λ (b : Bool). coversUser head rule user && b) (refused-same head rule D E (λ x k. same x))
 
 -- more accesses break what fewer broke
 module _ (head rule : List ℕ) (D E : Accesses) (more : (x : Access) → D x ≡ true → E x ≡ true) where

@@ -4,7 +4,7 @@ use mathlib.Core.Bool.{Bool, true, false, _&&_}
 use mathlib.Core.List.{List, [], _∷_, map}
 use lib.ListN.{getD}
 use lib.Dec.{eqb, ltb}
-use Rattle.book.specs.Lists.{flat, upTo}
+use Rattle.book.specs.Lists.{any, flat, upTo}
 use Rattle.book.specs.Blocks.{Head, Rule}
 use Rattle.book.specs.Sets.{has}
 use Rattle.book.specs.Head.{dataCount}
@@ -24,6 +24,10 @@ same x y = eqb (x .channel) (y .channel) && (eqb (x .leaf) (y .leaf) && eqb (x .
 -- a set of accesses
 abbrev pub Accesses : Type 0
 Accesses = Access → Bool
+
+-- the set of a list's accesses
+abbrev pub members : List Access → Accesses
+members l x = any (same x) l
 
 -- the accesses of a plan
 unfoldable pub accessesOf : Head → Plan → Accesses

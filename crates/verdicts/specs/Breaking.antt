@@ -11,8 +11,8 @@ use Rattle.book.specs.Rule.{coversUser, referenceCount, restrictionCount, restr
 use Rattle.lineage.specs.Accesses.{wordOf}
 use Rattle.verdicts.specs.Accesses.{Access, Accesses, fitting}
 
--- the choices of one access from each of n lists, list i first: in order, reference by reference
-unfoldable pub choicesFrom : ℕ → ℕ → (ℕ → List Access) → List (List Access)
+-- the choices of one element from each of n lists, list i first: in order, reference by reference
+unfoldable pub choicesFrom : {A : Type 0} → ℕ → ℕ → (ℕ → List A) → List (List A)
 choicesFrom zero i lists = [] ∷ []
 choicesFrom (suc n) i lists = flat (λ x. map (λ c. x ∷ c) (choicesFrom n (suc i) lists)) (lists i)
 

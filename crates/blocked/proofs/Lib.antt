@@ -1,0 +1,17 @@
+pub mod ScopeLaws
+pub mod OpenLaws
+pub mod Names
+pub mod DemandLaws
+pub mod Plans
+pub mod CellLaws
+pub mod MetLaws
+pub mod SliceLaws
+pub mod NarrowLaws
+pub mod OrderLaws
+pub mod RowLaws
+pub mod TripleLaws
+pub mod UserLaws
+pub mod AssociationLaws
+pub mod Lifting
+pub mod CallLaws
+pub mod Vectors

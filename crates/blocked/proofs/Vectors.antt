@@ -1,0 +1,167 @@
+-- Theorems about the definitions, by computation: what Blocked answers for each rule of the small shop, and of books
+-- near it. Assumes nothing.
+use Prim.Native.Nat.{ℕ}
+use mathlib.Core.Path.{_≡_, refl, _∙_}
+use mathlib.Core.List.{List, [], _∷_, _++_, map}
+use Rattle.book.specs.Lists.{all, any, flat, upTo, from}
+use Rattle.book.specs.Sets.{has}
+use Rattle.book.specs.Hierarchies.{upwardIn, upward, under, leaf, covers, properDescendant, ownedBy, support}
+use Rattle.book.specs.Hierarchies.{parentHolds}
+use Rattle.book.specs.Head.{isUser, isDataLeaf, supportOf, supports}
+use Rattle.book.specs.Rule.{coversUser, inLeafSet}
+use Rattle.book.specs.Blocks.{Book, ruleAt, weighted, checkSum, checkHolds}
+use Rattle.book.specs.Refusals.{between, zeros, lengthHolds, kindHolds, usersCounted, dataCounted, columnsCounted}
+use Rattle.book.specs.Refusals.{functionsCounted, ruleCounts, referenceEnd, ruleZeros, ruleCounted, usersOrdered}
+use Rattle.book.specs.Refusals.{dataOrdered, labelHolds, labelsHold, functionsHold, userNumbersHold}
+use Rattle.book.specs.Refusals.{referenceHolds, numbersHold, leafSetsApart, referencesApart, maskAllows}
+use Rattle.book.specs.Refusals.{maskHolds, masksHold, lengthTests, checkTests, kindTests}
+use Rattle.book.specs.Refusals.{usersBlockTests, dataBlockTests, columnsBlockTests, functionsBlockTests}
+use Rattle.book.specs.Refusals.{ruleBlockTests, blockTests, contentTests, blockByBlock, bookTests, sealTests}
+use Rattle.book.specs.Refusals.{BookAccepted}
+use Rattle.book.specs.Tests.{firstFailing, refusedOr, answered}
+use Rattle.book.specs.Answers.{withCheck, sealBytes}
+use Rattle.book.specs.Inner.Testing.{orElse}
+use Rattle.book.specs.Shop.{padded, block, users, categories, columns, functions, rule, rule0, rule1, rule2, shop}
+use Rattle.book.specs.declared.Tested.{Tested}
+use Rattle.book.specs.declared.Tested.the-variants.{Passed}
+use Rattle.book.proofs.Answers.{first-append}
+use Rattle.lineage.specs.Paths.{labels}
+use Rattle.verdicts.specs.Accesses.{same, keep, everyAccess, actionFits, fits, fitting}
+use Rattle.verdicts.specs.Breaking.{choicesFrom, operations, accepts, refusesAll, someChoiceRefused, breaks}
+use Rattle.search.specs.Obtainable.{labelled, operated, canBeHad}
+use Rattle.search.specs.Alone.{firstIn}
+use Rattle.search.specs.Answers.{ruleTests}
+use Rattle.blocked.specs.Associations.{accessTo, inScopeAt, everyDatum, associations, scope}
+use Rattle.blocked.specs.Open.{operationChoices, someBroken, isClosed, firstClosed}
+use Rattle.blocked.specs.Answers.{forbidTests, blockedTests, datumByte, closedAnswer, blockingOf, blockedAnswer}
+use Rattle.blocked.specs.declared.Blocking.{Blocking}
+use Rattle.blocked.specs.declared.Blocking.the-variants as blocking
+
+-- The rules
+
+-- "Report, access Price, [{sum}]"
+unfoldable pub sums : List ℕ
+sums = rule 1 1 (4 ∷ 3 ∷ []) [] [] (0 ∷ 4 ∷ [])
+
+-- Analyst, projection State, projection City, access Price, [none, none, {avg}]
+unfoldable pub three : List ℕ
+three = rule 3 0 (2 ∷ 1 ∷ []) (3 ∷ 1 ∷ []) (4 ∷ 3 ∷ []) (0 ∷ 0 ∷ 0 ∷ 0 ∷ 0 ∷ 2 ∷ [])
+
+-- a rule that forbids: references, user category, two references
+unfoldable pub forbids : ℕ → ℕ → List ℕ → List ℕ → List ℕ
+forbids n user first second = block (padded 16 (5 ∷ n ∷ user ∷ []) ++ (padded 16 first ++ second))
+
+-- The books
+
+-- a book with the shop's users and data, and other columns, functions and rules
+unfoldable pub near : List ℕ → List ℕ → List ℕ → List ℕ
+near labels operations rules = users ++ (categories ++ (block labels ++ (block operations ++ rules)))
+
+-- Marketing is forbidden conditions on Price
+unfoldable pub conditions : List ℕ
+conditions =
+    near (3 ∷ 4 ∷ 2 ∷ 3 ∷ 4 ∷ 255 ∷ []) (4 ∷ 3 ∷ 0 ∷ 1 ∷ 2 ∷ []) (three ++ forbids 1 2 (4 ∷ 2 ∷ []) [])
+
+-- Report is forbidden City and Price together
+unfoldable pub together : List ℕ
+together =
+    near (3 ∷ 4 ∷ 2 ∷ 3 ∷ 4 ∷ 255 ∷ []) (4 ∷ 3 ∷ 0 ∷ 1 ∷ 2 ∷ [])
+    (rule0 ++ (rule1 ++ forbids 2 1 (3 ∷ 1 ∷ []) (4 ∷ 1 ∷ [])))
+
+-- Analyst is forbidden State, which a column carries or not
+unfoldable pub states : List ℕ → List ℕ
+states labels = near labels (4 ∷ 3 ∷ 0 ∷ 1 ∷ 2 ∷ []) (rule0 ++ forbids 1 0 (2 ∷ 1 ∷ []) [])
+
+-- no function has avg
+unfoldable pub no-avg : List ℕ
+no-avg = near (3 ∷ 4 ∷ 2 ∷ 3 ∷ 4 ∷ 255 ∷ []) (4 ∷ 2 ∷ 0 ∷ 2 ∷ []) rule1
+
+abbrev refused : ℕ → Blocking
+refused number = blocking.Refused (record { number = number; place = 0 })
+
+-- a book, rules of it, and what is answered
+unfoldable pub cases : List (Book × List ℕ × List Blocking)
+cases =
+    (shop, 0 ∷ 1 ∷ 2 ∷ 3 ∷ [], blocking.Open ∷ blocking.Open ∷ blocking.Open ∷ refused 24 ∷ [])
+    -- avg for one rule, sum for another: no operation on Price is left for Report
+    ∷ (
+      shop ++ sums,
+      0 ∷ 1 ∷ 2 ∷ 3 ∷ 4 ∷ [],
+      blocking.Closed 1 130 132 0
+          ∷ blocking.Closed 1 132 0 0
+          ∷ blocking.Closed 1 130 132 0
+          ∷ blocking.Closed 1 132 0 0
+          ∷ refused 24
+          ∷ [],
+    )
+    -- a rule that forbids closes too; 26 for that rule; 24 comes first
+    ∷ (conditions, 0 ∷ 1 ∷ 2 ∷ [], blocking.Closed 2 130 131 196 ∷ refused 26 ∷ refused 24 ∷ [])
+    -- Price alone stays open
+    ∷ (together, 0 ∷ 1 ∷ 2 ∷ [], blocking.Closed 1 131 132 0 ∷ blocking.Open ∷ refused 26 ∷ [])
+    -- "one covered leaf that some column carries"
+    ∷ (states (3 ∷ 2 ∷ 3 ∷ 4 ∷ []), 0 ∷ [], blocking.Open ∷ [])
+    ∷ (states (3 ∷ 3 ∷ 4 ∷ 3 ∷ 2 ∷ []), 0 ∷ [], blocking.Closed 1 130 132 0 ∷ [])
+    -- "Operations are those that can be had": the rule closes what it asks for itself
+    ∷ (no-avg, 0 ∷ [], blocking.Closed 1 132 0 0 ∷ [])
+    ∷ []
+
+-- By computation
+
+-- Blocked's answer for a book that is accepted
+unfoldable outcome : Book → ℕ → Blocking
+outcome book r =
+    answered (ruleTests book r ++ forbidTests (ruleAt book r)) blocking.Refused (blockingOf (firstClosed book r))
+
+cases-outcomes :
+    _≡_ {A = List (List Blocking)} (map (λ c. map (outcome (c .0)) (c .1)) cases) (map (λ c. c .2) cases)
+unfolding all any upTo from has upwardIn upward under leaf covers ownedBy support isUser isDataLeaf supportOf supports
+    coversUser inLeafSet weighted checkSum withCheck sealBytes answered refusedOr sealTests firstFailing padded block
+    users categories columns functions rule rule0 rule1 rule2 shop labels same flat keep everyAccess actionFits fits
+    fitting choicesFrom operations accepts refusesAll someChoiceRefused breaks labelled operated canBeHad firstIn
+    accessTo inScopeAt everyDatum associations scope operationChoices someBroken isClosed firstClosed ruleTests
+    forbidTests datumByte closedAnswer blockingOf outcome sums three forbids near conditions together states no-avg
+    cases
+cases-outcomes = refl
+
+cases-pass : _≡_ {A = List Tested} (map (λ c. firstFailing (bookTests (c .0))) cases) (map (λ c. Passed) cases)
+unfolding all any upTo from has upwardIn upward under leaf covers properDescendant ownedBy support parentHolds
+    isUser isDataLeaf supportOf supports inLeafSet weighted checkSum checkHolds between zeros lengthHolds kindHolds
+    usersCounted dataCounted columnsCounted functionsCounted ruleCounts referenceEnd ruleZeros ruleCounted
+    usersOrdered dataOrdered labelHolds labelsHold functionsHold userNumbersHold referenceHolds numbersHold
+    leafSetsApart referencesApart maskAllows maskHolds masksHold usersBlockTests dataBlockTests columnsBlockTests
+    functionsBlockTests ruleBlockTests blockTests checkTests kindTests contentTests lengthTests blockByBlock bookTests
+    sealTests flat firstFailing refusedOr answered withCheck sealBytes padded block users categories columns functions
+    rule rule0 rule1 rule2 shop sums three forbids near conditions together states no-avg cases
+cases-pass = refl
+
+-- The answers
+
+after-check : (book : Book) (r : ℕ) → BookAccepted book → blockedAnswer book r ≡ outcome book r
+unfolding blockedAnswer blockedTests answered orElse outcome
+after-check book r accepted =
+    rw (
+      first-append (bookTests book ++ ruleTests book r) (forbidTests (ruleAt book r)),
+      first-append (bookTests book) (ruleTests book r),
+      first-append (ruleTests book r) (forbidTests (ruleAt book r)),
+      accepted,
+    )
+
+rules-answers :
+    (book : Book) → BookAccepted book → (rules : List ℕ) → map (blockedAnswer book) rules ≡ map (outcome book) rules
+rules-answers book accepted [] = refl
+rules-answers book accepted (r ∷ rules) = rw (after-check book r accepted, rules-answers book accepted rules)
+
+each-answers :
+    (l : List (Book × List ℕ × List Blocking))
+    → _≡_ {A = List Tested} (map (λ c. firstFailing (bookTests (c .0))) l) (map (λ c. Passed) l)
+    → map (λ c. map (blockedAnswer (c .0)) (c .1)) l ≡ map (λ c. map (outcome (c .0)) (c .1)) l
+each-answers [] h = refl
+each-answers (c ∷ l) h =
+    let accepted : firstFailing (bookTests (c .0)) ≡ Passed = cc in
+    let rest : _≡_ {A = List Tested} (map (λ d. firstFailing (bookTests (d .0))) l) (map (λ d. Passed) l) = cc in
+    rw (rules-answers (c .0) accepted (c .1), each-answers l rest)
+
+-- what Blocked answers
+pub cases-answers :
+    _≡_ {A = List (List Blocking)} (map (λ c. map (blockedAnswer (c .0)) (c .1)) cases) (map (λ c. c .2) cases)
+cases-answers = each-answers cases cases-pass ∙ cases-outcomes

@@ -1,0 +1,4 @@
+-- What the inner functions promise each other. No call's promise leans on these files.
+pub mod Cells
+pub mod Pairs
+pub mod First

@@ -1,0 +1,28 @@
+// Data that no operation can open: rules of which some user and association stay closed.
+//
+// No function has a `requires`. What Blocked answers is an equation with a definition of
+// specs/Answers.antt; what it means is specs/Demand.antt.
+pub mod calls; // Blocked
+pub mod cells; // places of one action and leaf
+pub mod pairs; // pairs of operations beside one place
+pub mod rows; // the third cells that stay closed beside two others
+pub mod searching; // the first closed association, for one set of rules
+pub mod users; // the first user
+
+use book::Refusal;
+pub use calls::blocked;
+
+// What Blocked answers: a user, and for each reference 128 + 64 × action + leaf, 0 for an absent one.
+pub enum Blocking {
+    Open,
+    Closed {
+        user: u32,
+        first: u32,
+        second: u32,
+        third: u32,
+    },
+    Refused(Refusal),
+}
+
+// The refusal's number.
+pub const RULE_FORBIDS: u32 = 26;

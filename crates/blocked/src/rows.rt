@@ -1,0 +1,124 @@
+// A row: the third cells that stay closed beside a first and a second cell. One place of the first
+// cell after the other opens some of them.
+use crate::cells::PAST_CELLS;
+use crate::cells::cell_word;
+use crate::cells::has_cell;
+use crate::cells::inside;
+use crate::cells::less_cell;
+use crate::pairs::fill_slices;
+use crate::pairs::row_masks;
+use crate::pairs::some_accepted;
+use search::places::is_empty;
+use search::tables::spread;
+ghost use Prim.Native.Nat.{_<_};
+ghost use Rattle.book.specs.Sets.{has};
+ghost use Rattle.blocked.specs.Inner.Cells.{Left, Tried, pastCells};
+ghost use Rattle.blocked.specs.Inner.Pairs.{Asked, Prepared, SecondPairs};
+
+// What is left of the third places, by whole cells; and where to look first: the place of the first
+// cell that opened something last. No promise speaks of it.
+pub struct Row {
+    pub places: [u64; 33],
+    pub hint: u8,
+}
+
+// The pairs of a second place of cell m and any third operation.
+fn second_pairs(seconds: [u64; 33], m: usize) -> [u64; 4]
+    ensures { λ r. ⌜ (m < pastCells → SecondPairs seconds m r) ⌝ }
+{
+    let word = cell_word(seconds, m);
+    [
+        spread(word),
+        spread(word >> 4),
+        spread(word >> 8),
+        spread(word >> 12),
+    ]
+}
+
+// What is left when cell n has been asked about, k being the first place's operation.
+fn asked(
+    s: &[u64],
+    met: &[u64],
+    masks: [u64; 6],
+    pairs: [u64; 4],
+    k: usize,
+    n: usize,
+    before: Row,
+) -> Row
+    ensures { λ r. ⌜ (n < pastCells
+        → Asked (now (s .entry)) (now (met .entry)) masks pairs n (before .places) (r .places)) ⌝ }
+{
+    let places = before.places;
+    if !some_accepted(s, met, masks, pairs, cell_word(places, n), n) {
+        return before;
+    }
+    let rest = less_cell(places, n);
+    Row {
+        places: rest,
+        hint: (k % 16) as u8,
+    }
+}
+
+// What is left when the k-th place of cell l has been tried.
+fn tried(
+    t: &[u64],
+    met: &[u64],
+    rules: u64,
+    firsts: [u64; 33],
+    seconds: [u64; 33],
+    l: usize,
+    m: usize,
+    k: usize,
+    before: Row,
+) -> Row
+    ensures { λ r. ⌜ (l < pastCells → m < pastCells → k < 16
+        → Prepared (now (t .entry)) (now (met .entry)) (has rules) seconds (before .places)
+        → Tried (now (t .entry)) rules firsts seconds l m k (before .places) (r .places)) ⌝ }
+{
+    let a = 16 * (l % 256) + k % 16;
+    if !inside(firsts, a) {
+        return before;
+    }
+    let masks = row_masks(t, met, rules, a, m);
+    let mut s = [0u64; 768];
+    fill_slices(&mut s, t, masks, a);
+    let pairs = second_pairs(seconds, m);
+    let mut row = before;
+    for n in 0..PAST_CELLS {
+        let places = row.places;
+        if !has_cell(places, n) {
+            continue;
+        }
+        let next = asked(&s, met, masks, pairs, k, n, row);
+        row = next;
+    }
+    row
+}
+
+// What is left when every place of cell l has been tried: it stays closed.
+pub fn closed_row(
+    t: &[u64],
+    met: &[u64],
+    rules: u64,
+    firsts: [u64; 33],
+    seconds: [u64; 33],
+    l: usize,
+    m: usize,
+    before: Row,
+) -> Row
+    ensures { λ r. ⌜ (l < pastCells → m < pastCells
+        → Prepared (now (t .entry)) (now (met .entry)) (has rules) seconds (before .places)
+        → Left (now (t .entry)) rules firsts seconds (before .places) l m 16 (r .places)) ⌝ }
+{
+    let hint = before.hint as usize % 16;
+    let mut row = tried(t, met, rules, firsts, seconds, l, m, hint, before);
+    for k in 0..16usize {
+        let places = row.places;
+        if is_empty(places) {
+            return row;
+        }
+        let next = tried(t, met, rules, firsts, seconds, l, m, k, row);
+        row = next;
+    }
+    row
+}
