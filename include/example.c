@@ -1,5 +1,6 @@
 /*
- * Reads a book, checks it, judges three plans and asks of each rule whether it is idle.
+ * Reads a book, checks it, judges three plans and asks of each rule whether it is idle and whether it is
+ * blocked.
  *
  *   rt staticlib capi
  *   cc -Iinclude include/example.c target/staticlib/libcapi.a -o target/example
@@ -56,16 +57,51 @@ static void idle(const uint8_t *book, size_t length, uint32_t rule)
     printf("\n");
 }
 
+static void blocked(const uint8_t *book, size_t length, uint32_t rule)
+{
+    uint64_t answer = pspec_blocked(book, length, rule);
+    printf("rule %u: ", rule);
+    if (pspec_number(answer) != PSPEC_NOT_REFUSED) {
+        print_refusal(answer);
+        return;
+    }
+    if (pspec_is_open(answer)) {
+        printf("open\n");
+        return;
+    }
+    printf("closed to user %u:", pspec_closed_user(answer));
+    for (unsigned i = 0; i < 3 && pspec_closed_byte(answer, i) != 0; i++) {
+        uint32_t byte = pspec_closed_byte(answer, i);
+        printf(" %s %u", pspec_is_condition(byte) ? "condition" : "projection", pspec_leaf(byte));
+    }
+    printf("\n");
+}
+
+/* The book with a last rule more: user 1 may have category 4 only under operation 2. */
+static size_t with_rule(uint8_t *book, size_t length)
+{
+    uint8_t *block = book + length;
+    block[0] = 5;
+    block[1] = 1;  /* one reference */
+    block[2] = 1;  /* user category 1 */
+    block[8] = 1;  /* one restriction */
+    block[16] = 4; /* category 4, either action */
+    block[17] = 3;
+    block[65] = 4; /* operation 2 */
+    pspec_seal(block, PSPEC_BLOCK);
+    return length + PSPEC_BLOCK;
+}
+
 int main(int count, char **arguments)
 {
     /* One byte more than the longest book: a longer file is refused for its length. */
-    static uint8_t book[PSPEC_BOOK_MOST + 1];
+    static uint8_t book[PSPEC_BOOK_MOST + 1 + PSPEC_BLOCK];
     FILE *file = count == 2 ? fopen(arguments[1], "rb") : NULL;
     if (file == NULL) {
         fprintf(stderr, "usage: example BOOK\n");
         return 2;
     }
-    size_t length = fread(book, 1, sizeof book, file);
+    size_t length = fread(book, 1, PSPEC_BOOK_MOST + 1, file);
     fclose(file);
 
     uint64_t checked = pspec_check(book, length);
@@ -90,5 +126,12 @@ int main(int count, char **arguments)
     for (uint32_t rule = 0; rule < pspec_value(checked); rule++)
         idle(book, length, rule);
     idle(book, length, pspec_value(checked));
+
+    for (uint32_t rule = 0; rule < pspec_value(checked); rule++)
+        blocked(book, length, rule);
+    length = with_rule(book, length);
+    printf("with a rule that user 1 may have category 4 only under operation 2:\n");
+    for (uint32_t rule = 0; rule <= pspec_value(checked); rule++)
+        blocked(book, length, rule);
     return 0;
 }

@@ -1,5 +1,5 @@
 /*
- * The PSpec policy engine for C: five calls. Link with libcapi.a (rt staticlib capi; x86-64 Linux).
+ * The PSpec policy engine for C: six calls. Link with libcapi.a (rt staticlib capi; x86-64 Linux).
  *
  * Parameters. A slice is a pointer and a length in elements: bytes for a book, a block, a plan and a
  * buffer, 64-bit words for `words`. The caller owes only this: each pointer is not null, fits its
@@ -67,7 +67,8 @@ enum pspec_refusal {
     PSPEC_FAULTY_ROW = 22,        /* the lowest faulty row of the plan */
     PSPEC_WORD_COUNT = 23,        /* not 32 words */
     PSPEC_NO_RULE = 24,           /* no such rule */
-    PSPEC_BUFFER_LENGTH = 25      /* buffer under 36 bytes */
+    PSPEC_BUFFER_LENGTH = 25,     /* buffer under 36 bytes */
+    PSPEC_RULE_FORBIDS = 26       /* the rule has no restriction */
 };
 
 /*
@@ -104,6 +105,18 @@ uint64_t pspec_judge(const uint8_t *book, size_t book_length, uint32_t user, con
 uint64_t pspec_idle(const uint8_t *book, size_t book_length, uint32_t rule, uint8_t *buffer,
                     size_t buffer_length);
 
+/*
+ * Blocked: whether a rule with restrictions permits data that no operation can open. An association has
+ * for each reference of the rule one action that fits it and one leaf that it covers and some column
+ * carries. It is closed to a user whom the rule covers when every choice of operations that can be had
+ * breaks a rule of the book: this one or another, those that forbid among them. Refuses 1 to 9, 24, 26.
+ * Value: 0 when nothing is closed. Otherwise user x 2^24 + byte 2 x 2^16 + byte 1 x 2^8 + byte 0, of the
+ * first user and association that are closed: by user, then reference by reference by action (projection
+ * first) and leaf. The byte of reference i is 128 + 64 x action + leaf, action being 0 for projection and
+ * 1 for condition; it is 0 where the rule has no reference i.
+ */
+uint64_t pspec_blocked(const uint8_t *book, size_t book_length, uint32_t rule);
+
 /* The parts of an answer. */
 
 /* 0 where nothing is refused, else one of enum pspec_refusal. */
@@ -124,6 +137,22 @@ static inline int pspec_is_idle(uint64_t answer) { return answer == 0; }
 /* pspec_idle, neither refused nor idle: the user, and the number of rows of the plan in the buffer. */
 static inline uint32_t pspec_user(uint64_t answer) { return pspec_value(answer) >> 8; }
 static inline uint32_t pspec_rows(uint64_t answer) { return pspec_value(answer) & 255u; }
+
+/* pspec_blocked: not refused, and some operations open every association to every covered user. */
+static inline int pspec_is_open(uint64_t answer) { return answer == 0; }
+
+/* pspec_blocked, neither refused nor open: the user to whom the data stay closed. */
+static inline uint32_t pspec_closed_user(uint64_t answer) { return pspec_value(answer) >> 24; }
+
+/* pspec_blocked, neither refused nor open: the byte of reference 0, 1 or 2; 0 where there is none. */
+static inline uint32_t pspec_closed_byte(uint64_t answer, unsigned reference)
+{
+    return reference < 3 ? pspec_value(answer) >> (8 * reference) & 255u : 0;
+}
+
+/* A byte that is not 0: whether its data would be used as condition, not put out; and their leaf. */
+static inline int pspec_is_condition(uint32_t byte) { return (byte & 64u) != 0; }
+static inline uint32_t pspec_leaf(uint32_t byte) { return byte & 63u; }
 
 #ifdef __cplusplus
 }

@@ -1,6 +1,6 @@
 //! What an engine answers to a case.
 
-use crate::engine::Engine;
+use crate::engine::{unpacked, Engine};
 use books::Case;
 use second::Refusal;
 use std::fmt;
@@ -18,10 +18,16 @@ pub enum Answer {
     Idle,
     /// Idle: the user and the number of rows.
     Needed(u32, u32),
+    /// Blocked: every association is open.
+    Open,
+    /// Blocked: the user and the association, as they are packed.
+    Closed(u32),
     /// The call is refused.
     Refused(Refusal),
     /// No engine's answer: what Idle may say of a rule that some plan breaks alone.
     NotIdle,
+    /// No engine's answer: what Blocked may say of a rule whose data some plan opens.
+    NotClosed,
     /// The engine gave up; nothing can be compared.
     GaveUp,
 }
@@ -34,11 +40,23 @@ impl fmt::Display for Answer {
             Answer::Broken(mask) => write!(f, "broken {mask:#x}"),
             Answer::Idle => write!(f, "idle"),
             Answer::Needed(user, rows) => write!(f, "needed, user {user}, {rows} rows"),
+            Answer::Open => write!(f, "open"),
+            Answer::Closed(value) => closed(f, *value),
             Answer::Refused(Refusal { number, place }) => write!(f, "refused {number} at {place}"),
             Answer::NotIdle => write!(f, "not idle, as a user and a plan break it alone"),
+            Answer::NotClosed => write!(f, "not closed, as a plan opens it"),
             Answer::GaveUp => write!(f, "gave up"),
         }
     }
+}
+
+fn closed(f: &mut fmt::Formatter<'_>, value: u32) -> fmt::Result {
+    let (user, data) = unpacked(value);
+    write!(f, "closed ({value:#010x}), user {user}")?;
+    for datum in data {
+        write!(f, ", {:?} {}", datum.action, datum.leaf)?;
+    }
+    Ok(())
 }
 
 /// Calls the engine. The case is changed as the call changes its buffers.
@@ -53,6 +71,13 @@ pub fn of(engine: &dyn Engine, case: &mut Case) -> Answer {
             Some(answer) => answer.map(|shown| match shown {
                 None => Answer::Idle,
                 Some((user, rows)) => Answer::Needed(user, rows),
+            }),
+        },
+        Case::Blocked { book, rule } => match engine.blocked(book, *rule) {
+            None => Ok(Answer::GaveUp),
+            Some(answer) => answer.map(|value| match value {
+                0 => Answer::Open,
+                _ => Answer::Closed(value),
             }),
         },
     };

@@ -2,12 +2,18 @@
 
 #[cfg(feature = "engine")]
 use pspec::raw;
+use second::access::Action;
+use second::blocked::Datum;
 use second::{idle, reading, Refusal};
 
 /// What Idle answers: nothing where the engine gave up, else idle (`None`) or a user and rows.
 pub type Idleness = Option<Result<Option<(u32, u32)>, Refusal>>;
 
-/// The five calls of an engine.
+/// What Blocked answers: nothing where the engine gave up, else the value as C has it, 0 for open. So
+/// every bit of it is compared.
+pub type Blocking = Option<Result<u32, Refusal>>;
+
+/// The six calls of an engine.
 pub trait Engine {
     /// What it is called in reports.
     fn name(&self) -> &'static str;
@@ -21,6 +27,8 @@ pub trait Engine {
     fn judge(&self, book: &[u8], user: u32, plan: &[u8]) -> Result<u32, Refusal>;
     /// Idle.
     fn idle(&self, book: &[u8], rule: u32, buffer: &mut [u8]) -> Idleness;
+    /// Blocked.
+    fn blocked(&self, book: &[u8], rule: u32) -> Blocking;
 }
 
 /// The second implementation, with one of its searches.
@@ -63,6 +71,44 @@ impl Engine for Second {
             Search::Naive(_) => Some(second::idle_naive(book, rule, buffer)),
         }
     }
+    fn blocked(&self, book: &[u8], rule: u32) -> Blocking {
+        let answer = match self.search {
+            Search::Skipping(steps) => second::blocked_within(book, rule, steps)?,
+            Search::Naive(most) if choices(book, rule) > most => return None,
+            Search::Naive(_) => second::blocked_naive(book, rule),
+        };
+        Some(answer.map(|closed| match closed {
+            None => 0,
+            Some((user, data)) => packed(user, &data),
+        }))
+    }
+}
+
+/// A user and an association as the header packs them: user × 2^24, and for reference i
+/// (128 + 64 × action + leaf) × 256^i.
+pub fn packed(user: u32, data: &[Datum]) -> u32 {
+    let byte = |datum: &Datum| match datum.action {
+        Action::Projection => 128 + datum.leaf as u32,
+        Action::Condition => 192 + datum.leaf as u32,
+    };
+    let low = data
+        .iter()
+        .rev()
+        .fold(0, |sum, datum| 256 * sum + byte(datum));
+    (user << 24) + low
+}
+
+/// A value that is not 0 taken apart again.
+pub fn unpacked(value: u32) -> (u32, Vec<Datum>) {
+    let bytes = (0..3).map(|i| value >> (8 * i) & 255);
+    let data = bytes.filter(|byte| byte & 128 != 0).map(|byte| Datum {
+        action: match byte & 64 {
+            0 => Action::Projection,
+            _ => Action::Condition,
+        },
+        leaf: (byte & 63) as usize,
+    });
+    (value >> 24, data.collect())
 }
 
 /// The choices of a rule, over all users; none where there is no such rule.
@@ -99,6 +145,9 @@ impl Engine for Proved {
     }
     fn idle(&self, book: &[u8], rule: u32, buffer: &mut [u8]) -> Idleness {
         Some(value(raw::idle(book, rule, buffer)).map(raw::shown))
+    }
+    fn blocked(&self, book: &[u8], rule: u32) -> Blocking {
+        Some(value(raw::blocked(book, rule)))
     }
 }
 

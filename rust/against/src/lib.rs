@@ -1,4 +1,4 @@
-//! Tries one engine against another on random books: all five calls, answers and buffers.
+//! Tries one engine against another on random books: all six calls, answers and buffers.
 #![forbid(unsafe_code)]
 #![warn(missing_docs)]
 

@@ -1,10 +1,12 @@
 //! Rounds of random cases, both engines' answers compared.
 
 use crate::answer::{self, Answer};
-use crate::engine::Engine;
+use crate::engine::{unpacked, Engine};
 use crate::tally::Tally;
 use crate::text;
 use books::{case, Case, Random};
+use second::access::Access;
+use second::{choice, reading, shown};
 use std::fmt;
 use std::time::{Duration, Instant};
 
@@ -81,7 +83,8 @@ pub fn run(
     Ok(tally)
 }
 
-/// Compares a case. Then what Idle shows is judged, and a rule that a plan breaks alone is asked for.
+/// Compares a case. Then what Idle shows is judged, and what Blocked says is closed; and a rule that a
+/// plan breaks alone is asked for.
 fn try_case(
     engines: [&dyn Engine; 2],
     case: &Case,
@@ -94,6 +97,9 @@ fn try_case(
         }
         (Case::Judge { book, .. }, Answer::Broken(mask)) if mask.is_power_of_two() => {
             try_alone(engines, book, mask.trailing_zeros(), tally)
+        }
+        (Case::Blocked { book, .. }, Answer::Closed(value)) => {
+            try_closed(engines, case, book, value)
         }
         _ => Ok(()),
     }
@@ -153,10 +159,48 @@ fn try_alone(
     }
 }
 
-/// Both engines agree on an answer that document 01 rules out.
+/// Choices of operations for an association above which they are not judged.
+const JUDGED: usize = 40;
+
+/// Whatever operations are chosen for a closed association, Judge says that a rule is broken.
+fn try_closed(
+    engines: [&dyn Engine; 2],
+    blocked: &Case,
+    bytes: &[u8],
+    value: u32,
+) -> Result<(), Box<Difference>> {
+    let Ok(book) = reading::read(bytes) else {
+        return Ok(());
+    };
+    let (user, data) = unpacked(value);
+    let obtainable = book.obtainable();
+    let offered: Vec<Vec<Access>> = data
+        .iter()
+        .map(|datum| {
+            let of = |a: &&Access| (a.action, a.leaf) == (datum.action, datum.leaf);
+            obtainable.iter().filter(of).copied().collect()
+        })
+        .collect();
+    if offered.iter().map(Vec::len).product::<usize>() > JUDGED {
+        return Ok(());
+    }
+    let mut passes = |choice: &[Access]| {
+        let plan = shown::bytes(&shown::plan(&book, choice));
+        engines[0].judge(bytes, user, &plan) == Ok(0)
+    };
+    match choice::first(&offered, &mut passes) {
+        None => Ok(()),
+        Some(_) => {
+            let (case, got) = (blocked.clone(), Answer::Closed(value));
+            Err(wrong(engines, case, Answer::NotClosed, got))
+        }
+    }
+}
+
+/// Both engines agree on an answer that the documents rule out.
 fn wrong(engines: [&dyn Engine; 2], case: Case, wanted: Answer, got: Answer) -> Box<Difference> {
     let sides = [
-        ("document 01", wanted, case.clone()),
+        ("documents", wanted, case.clone()),
         (engines[0].name(), got, case.clone()),
     ];
     Box::new(Difference { case, sides })

@@ -1,13 +1,17 @@
 //! What was reached.
 
 use crate::answer::Answer;
+use crate::engine::unpacked;
 use books::draft::BLOCK;
 use books::Case;
 use std::collections::BTreeMap;
 use std::fmt;
 
 /// Every refusal number that the calls have.
-pub const REFUSALS: [u32; 16] = [1, 2, 3, 4, 5, 6, 7, 8, 9, 10, 20, 21, 22, 23, 24, 25];
+pub const REFUSALS: [u32; 17] = [1, 2, 3, 4, 5, 6, 7, 8, 9, 10, 20, 21, 22, 23, 24, 25, 26];
+
+/// Those of Blocked: "book refusals, 24, then 26 if the rule forbids".
+pub const BLOCKED_REFUSALS: [u32; 11] = [1, 2, 3, 4, 5, 6, 7, 8, 9, 24, 26];
 
 /// How often each thing happened.
 #[derive(Clone, Debug, Default, PartialEq, Eq)]
@@ -18,6 +22,8 @@ pub struct Tally {
     pub calls: BTreeMap<&'static str, u64>,
     /// Refusals by number.
     pub refusals: BTreeMap<u32, u64>,
+    /// Those of Blocked.
+    pub blocked_refusals: BTreeMap<u32, u64>,
     /// Rules that are not idle.
     pub needed: u64,
     /// Rules that are idle.
@@ -28,13 +34,21 @@ pub struct Tally {
     pub covered_by_one: u64,
     /// Of the idle ones, those that only several others cover together.
     pub covered_by_several: u64,
+    /// Rules whose data are open.
+    pub open: u64,
+    /// Rules of one, two and three references with data that stay closed.
+    pub closed: [u64; 3],
+    /// Of the closed ones, those that are closed in a book without other rules.
+    pub closed_alone: u64,
+    /// Of the closed ones, those that are open beside any one other rule alone.
+    pub closed_by_several: u64,
     /// Judged plans that break some rule.
     pub broken: u64,
     /// Searches that were given up.
     pub given_up: u64,
 }
 
-/// Why a rule is idle.
+/// Which rules make a rule idle, or close its data: it alone, one other, or only several.
 enum Cover {
     Alone,
     One,
@@ -48,12 +62,34 @@ impl Tally {
         self.cases += 1;
         *self.calls.entry(call(case)).or_default() += 1;
         match answer {
-            Answer::Refused(refusal) => *self.refusals.entry(refusal.number).or_default() += 1,
+            Answer::Refused(refusal) => self.count_refusal(case, refusal.number),
             Answer::Needed(..) => self.needed += 1,
             Answer::Broken(mask) if mask != 0 => self.broken += 1,
             Answer::GaveUp => self.given_up += 1,
             Answer::Idle => self.count_idle(case),
-            Answer::Rules(_) | Answer::Done | Answer::Broken(_) | Answer::NotIdle => {}
+            Answer::Open => self.open += 1,
+            Answer::Closed(value) => self.count_closed(case, value),
+            Answer::Rules(_) | Answer::Done | Answer::Broken(_) => {}
+            Answer::NotIdle | Answer::NotClosed => {}
+        }
+    }
+
+    fn count_refusal(&mut self, case: &Case, number: u32) {
+        *self.refusals.entry(number).or_default() += 1;
+        if let Case::Blocked { .. } = case {
+            *self.blocked_refusals.entry(number).or_default() += 1;
+        }
+    }
+
+    fn count_closed(&mut self, case: &Case, value: u32) {
+        let (_, data) = unpacked(value);
+        self.closed[data.len() - 1] += 1;
+        if let Case::Blocked { book, rule } = case {
+            match closing(book, *rule as usize) {
+                Cover::Alone => self.closed_alone += 1,
+                Cover::Several => self.closed_by_several += 1,
+                Cover::One | Cover::Unknown => {}
+            }
         }
     }
 
@@ -83,26 +119,40 @@ fn call(case: &Case) -> &'static str {
         Case::Flows { .. } => "flows",
         Case::Judge { .. } => "judge",
         Case::Idle { .. } => "idle",
+        Case::Blocked { .. } => "blocked",
     }
 }
 
-/// Why an idle rule is idle, from books with fewer rules.
+/// Why an idle rule is idle.
 fn cover(book: &[u8], rule: usize) -> Cover {
+    beside(book, rule, |book| {
+        let answer = second::idle_within(book, 0, &mut [0; 36], 5_000);
+        answer.map(|answer| answer == Ok(None))
+    })
+}
+
+/// Why the data of a rule stay closed.
+fn closing(book: &[u8], rule: usize) -> Cover {
+    beside(book, rule, |book| {
+        let answer = second::blocked_within(book, 0, 5_000);
+        answer.map(|answer| matches!(answer, Ok(Some(_))))
+    })
+}
+
+/// Which other rules it takes for what is said of a rule, from books in which it is rule 0 and fewer
+/// stand beside it. Nothing is said where a search is given up.
+fn beside(book: &[u8], rule: usize, said: impl Fn(&[u8]) -> Option<bool>) -> Cover {
     let (head, rules) = book.split_at(4 * BLOCK);
     let rules: Vec<&[u8]> = rules.chunks(BLOCK).collect();
-    let idle_among = |kept: &[&[u8]]| {
-        let book = [head, &kept.concat()].concat();
-        let answer = second::idle_within(&book, 0, &mut [0; 36], 5_000);
-        answer.map(|answer| answer == Ok(None))
-    };
+    let among = |kept: &[&[u8]]| said(&[head, &kept.concat()].concat());
     let others = (0..rules.len()).filter(|&other| other != rule);
-    match idle_among(&[rules[rule]]) {
+    match among(&[rules[rule]]) {
         None => return Cover::Unknown,
         Some(true) => return Cover::Alone,
         Some(false) => {}
     }
     let beside: Vec<Option<bool>> = others
-        .map(|other| idle_among(&[rules[rule], rules[other]]))
+        .map(|other| among(&[rules[rule], rules[other]]))
         .collect();
     if beside.contains(&Some(true)) {
         Cover::One
@@ -129,6 +179,13 @@ impl fmt::Display for Tally {
             f,
             "rules: {} needed, {} idle ({} on their own, {} by one other, {} only by several others)",
             self.needed, self.idle, self.idle_alone, self.covered_by_one, self.covered_by_several
+        )?;
+        let [one, two, three] = self.closed;
+        write!(
+            f,
+            "\ndata: {} open, closed {one} of one reference, {two} of two, {three} of three \
+             ({} on their own, {} only by several others)",
+            self.open, self.closed_alone, self.closed_by_several
         )?;
         write!(f, "; {} searches given up", self.given_up)
     }

@@ -27,6 +27,10 @@ pub fn write(case: &Case) -> String {
             let fields = vec![("book", hex(book)), ("rule", rule), ("buffer", hex(buffer))];
             ("idle", fields)
         }
+        Case::Blocked { book, rule } => {
+            let fields = vec![("book", hex(book)), ("rule", rule.to_string())];
+            ("blocked", fields)
+        }
     };
     let mut text = format!("call {call}\n");
     for (name, value) in fields {
@@ -66,6 +70,10 @@ pub fn read(text: &str) -> Result<Case, String> {
             book: bytes("book")?,
             rule: number("rule")?,
             buffer: bytes("buffer")?,
+        }),
+        "blocked" => Ok(Case::Blocked {
+            book: bytes("book")?,
+            rule: number("rule")?,
         }),
         other => Err(format!("no call {other}")),
     }

@@ -1,6 +1,7 @@
 //! A fixed seed: no difference, and everything reached.
 
 use against::engine::{by_name, USUAL};
+use against::tally::BLOCKED_REFUSALS;
 use against::{run, Limit};
 
 #[test]
@@ -24,7 +25,17 @@ fn no_difference_and_everything_reached() {
         tally.covered_by_one,
         tally.covered_by_several,
         tally.broken,
+        tally.open,
+        tally.closed[0],
+        tally.closed[1],
+        tally.closed[2],
+        tally.closed_alone,
+        tally.closed_by_several,
     ];
     assert!(reached.iter().all(|&n| n >= 5), "{tally}");
-    assert!(tally.given_up * 5 < tally.idle + tally.needed, "{tally}");
+    let refused: Vec<u32> = tally.blocked_refusals.keys().copied().collect();
+    assert_eq!(refused, BLOCKED_REFUSALS, "{tally}");
+    let closed: u64 = tally.closed.iter().sum();
+    let searched = tally.idle + tally.needed + tally.open + closed;
+    assert!(tally.given_up * 5 < searched, "{tally}");
 }

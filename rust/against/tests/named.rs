@@ -1,8 +1,13 @@
-//! The named books: both answer alike, and the hard rules are idle.
+//! The named books: both answer alike, the hard rules are idle, and what is hard to open is open.
 
+use against::answer::Answer;
+use against::engine::packed;
 use against::engine::{by_name, USUAL};
 use against::run::compare;
+use books::blocked::{hard, Found};
 use books::{named, plans, Case, Draft, Random};
+use second::access::Action;
+use second::blocked::Datum;
 
 /// Every call on a book, with every user and plans of 64 rows.
 fn cases(draft: &Draft) -> Vec<Case> {
@@ -33,6 +38,28 @@ fn idle(draft: &Draft, rule: u32) -> Case {
     }
 }
 
+fn blocked(draft: &Draft, rule: u32) -> Case {
+    Case::Blocked {
+        book: draft.bytes(),
+        rule,
+    }
+}
+
+/// What is to be found of a rule of a hard book. The last leaf of group g is 3 + 20 × g.
+fn wanted(draft: &Draft, rule: usize, found: Found) -> Answer {
+    let datum = |group: u8| Datum {
+        action: Action::Condition,
+        leaf: 3 + 20 * usize::from(group),
+    };
+    let references = draft.rules[rule].references.iter();
+    let data: Vec<Datum> = references.map(|r| datum(r.category)).collect();
+    match found {
+        Found::LastOfAll if rule == 31 => Answer::Refused(second::Refusal::of(26)),
+        Found::LastOfAll => Answer::Closed(packed(31, &data)),
+        Found::Open => Answer::Open,
+    }
+}
+
 fn assert_alike(case: &Case) {
     let engines = USUAL.map(|name| by_name(name).expect("it is there"));
     if let Err(difference) = compare([engines[0].as_ref(), engines[1].as_ref()], case) {
@@ -45,7 +72,6 @@ fn assert_alike(case: &Case) {
 #[cfg(all(feature = "engine", not(debug_assertions)))]
 #[test]
 fn late_choices() {
-    use against::answer::Answer;
     use against::engine::{Proved, Search, Second};
     let second = Second {
         search: Search::Skipping(20_000_000),
@@ -69,6 +95,7 @@ fn named_books() {
     for draft in [named::small_shop(), named::middling(), named::largest()] {
         for rule in 0..draft.rules.len() as u32 {
             assert_alike(&idle(&draft, rule));
+            assert_alike(&blocked(&draft, rule));
         }
     }
 }
@@ -77,13 +104,47 @@ fn named_books() {
 #[cfg(feature = "engine")]
 #[test]
 fn hard_rules_are_idle() {
-    use against::answer::{self, Answer};
+    use against::answer;
     for (name, draft, rule) in named::all() {
         if name.starts_with("hard") {
             let mut case = idle(&draft, rule);
             let answer = answer::of(&against::engine::Proved, &mut case);
             assert_eq!(answer, Answer::Idle, "{name}");
             assert_eq!(case, idle(&draft, rule), "{name}");
+        }
+    }
+}
+
+/// The second implementation finds in the hard books what they were made for, where it does not give up.
+#[test]
+fn hard_books_are_as_meant() {
+    use against::engine::{Search, Second};
+    let second = Second {
+        search: Search::Skipping(100_000),
+    };
+    let mut searched = 0;
+    for (name, draft, found) in hard() {
+        for rule in [0, 26, 31] {
+            let answer = against::answer::of(&second, &mut blocked(&draft, rule));
+            if answer != Answer::GaveUp {
+                let wanted = wanted(&draft, rule as usize, found);
+                assert_eq!(answer, wanted, "{name}, rule {rule}");
+                searched += 1;
+            }
+        }
+    }
+    assert!(searched > 8, "{searched} are searched to the end");
+}
+
+/// The engine does, for every rule.
+#[cfg(all(feature = "engine", not(debug_assertions)))]
+#[test]
+fn hard_data_are_open_or_closed() {
+    for (name, draft, found) in hard() {
+        for rule in 0..32 {
+            let wanted = wanted(&draft, rule as usize, found);
+            let answer = against::answer::of(&against::engine::Proved, &mut blocked(&draft, rule));
+            assert_eq!(answer, wanted, "{name}, rule {rule}");
         }
     }
 }

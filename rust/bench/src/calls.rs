@@ -38,6 +38,14 @@ mod with_engine {
         Some(best(|| rules.clone().all(answered)))
     }
 
+    /// The time of each rule that does not forbid.
+    pub fn blocked(book: &[u8], rules: Range<u32>) -> Option<Vec<(u32, Duration)>> {
+        let search = |rule: u32| raw::blocked(black_box(book), rule);
+        let answered = |rule: &u32| raw::value(search(*rule)).is_ok();
+        let timed = |rule: u32| (rule, best(|| search(rule)));
+        Some(rules.filter(answered).map(timed).collect())
+    }
+
     pub fn check_once(book: &[u8]) {
         black_box(raw::check(black_box(book)));
     }
@@ -52,6 +60,10 @@ mod with_engine {
 
     pub fn idle_once(book: &[u8], rule: u32) {
         black_box(raw::idle(black_box(book), rule, &mut [0; raw::BUFFER]));
+    }
+
+    pub fn blocked_once(book: &[u8], rule: u32) {
+        black_box(raw::blocked(black_box(book), rule));
     }
 }
 
@@ -79,6 +91,10 @@ mod without {
         None
     }
 
+    pub fn blocked(_: &[u8], _: Range<u32>) -> Option<Vec<(u32, Duration)>> {
+        None
+    }
+
     pub fn check_once(_: &[u8]) {}
 
     pub fn flows_once(_: &[u8], _: &[u8]) {}
@@ -86,4 +102,6 @@ mod without {
     pub fn judge_once(_: &[u8], _: u32, _: &[u8]) {}
 
     pub fn idle_once(_: &[u8], _: u32) {}
+
+    pub fn blocked_once(_: &[u8], _: u32) {}
 }

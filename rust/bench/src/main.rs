@@ -15,10 +15,14 @@ use clock::best;
 use second::reading;
 use std::hint::black_box;
 use std::ops::Range;
+use std::time::Duration;
 use table::Line;
 
 /// Steps after which the second implementation's search is left out: a few seconds.
 const STEPS: u64 = 1_500_000;
+
+/// The time for a rule above which the second implementation is not timed for all rules.
+const SOON: Duration = Duration::from_millis(200);
 
 /// Choices for a user above which the naive search is left out.
 const CHOICES: u128 = 100_000;
@@ -38,31 +42,80 @@ fn main() {
     }
 }
 
+/// Which calls a book is for.
+#[derive(Clone, Copy, PartialEq, Eq)]
+enum For {
+    All,
+    Idle,
+    Blocked,
+}
+
+impl For {
+    /// Is the call of this name made on such a book? A hard book is hard for one call.
+    fn has(self, call: &str) -> bool {
+        match self {
+            For::All => true,
+            For::Idle => call == "idle" || call == "blocked",
+            For::Blocked => call == "blocked",
+        }
+    }
+}
+
+/// A book for timing, and the rule that is asked about.
+struct Timed {
+    name: String,
+    draft: Draft,
+    rule: u32,
+    calls: For,
+}
+
+/// The books for timing.
+fn timed() -> Vec<Timed> {
+    let named = named::all().into_iter().map(|(name, draft, rule)| Timed {
+        calls: match name.starts_with("hard") {
+            true => For::Idle,
+            false => For::All,
+        },
+        name,
+        draft,
+        rule,
+    });
+    let hard = books::blocked::hard().into_iter();
+    // In each of them rule 30 speaks of all leaves.
+    let hard = hard.map(|(name, draft, _)| Timed {
+        name,
+        draft,
+        rule: 30,
+        calls: For::Blocked,
+    });
+    named.chain(hard).collect()
+}
+
 /// The books for timing, and one that is worst for Judge.
-fn all() -> Vec<(String, Draft, u32)> {
-    let mut all = named::all();
-    all.push(("all choices accepted".to_string(), named::accepting(), 0));
+fn all() -> Vec<Timed> {
+    let mut all = timed();
+    all.push(Timed {
+        name: "all choices accepted".to_string(),
+        draft: named::accepting(),
+        rule: 0,
+        calls: For::All,
+    });
     all
 }
 
 /// The input of a book by its name.
 fn input_named(name: &str) -> Input {
-    let found = all().into_iter().find(|(book, _, _)| book == name);
-    let (name, draft, rule) = found.expect("a book of that name");
-    Input::new(name, draft, rule..rule + 1)
+    let found = all().into_iter().find(|book| book.name == name);
+    let book = found.expect("a book of that name");
+    Input::new(book.name, book.draft, book.rule..book.rule + 1)
 }
 
 /// Counts the instructions of each call on each book, beside those of a plain loop over the sums.
 fn instructions() {
     table::count_head();
-    for (name, _, _) in all() {
-        let hard = name.starts_with("hard");
+    for Timed { name, calls, .. } in all() {
         let mut sums = None;
-        for call in &count::CALLS {
-            // A hard book is hard for Idle alone.
-            if hard && call.name != "idle" {
-                continue;
-            }
+        for call in count::CALLS.iter().filter(|call| calls.has(call.name)) {
             let number = count::instructions(call, &name);
             sums = sums.or(number.filter(|_| call.name == "sums"));
             table::count_row(&name, call.name, number, sums);
@@ -72,23 +125,25 @@ fn instructions() {
 
 fn times() {
     table::head();
-    for (name, draft, rule) in named::all() {
-        let hard = name.starts_with("hard");
-        let all = 0..draft.rules.len() as u32;
-        let mut input = Input::new(name, draft, rule..rule + 1);
-        // A hard book is hard for one rule.
-        if hard {
-            idle(&input);
-            continue;
+    for book in timed() {
+        let all = 0..book.draft.rules.len() as u32;
+        let mut input = Input::new(book.name, book.draft, book.rule..book.rule + 1);
+        if book.calls == For::All {
+            check(&input);
+            seal(&input);
+            flows(&input);
+            judge(&input);
         }
-        check(&input);
-        seal(&input);
-        flows(&input);
-        judge(&input);
-        idle(&input);
+        // A book that is hard for Idle is so for one rule.
+        if book.calls != For::Blocked {
+            idle(&input);
+        }
         input.rules = all;
-        idle(&input);
-        idle_naive(&input);
+        if book.calls == For::All {
+            idle(&input);
+            idle_naive(&input);
+        }
+        blocked(&input);
     }
 }
 
@@ -98,7 +153,7 @@ struct Input {
     book: Vec<u8>,
     plan: Vec<u8>,
     user: u32,
-    /// The rules that Idle is asked about, one after the other.
+    /// The rules that Idle and Blocked are asked about, one after the other.
     rules: Range<u32>,
 }
 
@@ -217,5 +272,27 @@ fn idle_naive(input: &Input) {
         engine: calls::idle(&input.book, input.rules.clone()),
         second: Some(best(all)),
         ..input.line("the same, naive")
+    });
+}
+
+/// The rule that takes the engine longest, and all rules together.
+fn blocked(input: &Input) {
+    let engine = calls::blocked(&input.book, input.rules.clone());
+    let worst = engine.iter().flatten().max_by_key(|(_, time)| *time);
+    let asked = worst.map_or(input.rules.start, |(rule, _)| *rule);
+    let search = |rule: u32| second::blocked_within(black_box(&input.book), rule, STEPS);
+    let one = || search(asked).is_some();
+    let all = || input.rules.clone().all(|rule| search(rule).is_some());
+    let second = one().then(|| best(one));
+    table::row(&Line {
+        engine: worst.map(|(_, time)| *time),
+        second,
+        ..input.line("blocked, worst rule")
+    });
+    let soon = second.is_some_and(|time| time < SOON);
+    table::row(&Line {
+        engine: engine.map(|times| times.iter().map(|(_, time)| *time).sum()),
+        second: (soon && all()).then(|| best(all)),
+        ..input.line("blocked, all rules")
     });
 }

@@ -41,7 +41,7 @@ pub fn row(line: &Line) {
 
 fn print([book, call, engine, second, ratio, plain, plain_ratio]: [String; 7]) {
     let timed = format!("{engine:>10} {second:>10} {ratio:>14}");
-    println!("{book:<28} {call:<15} {timed} {plain:>10} {plain_ratio:>12}");
+    println!("{book:<29} {call:<19} {timed} {plain:>10} {plain_ratio:>12}");
 }
 
 fn time(time: Option<Duration>) -> String {

@@ -46,9 +46,16 @@ pub enum Case {
         /// The buffer as it is before.
         buffer: Vec<u8>,
     },
+    /// Blocked.
+    Blocked {
+        /// The book.
+        book: Vec<u8>,
+        /// The rule's number.
+        rule: u32,
+    },
 }
 
-/// The calls of one round: one book of the given size, sound or changed, and all five calls.
+/// The calls of one round: one book of the given size, sound or changed, and all six calls.
 pub fn round(random: &mut Random, size: Size) -> Vec<Case> {
     let draft = valid::draft(random, size);
     let book = book(random, &draft);
@@ -67,6 +74,7 @@ pub fn round(random: &mut Random, size: Size) -> Vec<Case> {
     for _ in 0..rules.max(1) {
         cases.push(idle(random, &draft, &book));
     }
+    cases.extend(blocked(random, &draft, &book));
     cases
 }
 
@@ -164,6 +172,21 @@ fn idle(random: &mut Random, draft: &Draft, book: &[u8]) -> Case {
         rule,
         buffer: random.bytes(length),
     }
+}
+
+/// Every rule, and a number past them. A changed book is refused for all alike, so one rule is enough.
+fn blocked(random: &mut Random, draft: &Draft, book: &[u8]) -> Vec<Case> {
+    let count = draft.rules.len();
+    let mut rules: Vec<u32> = match book == draft.bytes() {
+        true => (0..count as u32).collect(),
+        false => vec![random.below(count) as u32],
+    };
+    rules.push(out_of_range(random, count));
+    let case = |rule: u32| Case::Blocked {
+        book: book.to_vec(),
+        rule,
+    };
+    rules.into_iter().map(case).collect()
 }
 
 /// A number at or past a count, some of which would be in range if cut to a byte or shifted out.

@@ -11,6 +11,7 @@
 #![forbid(unsafe_code)]
 #![warn(missing_docs)]
 
+pub mod blocked;
 pub mod case;
 pub mod change;
 pub mod draft;

@@ -5,12 +5,12 @@ use crate::random::Random;
 
 /// Projection, and either action.
 const PROJECTION: u8 = 1;
-const ACCESS: u8 = 3;
+pub(crate) const ACCESS: u8 = 3;
 
 /// All operations, 1 to 15.
-const ALL: u16 = 0xFFFE;
+pub(crate) const ALL: u16 = 0xFFFE;
 
-fn reference(category: u8, action: u8) -> Reference {
+pub(crate) fn reference(category: u8, action: u8) -> Reference {
     Reference {
         category,
         action,
@@ -38,6 +38,19 @@ pub fn small_shop() -> Draft {
             rule(1, address_and_price, [0, 0b10, 0]),
         ],
     }
+}
+
+/// The small shop with a rule 3 that opposes rule 1: Report may have a price as a sum alone, and by
+/// rule 1 as an average alone.
+pub fn opposed_shop() -> Draft {
+    let mut shop = small_shop();
+    shop.rules.push(Rule {
+        user: 1,
+        excluded: vec![],
+        references: vec![reference(4, ACCESS)],
+        restrictions: vec![[0b100, 0, 0]],
+    });
+    shop
 }
 
 /// A middling book: 8 rules, 30 data leaves in 5 groups, 8 users in 2 groups.
@@ -163,7 +176,8 @@ fn flat(n: usize) -> Vec<u8> {
     vec![0; n]
 }
 
-fn hard_head() -> Draft {
+/// 31 users, three groups of 20 leaves, 15 operations, everything obtainable, and no rules.
+pub(crate) fn hard_head() -> Draft {
     Draft {
         users: flat(32),
         data: grouped(3, 20, ALL),
@@ -174,7 +188,7 @@ fn hard_head() -> Draft {
 }
 
 /// A rule over the three groups, in any order, that leaves out some users and some leaves.
-fn filler(random: &mut Random, draft: &Draft, exclusions: usize) -> Rule {
+pub(crate) fn filler(random: &mut Random, draft: &Draft, exclusions: usize) -> Rule {
     let mut groups = [1, 2, 3];
     random.shuffle(&mut groups);
     let references = groups.map(|group| Reference {

@@ -1,4 +1,5 @@
-//! Rules made from a rule: equal to it, stronger, weaker, or several that cover it together.
+//! Rules made from a rule: equal to it, stronger, weaker, several that cover it together, or several
+//! that can't all be kept with it.
 
 use crate::draft::{below, Draft, Reference, Rule};
 use crate::random::Random;
@@ -12,6 +13,7 @@ pub fn some(random: &mut Random, draft: &Draft, rule: &Rule) -> Vec<Rule> {
         3 => vec![looser(random, draft, rule)],
         4 => vec![narrower(random, draft, rule)],
         5 => vec![fewer_references(random, rule)],
+        6 => opposed(random, draft, rule),
         _ => parts(random, draft, rule),
     }
 }
@@ -155,6 +157,68 @@ fn by_mask(random: &mut Random, draft: &Draft, rule: &Rule) -> Vec<Rule> {
         new
     };
     vec![with(parts), with(supported & !parts)]
+}
+
+/// Rules that can't all be kept with the rule, for all of its data or for a part.
+pub fn opposed(random: &mut Random, draft: &Draft, rule: &Rule) -> Vec<Rule> {
+    match random.below(4) {
+        0 => patches(random, draft, rule),
+        1 => {
+            let part = narrower(random, draft, rule);
+            deal_out(random, draft, &part)
+        }
+        _ => deal_out(random, draft, rule),
+    }
+}
+
+/// Rules that each forbid one leaf of a reference under one action.
+fn patches(random: &mut Random, draft: &Draft, rule: &Rule) -> Vec<Rule> {
+    let place = random.below(rule.references.len());
+    let leaves: Vec<u8> = draft
+        .leaves_of(&rule.references[place])
+        .into_iter()
+        .collect();
+    let patch = |leaf: u8, action: u8| Rule {
+        references: vec![Reference {
+            category: leaf,
+            action,
+            excluded: vec![],
+        }],
+        restrictions: vec![],
+        ..rule.clone()
+    };
+    let mut rules = Vec::new();
+    for _ in 0..random.between(1, 3) {
+        let leaf = random.pick(&leaves);
+        let action = random.one(&[1, 2]);
+        rules.extend(leaf.map(|leaf| patch(leaf, action)));
+    }
+    rules
+}
+
+/// Two or three rules that can't be kept together, though any fewer of them often can: what a reference
+/// supports is dealt out in shares, and each rule takes all but one share.
+fn deal_out(random: &mut Random, draft: &Draft, rule: &Rule) -> Vec<Rule> {
+    let place = random.below(rule.references.len());
+    let supported = draft.supported(rule.references[place].category);
+    let mut shares = vec![0; random.between(2, 3)];
+    for k in (1..16).filter(|k| supported >> k & 1 == 1) {
+        let share = random.below(shares.len());
+        shares[share] |= 1 << k;
+    }
+    let (of, place) = match random.below(2) {
+        0 => (keep(rule, &[place]), 0),
+        _ => (rule.clone(), place),
+    };
+    let without = |share: u16| {
+        let mut masks = [0; 3];
+        masks[place] = supported & !share;
+        Rule {
+            restrictions: vec![masks],
+            ..of.clone()
+        }
+    };
+    shares.into_iter().map(without).collect()
 }
 
 /// One rule without a lower category, one with it alone.

@@ -131,7 +131,7 @@ fn functions(random: &mut Random, alphabet: &[u8], most: usize) -> Vec<u8> {
 }
 
 /// Rules of their own, and relatives of rules before: so that many are idle, some only by two
-/// others together.
+/// others together, and many have data that stay closed.
 fn rules(random: &mut Random, draft: &Draft, most: usize) -> Vec<Rule> {
     let n = up_to(random, 0, most);
     let mut rules: Vec<Rule> = Vec::new();
@@ -139,6 +139,11 @@ fn rules(random: &mut Random, draft: &Draft, most: usize) -> Vec<Rule> {
         let whole = rule(random, draft);
         rules.extend(relatives::parts(random, draft, &whole));
         rules.push(whole);
+    }
+    if random.chance(1, 5) {
+        let of = rule(random, draft);
+        rules.extend(relatives::opposed(random, draft, &of));
+        rules.push(of);
     }
     while rules.len() < n {
         if rules.is_empty() || random.chance(1, 2) {

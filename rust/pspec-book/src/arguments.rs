@@ -64,6 +64,13 @@ impl Flag {
 }
 
 const JSON: Flag = Flag::new("--json", "answer in JSON, for scripts");
+const HTML: Flag = Flag::with(
+    "FILE",
+    Flag::new(
+        "--html",
+        "write the report to FILE as a page to read and print",
+    ),
+);
 
 /// All commands.
 pub const COMMANDS: &[Command] = &[
@@ -93,16 +100,23 @@ pub const COMMANDS: &[Command] = &[
         operands: &["BOOK"],
         options: &[
             JSON,
-            Flag::with(
-                "FILE",
-                Flag::new(
-                    "--html",
-                    "write the report to FILE as a page to read and print",
-                ),
-            ),
+            HTML,
             Flag::new("--exit-code", "end with status 3 where some rule is idle"),
         ],
         about: "which rules are idle and why, and what breaks each other one alone",
+    },
+    Command {
+        name: "blocked",
+        operands: &["BOOK"],
+        options: &[
+            JSON,
+            HTML,
+            Flag::new(
+                "--exit-code",
+                "end with status 3 where some rule is blocked",
+            ),
+        ],
+        about: "which rules permit data that no operation opens, and to whom they stay closed",
     },
     Command {
         name: "labels",

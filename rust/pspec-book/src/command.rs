@@ -1,6 +1,7 @@
 //! The commands.
 
 use crate::arguments::{self, Arguments, Asked};
+use crate::blocked::RuleBlocking;
 use crate::fault::Fault;
 use crate::files::{self, open, read_text};
 use crate::help::HELP;
@@ -11,7 +12,7 @@ use crate::named::NamedBook;
 use crate::phrases::{counted, shown};
 use crate::plan::{self, PlanText};
 use crate::report::{self, RuleReport};
-use crate::{build, explain, html, labels, policy, show};
+use crate::{blocked, build, explain, html, labels, policy, show};
 use std::io::{self, Write};
 
 /// How a command ends that gives its answer.
@@ -23,6 +24,8 @@ pub enum Outcome {
     Broken,
     /// A rule is idle, and the status was to say so.
     Idle,
+    /// A rule is blocked, and the status was to say so.
+    Blocked,
 }
 
 /// Carries out what the words ask for, and writes the answer.
@@ -42,6 +45,7 @@ fn carry_out(arguments: &Arguments, out: &mut dyn Write) -> Result<Outcome, Faul
         ("check", [policy]) => check(policy, out),
         ("show", [book]) => show(book, out),
         ("report", [book]) => report(book, arguments, out),
+        ("blocked", [book]) => blocked(book, arguments, out),
         ("labels", [book]) => labels(book, arguments.json(), out),
         ("judge", [book, user, plan]) => judge(book, user, plan, arguments.json(), out),
         ("flows", [book, plan]) => flows(book, plan, arguments.json(), out),
@@ -84,6 +88,27 @@ fn report(book: &str, arguments: &Arguments, out: &mut dyn Write) -> Result<Outc
     let idle = reports.iter().any(RuleReport::is_idle);
     Ok(match idle && arguments.option("--exit-code").is_some() {
         true => Outcome::Idle,
+        false => Outcome::Fine,
+    })
+}
+
+fn blocked(book: &str, arguments: &Arguments, out: &mut dyn Write) -> Result<Outcome, Fault> {
+    let named = open(book)?;
+    let rules = blocked::each(&named);
+    let rules = rules.map_err(|refusal| Fault::Refused(format!("{book}: {refusal}")))?;
+    let page = arguments.option("--html");
+    if let Some(file) = page {
+        let page = html::blocked(book, &named, &rules);
+        files::answer(file, page.as_bytes(), &[book])?;
+    }
+    match (arguments.json(), page) {
+        (true, _) => said(writeln!(out, "{}", blocked::json(&rules, &named.names)))?,
+        (false, Some(file)) => said(writeln!(out, "{file}: the report on {book}"))?,
+        (false, None) => said(write!(out, "{}", blocked::text(&rules, &named.names)))?,
+    };
+    let some = rules.iter().any(RuleBlocking::is_blocked);
+    Ok(match some && arguments.option("--exit-code").is_some() {
+        true => Outcome::Blocked,
         false => Outcome::Fine,
     })
 }

@@ -1,6 +1,7 @@
-//! The report as one page, for the data owner: the hierarchies drawn, and each rule with its mark
-//! and the reason for it. Nothing is loaded from elsewhere, and no script runs.
+//! A report as one page, for the data owner: the hierarchies drawn, and each rule with its mark and the
+//! reason for it. Nothing is loaded from elsewhere, and no script runs.
 
+use crate::blocked::{Found as Blocking, RuleBlocking};
 use crate::contents::UNLABELLED;
 use crate::covering::WhyIdle;
 use crate::drawing::{drawing, escaped, Label};
@@ -8,7 +9,7 @@ use crate::hierarchy::is_leaf;
 use crate::named::NamedBook;
 use crate::phrases::{counted, joined};
 use crate::report::{Found, RuleReport};
-use crate::rule::operations;
+use crate::rule::{operations, text};
 use crate::words;
 use pspec::Access;
 
@@ -16,9 +17,9 @@ const STYLE: &str = "\
 body { font: 16px/1.5 sans-serif; color: #111; background: #fff; max-width: 60rem; margin: 2rem auto; padding: 0 1rem }
 h1 { font-size: 1.6rem } h2 { font-size: 1.2rem; margin-top: 2rem }
 .rule { border: 1px solid #bbb; border-left-width: 6px; padding: .5rem 1rem; margin: .8rem 0; break-inside: avoid }
-.needed { border-left-color: #1a6b2f } .idle { border-left-color: #a15c00 }
+.needed, .open { border-left-color: #1a6b2f } .idle, .blocked { border-left-color: #a15c00 }
 .mark { float: right; font-weight: bold; padding: 0 .5rem; border: 2px solid }
-.needed .mark { color: #1a6b2f } .idle .mark { color: #a15c00 }
+.needed .mark, .open .mark { color: #1a6b2f } .idle .mark, .blocked .mark { color: #a15c00 }
 .rule h3 { margin: 0; font-size: 1rem } .rule p { margin: .3rem 0 }
 code { font-size: .85rem; color: #444; overflow-wrap: anywhere }
 .trees { display: flex; flex-wrap: wrap; gap: 2rem } figure { margin: 0; break-inside: avoid; max-width: 100% }
@@ -31,50 +32,115 @@ const LEGEND: &str = "\
 'Under' an operation means that only its result is used.</p>
 ";
 
-/// The page on a book, under a title.
-pub fn page(title: &str, named: &NamedBook, reports: &[RuleReport]) -> String {
-    let idle = reports.iter().filter(|report| report.is_idle()).count();
-    let rules: String = reports
-        .iter()
-        .map(|report| section(named, report))
-        .collect();
-    let (title, count) = (escaped(title), counted(reports.len(), "rule"));
-    let needed = reports.len() - idle;
-    let advice = match idle {
-        0 => "",
-        _ => {
-            "<p>An idle rule could go, and nothing more would pass. Delete one idle rule at a \
-              time, then ask again: of two equal rules each is idle beside the other.</p>\n"
-        }
-    };
-    format!(
-        "<!DOCTYPE html>\n<html lang=\"en\">\n<head>\n<meta charset=\"utf-8\">\n\
-         <meta name=\"viewport\" content=\"width=device-width, initial-scale=1\">\n\
-         <title>Policy report: {title}</title>\n<style>\n{STYLE}\n</style>\n</head>\n<body>\n\
-         <h1>Policy report: {title}</h1>\n\
-         <p>{count}: {needed} needed, {idle} idle.</p>\n{advice}{LEGEND}\
-         <h2>Rules</h2>\n{rules}\
-         <h2>Hierarchies</h2>\n{}\
-         <footer><p>That a rule is idle or needed, which plan breaks it alone and which rules cover it \
-         are answers of the proved engine. The names and the words around them are not proved.</p></footer>\n\
-         </body>\n</html>\n",
-        hierarchies(named)
-    )
+/// What a page says of a book.
+struct Page {
+    /// One line above all.
+    summary: String,
+    /// What to do about it; empty where there is nothing to do.
+    advice: &'static str,
+    rules: Vec<Section>,
+    /// What of it is the engine's answer.
+    proved: &'static str,
 }
 
-fn section(named: &NamedBook, report: &RuleReport) -> String {
-    let rule = &named.contents.rules[report.number];
-    let (class, why) = match &report.found {
-        Found::Idle(why) => ("idle", why_idle(why)),
-        Found::Needed { user, accesses, .. } => ("needed", why_needed(named, user, accesses)),
+/// A rule with its mark and the reason for it.
+struct Section {
+    number: usize,
+    mark: &'static str,
+    why: String,
+}
+
+/// The page on the idle rules of a book, under a title.
+pub fn page(title: &str, named: &NamedBook, reports: &[RuleReport]) -> String {
+    let idle = reports.iter().filter(|report| report.is_idle()).count();
+    let (count, needed) = (counted(reports.len(), "rule"), reports.len() - idle);
+    let rule = |report: &RuleReport| {
+        let (mark, why) = match &report.found {
+            Found::Idle(why) => ("idle", why_idle(why)),
+            Found::Needed { user, accesses, .. } => ("needed", why_needed(named, user, accesses)),
+        };
+        let number = report.number;
+        Section { number, mark, why }
     };
+    let page = Page {
+        summary: format!("{count}: {needed} needed, {idle} idle."),
+        advice: match idle {
+            0 => "",
+            _ => {
+                "An idle rule could go, and nothing more would pass. Delete one idle rule at a \
+                 time, then ask again: of two equal rules each is idle beside the other."
+            }
+        },
+        rules: reports.iter().map(rule).collect(),
+        proved:
+            "That a rule is idle or needed, which plan breaks it alone and which rules cover it \
+                 are answers of the proved engine.",
+    };
+    page.text(title, named)
+}
+
+/// The page on the blocked rules of a book, under a title.
+pub fn blocked(title: &str, named: &NamedBook, rules: &[RuleBlocking]) -> String {
+    let blocked = rules.iter().filter(|rule| rule.is_blocked()).count();
+    let rule = |rule: &RuleBlocking| Section {
+        number: rule.number,
+        mark: match rule.found {
+            Blocking::Forbids => "forbids",
+            Blocking::Open => "open",
+            Blocking::Closed { .. } => "blocked",
+        },
+        why: why_blocked(named, &rule.found),
+    };
+    let page = Page {
+        summary: format!("{}: {blocked} blocked.", counted(rules.len(), "rule")),
+        advice: match blocked {
+            0 => "",
+            _ => {
+                "A blocked rule permits data that can't be had: whatever operations are chosen, \
+                 it or another rule is broken. The first user and data are shown; there may be others."
+            }
+        },
+        rules: rules.iter().map(rule).collect(),
+        proved:
+            "That a rule is blocked or not, and which user and data come first, are answers of \
+                 the proved engine.",
+    };
+    page.text(title, named)
+}
+
+impl Page {
+    fn text(&self, title: &str, named: &NamedBook) -> String {
+        let sections = self.rules.iter().map(|of| section(named, of));
+        let rules: String = sections.collect();
+        let advice = match self.advice {
+            "" => String::new(),
+            advice => format!("<p>{advice}</p>\n"),
+        };
+        let (title, summary, proved) = (escaped(title), &self.summary, self.proved);
+        format!(
+            "<!DOCTYPE html>\n<html lang=\"en\">\n<head>\n<meta charset=\"utf-8\">\n\
+             <meta name=\"viewport\" content=\"width=device-width, initial-scale=1\">\n\
+             <title>Policy report: {title}</title>\n<style>\n{STYLE}\n</style>\n</head>\n<body>\n\
+             <h1>Policy report: {title}</h1>\n\
+             <p>{summary}</p>\n{advice}{LEGEND}\
+             <h2>Rules</h2>\n{rules}\
+             <h2>Hierarchies</h2>\n{}\
+             <footer><p>{proved} The names and the words around them are not proved.</p></footer>\n\
+             </body>\n</html>\n",
+            hierarchies(named)
+        )
+    }
+}
+
+fn section(named: &NamedBook, section: &Section) -> String {
+    let Section { number, mark, why } = section;
+    let rule = &named.contents.rules[*number];
     format!(
-        "<section class=\"rule {class}\">\n<span class=\"mark\">{class}</span>\n\
-         <h3>Rule {}</h3>\n<p>{}</p>\n<p><code>{}</code></p>\n<p>{}</p>\n</section>\n",
-        report.number,
+        "<section class=\"rule {mark}\">\n<span class=\"mark\">{mark}</span>\n\
+         <h3>Rule {number}</h3>\n<p>{}</p>\n<p><code>{}</code></p>\n<p>{}</p>\n</section>\n",
         escaped(&words::rule(rule, named)),
-        escaped(&report.rule),
-        escaped(&why)
+        escaped(&text(rule, &named.names)),
+        escaped(why)
     )
 }
 
@@ -96,6 +162,20 @@ fn why_idle(why: &WhyIdle) -> String {
 fn why_needed(named: &NamedBook, user: &str, accesses: &[Access]) -> String {
     let does = words::accesses(accesses, &named.names);
     format!("Needed: without it a query of {user} would pass that {does}. No other rule stops it.")
+}
+
+fn why_blocked(named: &NamedBook, found: &Blocking) -> String {
+    match found {
+        Blocking::Forbids => "It forbids, and permits nothing.".to_string(),
+        Blocking::Open => {
+            "Open: each user that it covers may have all its data under some operations."
+                .to_string()
+        }
+        Blocking::Closed { user, data } => {
+            let does = words::data_together(data, &named.names);
+            format!("Blocked: {user} can't {does}. Whatever the operations, some rule is broken.")
+        }
+    }
 }
 
 fn hierarchies(named: &NamedBook) -> String {

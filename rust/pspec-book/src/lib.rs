@@ -1,12 +1,12 @@
 //! Policies as text, over the safe wrapper of the engine.
 //!
 //! A policy file names users, data, columns, functions and rules; `build` makes the engine's blocks
-//! of it and `show` makes text of blocks again. `report`, `judge` and `flows` put the engine's
-//! answers in the policy's names.
+//! of it and `show` makes text of blocks again. `report`, `blocked`, `judge` and `flows` put the
+//! engine's answers in the policy's names.
 //!
 //! All of this stands outside the proved core. The engine decides whether a book is accepted, which
-//! rules a plan breaks and which are idle; that the text means the blocks is this crate's word,
-//! which its tests try.
+//! rules a plan breaks and which are idle or blocked; that the text means the blocks is this crate's
+//! word, which its tests try.
 //!
 //! ```
 //! let text = "
@@ -30,6 +30,7 @@
 #![warn(missing_docs)]
 
 pub mod arguments;
+pub mod blocked;
 pub mod breaking;
 pub mod build;
 pub mod command;

@@ -25,7 +25,7 @@ fn status(ran: Result<Outcome, Fault>) -> u8 {
     match ran {
         Ok(Outcome::Fine) => 0,
         Ok(Outcome::Broken) => 1,
-        Ok(Outcome::Idle) => 3,
+        Ok(Outcome::Idle | Outcome::Blocked) => 3,
         Err(Fault::Refused(why)) => {
             eprintln!("{why}");
             1

@@ -5,7 +5,7 @@ use crate::hierarchy::is_leaf;
 use crate::named::NamedBook;
 use crate::names::Names;
 use crate::phrases::joined;
-use pspec::{Access, Action};
+use pspec::{Access, Action, Datum};
 
 /// A rule as a sentence.
 pub fn rule(rule: &Rule, named: &NamedBook) -> String {
@@ -103,6 +103,24 @@ fn restriction(rule: &Rule, masks: &[u16; 3], names: &Names) -> String {
     };
     let demands: Vec<String> = demanded.map(demand).collect();
     joined(&demands, "and")
+}
+
+/// What a query does that uses these data, after 'can't'.
+pub fn data_together(data: &[Datum], names: &Names) -> String {
+    let mut groups: Vec<(&str, Vec<String>)> = Vec::new();
+    for datum in data {
+        let verb = match datum.action {
+            Action::Projection => "put out",
+            Action::Condition => "decide by",
+        };
+        let leaf = names.data[usize::from(datum.leaf)].clone();
+        add(&mut groups, verb, leaf);
+    }
+    let together = match data.len() {
+        1 => "",
+        _ => " in one query",
+    };
+    format!("{}{together}", grouped(&groups))
 }
 
 /// What a query does that has these accesses.

@@ -1,6 +1,6 @@
 //! A book, and the calls that ask it something.
 
-use crate::{raw, Accesses, Broken, Idleness, Plan, Refusal, Verdict};
+use crate::{raw, Accesses, Blocking, Broken, Idleness, Plan, Refusal, Verdict};
 use std::fmt;
 
 /// The bytes of a block.
@@ -112,6 +112,30 @@ impl Book {
                 plan: Plan::new(&buffer[..4 * rows as usize]),
             },
         })
+    }
+
+    /// Whether a rule with restrictions permits data that no operation can open; if so, the first user
+    /// to whom they stay closed, and the data. All rules of the book count, this one among them.
+    ///
+    /// ```
+    /// use pspec::{Action, Blocking, Book, Datum, Refusal};
+    ///
+    /// # let bytes = books::named::small_shop().bytes();
+    /// let book = Book::new(bytes)?; // the small shop
+    /// assert_eq!(book.blocked(1)?, Blocking::Open); // a price may be had under operation 1
+    ///
+    /// # let bytes = books::named::opposed_shop().bytes();
+    /// // The same with a rule 3, by which user 1 may have a price under operation 2 alone.
+    /// let book = Book::new(bytes)?;
+    /// let put_out = |leaf| Datum { action: Action::Projection, leaf };
+    /// let closed = |data| Blocking::Closed { user: 1, data };
+    /// assert_eq!(book.blocked(1)?, closed(vec![put_out(4)]));
+    /// assert_eq!(book.blocked(2)?, closed(vec![put_out(2), put_out(4)])); // a state beside it
+    /// assert_eq!(book.blocked(4), Err(Refusal::NoRule));
+    /// # Ok::<(), Refusal>(())
+    /// ```
+    pub fn blocked(&self, rule: u32) -> Result<Blocking, Refusal> {
+        raw::value(raw::blocked(&self.bytes, rule)).map(Blocking::of)
     }
 }
 

@@ -2,6 +2,7 @@
 #![warn(missing_docs)]
 
 mod accesses;
+mod blocking;
 mod book;
 mod idleness;
 mod plan;
@@ -10,6 +11,7 @@ mod refusal;
 mod verdict;
 
 pub use accesses::{Access, Accesses, Action};
+pub use blocking::{Blocking, Datum};
 pub use book::{seal, Book, BLOCK};
 pub use idleness::Idleness;
 pub use plan::Plan;

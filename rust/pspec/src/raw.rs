@@ -38,6 +38,7 @@ mod c {
             buffer: *mut u8,
             buffer_len: usize,
         ) -> u64;
+        pub fn pspec_blocked(book: *const u8, book_len: usize, rule: u32) -> u64;
     }
 }
 
@@ -82,6 +83,12 @@ pub fn idle(book: &[u8], rule: u32, buffer: &mut [u8]) -> u64 {
     unsafe { c::pspec_idle(book.as_ptr(), book.len(), rule, to, room) }
 }
 
+/// Whether a rule speaks of data that no operation can open. Value: see `closed`.
+pub fn blocked(book: &[u8], rule: u32) -> u64 {
+    // SAFETY: as above; the call only reads.
+    unsafe { c::pspec_blocked(book.as_ptr(), book.len(), rule) }
+}
+
 /// The value of an answer, or its refusal.
 pub fn value(answer: u64) -> Result<u32, Refusal> {
     let number = (answer >> 40) as u32;
@@ -98,6 +105,16 @@ pub fn shown(value: u32) -> Option<(u32, u32)> {
     match value {
         0 => None,
         _ => Some((value / 256, value % 256)),
+    }
+}
+
+/// The user and the byte of each reference in a value of `blocked`; none for a rule that is open, as
+/// the first byte of a closed one is not 0. A byte is 128 + 64 × action + leaf, and 0 for an absent
+/// reference.
+pub fn closed(value: u32) -> Option<(u32, [u8; 3])> {
+    match (value, value.to_be_bytes()) {
+        (0, _) => None,
+        (_, [user, third, second, first]) => Some((user.into(), [first, second, third])),
     }
 }
 
@@ -119,5 +136,13 @@ mod tests {
         assert_eq!(shown(0), None);
         assert_eq!(shown(2), Some((0, 2)));
         assert_eq!(shown(31 * 256 + 9), Some((31, 9)));
+    }
+
+    #[test]
+    fn users_and_bytes() {
+        assert_eq!(closed(0), None);
+        assert_eq!(closed(128), Some((0, [128, 0, 0])));
+        let value = 31 * (1 << 24) + 255 * (1 << 16) + 130 * 256 + 195;
+        assert_eq!(closed(value), Some((31, [195, 130, 255])));
     }
 }

@@ -93,6 +93,7 @@ refusals! {
     23 WordCount "the buffer is not 32 words",
     24 NoRule "there is no such rule",
     25 BufferLength "the buffer is under 36 bytes",
+    26 RuleForbids "the rule forbids: it has no restriction",
 }
 
 impl fmt::Display for Refusal {

@@ -1,6 +1,6 @@
 //! Empty slices, and slices in the middle of other bytes.
 
-use books::named::small_shop;
+use books::named::{opposed_shop, small_shop};
 use pspec::{raw, seal, Book, Plan, Refusal};
 
 fn refusal(answer: u64) -> Refusal {
@@ -18,6 +18,7 @@ fn empty_slices() {
     assert_eq!(raw::judge(&book, 1, &[]), 0);
     assert_eq!(refusal(raw::idle(&[], 0, &mut [])), Refusal::BookLength);
     assert_eq!(refusal(raw::idle(&book, 0, &mut [])), Refusal::BufferLength);
+    assert_eq!(refusal(raw::blocked(&[], 0)), Refusal::BookLength);
 }
 
 #[test]
@@ -49,6 +50,29 @@ fn a_book_may_start_at_any_address() {
         let moved = [vec![0xEE; shift], book.clone()].concat();
         assert_eq!(raw::check(&moved[shift..]), 3);
     }
+}
+
+/// The value as the header packs it, and the same as types.
+#[test]
+fn closed_data() {
+    let book = opposed_shop().bytes();
+    let [state, price] = [128 + 2, 128 + 4];
+    let both = (1 << 24) + price * 256 + state;
+    for (rule, value) in [both, (1 << 24) + price].into_iter().enumerate() {
+        assert_eq!(raw::blocked(&book, rule as u32), value);
+    }
+    let forbids = |rule: usize| {
+        let mut shop = opposed_shop();
+        shop.rules[rule].restrictions.clear();
+        Book::new(shop.bytes()).expect("it is sound")
+    };
+    for rule in 0..4 {
+        let answer = forbids(rule).blocked(rule as u32);
+        assert_eq!(answer, Err(Refusal::RuleForbids));
+    }
+    let closed = forbids(0).blocked(3).expect("it has a restriction");
+    assert!(!closed.is_open());
+    assert_eq!(forbids(3).blocked(u32::MAX), Err(Refusal::NoRule));
 }
 
 #[test]

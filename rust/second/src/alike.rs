@@ -63,6 +63,11 @@ pub fn first_of_each_kind(candidates: Vec<Candidate>) -> Vec<Candidate> {
         .collect()
 }
 
+/// The kinds of some candidates.
+pub fn kinds(candidates: &[Candidate]) -> BTreeSet<Vec<Option<Seen>>> {
+    candidates.iter().map(|c| c.seen.clone()).collect()
+}
+
 /// Do the chosen candidates break a rule that covers the user?
 pub fn break_rule(rules: &[&Rule], rule: usize, chosen: &[&Candidate]) -> bool {
     let accepting: Vec<usize> = (0..rules[rule].restrictions.len()).collect();

@@ -36,6 +36,13 @@ impl Book {
             && self.functions.contains(&access.operation)
     }
 
+    /// The rules that cover a user, lowest first.
+    pub fn covering(&self, user: usize) -> Vec<usize> {
+        (0..self.rules.len())
+            .filter(|&r| self.rules[r].users.contains(&user))
+            .collect()
+    }
+
     /// Every access that can be had.
     pub fn obtainable(&self) -> BTreeSet<Access> {
         let mut found = BTreeSet::new();

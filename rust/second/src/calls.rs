@@ -1,6 +1,7 @@
-//! The five calls: what is refused, in document 01's order, and what is answered.
+//! The six calls: what is refused, in the documents' order, and what is answered.
 
 use crate::access::{Access, Action};
+use crate::blocked::{self, Datum};
 use crate::book::Book;
 use crate::idle::{self, Found};
 use crate::refusal::*;
@@ -97,12 +98,16 @@ pub fn idle_within(
 /// "Book refusals; 24, no such rule; 25, buffer under 36 bytes."
 fn ready(book: &[u8], rule: u32, buffer: &[u8]) -> Result<(Book, usize), Refusal> {
     let book = reading::read(book)?;
-    let rule = usize::try_from(rule).ok().filter(|&r| r < book.rules.len());
-    let rule = rule.ok_or(Refusal::of(NO_RULE))?;
+    let rule = a_rule(&book, rule).ok_or(Refusal::of(NO_RULE))?;
     if buffer.len() < 36 {
         return Err(Refusal::of(SHORT_BUFFER));
     }
     Ok((book, rule))
+}
+
+fn a_rule(book: &Book, rule: u32) -> Option<usize> {
+    let rule = usize::try_from(rule).ok()?;
+    (rule < book.rules.len()).then_some(rule)
 }
 
 /// The user and row count, with the plan written to the buffer's front.
@@ -112,4 +117,41 @@ fn show(book: &Book, found: Found, buffer: &mut [u8]) -> Option<(u32, u32)> {
     let bytes = shown::bytes(&rows);
     buffer[..bytes.len()].copy_from_slice(&bytes);
     Some((user as u32, rows.len() as u32))
+}
+
+/// The first user and association of a rule that stay closed; none for a rule that is open.
+type Blocking = Option<(u32, Vec<Datum>)>;
+
+/// **Blocked** (document 02, N1). "The first such user and association is given". `None` is open.
+pub fn blocked(book: &[u8], rule: u32) -> Result<Blocking, Refusal> {
+    let answer = blocked_within(book, rule, u64::MAX);
+    answer.expect("no search takes so many steps")
+}
+
+/// Blocked by trying every user, association and choice of operations, for small books.
+pub fn blocked_naive(book: &[u8], rule: u32) -> Result<Blocking, Refusal> {
+    let (book, rule) = with_restrictions(book, rule)?;
+    Ok(numbered(blocked::naive(&book, rule)))
+}
+
+/// Blocked, or nothing when the search takes more than so many steps.
+pub fn blocked_within(book: &[u8], rule: u32, steps: u64) -> Option<Result<Blocking, Refusal>> {
+    match with_restrictions(book, rule) {
+        Err(refusal) => Some(Err(refusal)),
+        Ok((book, rule)) => Some(Ok(numbered(blocked::within(&book, rule, steps)?))),
+    }
+}
+
+/// "Answers: book refusals, 24, then 26 if the rule forbids."
+fn with_restrictions(book: &[u8], rule: u32) -> Result<(Book, usize), Refusal> {
+    let book = reading::read(book)?;
+    let rule = a_rule(&book, rule).ok_or(Refusal::of(NO_RULE))?;
+    if book.rules[rule].restrictions.is_empty() {
+        return Err(Refusal::of(RULE_FORBIDS));
+    }
+    Ok((book, rule))
+}
+
+fn numbered(closed: blocked::Closed) -> Blocking {
+    closed.map(|(user, association)| (user as u32, association))
 }

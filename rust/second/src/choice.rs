@@ -1,4 +1,4 @@
-//! Choices: one access for each reference.
+//! Choices: one access, or whatever else is chosen, for each reference.
 
 use crate::access::Access;
 use crate::rule::Rule;
@@ -18,23 +18,23 @@ pub fn fitting<'a>(
 }
 
 /// The first choice that passes a test, "reference by reference".
-pub fn first(
-    candidates: &[Vec<Access>],
-    test: &mut impl FnMut(&[Access]) -> bool,
-) -> Option<Vec<Access>> {
+pub fn first<T: Copy>(
+    candidates: &[Vec<T>],
+    test: &mut impl FnMut(&[T]) -> bool,
+) -> Option<Vec<T>> {
     extend(candidates, &mut Vec::new(), test)
 }
 
-fn extend(
-    candidates: &[Vec<Access>],
-    chosen: &mut Vec<Access>,
-    test: &mut impl FnMut(&[Access]) -> bool,
-) -> Option<Vec<Access>> {
+fn extend<T: Copy>(
+    candidates: &[Vec<T>],
+    chosen: &mut Vec<T>,
+    test: &mut impl FnMut(&[T]) -> bool,
+) -> Option<Vec<T>> {
     let Some(here) = candidates.get(chosen.len()) else {
         return test(chosen).then(|| chosen.clone());
     };
-    for &access in here {
-        chosen.push(access);
+    for &one in here {
+        chosen.push(one);
         let found = extend(candidates, chosen, test);
         chosen.pop();
         if found.is_some() {

@@ -42,7 +42,7 @@ pub fn within(book: &Book, rule: usize, steps: u64) -> Option<Found> {
     let mut steps = steps;
     let mut tried = BTreeSet::new();
     for user in book.users.leaves() {
-        let covering = covering(book, user);
+        let covering = book.covering(user);
         if !covering.contains(&rule) || !tried.insert(covering.clone()) {
             continue;
         }
@@ -54,13 +54,6 @@ pub fn within(book: &Book, rule: usize, steps: u64) -> Option<Found> {
         }
     }
     Some(None)
-}
-
-/// The rules that cover a user, lowest first.
-fn covering(book: &Book, user: usize) -> Vec<usize> {
-    (0..book.rules.len())
-        .filter(|&r| book.rules[r].users.contains(&user))
-        .collect()
 }
 
 /// The search for one user. Rules are numbered among those that cover the user.

@@ -1,7 +1,7 @@
-//! A second implementation of the five calls of the policy engine.
+//! A second implementation of the six calls of the policy engine.
 //!
-//! It is written from document 01's sentences, each quoted where it is followed, with ordinary
-//! sets, explicit paths and explicit choices. It is made to be read and believed, not to be quick:
+//! It is written from the sentences of documents 01 and 02, each quoted where it is followed, with
+//! ordinary sets, explicit paths and explicit choices. It is made to be read and believed, not to be quick:
 //! the engine is tried against it.
 //!
 //! ```
@@ -14,6 +14,7 @@
 pub mod access;
 pub mod alike;
 pub mod block;
+pub mod blocked;
 pub mod book;
 pub mod breaking;
 pub mod choice;
@@ -29,5 +30,8 @@ pub mod shown;
 
 mod calls;
 
-pub use calls::{check, flows, idle, idle_naive, idle_within, judge, seal};
+pub use calls::{
+    blocked, blocked_naive, blocked_within, check, flows, idle, idle_naive, idle_within, judge,
+    seal,
+};
 pub use refusal::Refusal;

@@ -3,9 +3,9 @@
 /// A refusal: its number, and its place. "Places not named are 0."
 #[derive(Clone, Copy, Debug, PartialEq, Eq)]
 pub struct Refusal {
-    /// Document 01's number.
+    /// The document's number.
     pub number: u32,
-    /// The block or the row, where document 01 names one.
+    /// The block or the row, where the document names one.
     pub place: u32,
 }
 
@@ -54,3 +54,5 @@ pub const WORDS_LENGTH: u32 = 23;
 pub const NO_RULE: u32 = 24;
 /// "25, buffer under 36 bytes"
 pub const SHORT_BUFFER: u32 = 25;
+/// "26 if the rule forbids"
+pub const RULE_FORBIDS: u32 = 26;

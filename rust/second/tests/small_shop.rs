@@ -151,6 +151,30 @@ fn the_report() {
     assert_eq!(report_line(&book, 2), "rule 2 idle");
 }
 
+/// Every rule of the small shop is open: the average opens whatever holds a price.
+#[test]
+fn no_rule_is_blocked() {
+    let book = small_shop().bytes();
+    for rule in 0..3 {
+        assert_eq!(second::blocked(&book, rule), Ok(None));
+        assert_eq!(second::blocked_naive(&book, rule), Ok(None));
+    }
+    assert_eq!(second::blocked(&book, 3), refused(24, 0));
+}
+
+/// "26 if the rule forbids", after 24 and after the book's refusals.
+#[test]
+fn what_blocked_refuses() {
+    let mut shop = small_shop();
+    shop.rules[1].restrictions.clear();
+    let mut book = shop.bytes();
+    assert_eq!(second::blocked(&book, 1), refused(26, 0));
+    assert_eq!(second::blocked(&book, 3), refused(24, 0));
+    assert_eq!(second::blocked(&book, u32::MAX), refused(24, 0));
+    book[2 * 512] = 9;
+    assert_eq!(second::blocked(&book, 1), refused(2, 2));
+}
+
 /// "Deleting two equal rules: each is idle beside the other, not both together."
 #[test]
 fn equal_rules() {

@@ -2,7 +2,8 @@
 
 use books::valid::{draft, Size};
 use books::{plans, Random};
-use second::{idle, path, plan, reading};
+use second::access::Access;
+use second::{blocked, breaking, choice, idle, path, plan, reading};
 
 #[test]
 fn accesses_by_paths_and_by_rows() {
@@ -40,6 +41,37 @@ fn idle_naive_and_pruned() {
         }
     }
     assert!(found > 100 && none > 100, "{found} needed, {none} idle");
+}
+
+#[test]
+fn blocked_naive_and_pruned() {
+    let mut random = Random::new(14);
+    let [mut closed, mut open] = [0, 0];
+    for _ in 0..1_000 {
+        let draft = draft(&mut random, Size::Tiny);
+        let book = reading::read(&draft.bytes()).expect("the draft is sound");
+        for rule in 0..book.rules.len() {
+            // As many choices of operations as Idle has choices.
+            if idle::choices(&book, rule) > 2_000 {
+                continue;
+            }
+            let naive = blocked::naive(&book, rule);
+            closed += usize::from(naive.is_some());
+            open += usize::from(naive.is_none());
+            assert_eq!(blocked::within(&book, rule, u64::MAX), Some(naive));
+        }
+    }
+    assert!(closed > 100 && open > 100, "{closed} closed, {open} open");
+}
+
+#[test]
+fn blocked_gives_up() {
+    let book = books::named::small_shop().bytes();
+    assert_eq!(second::blocked_within(&book, 0, 1), None);
+    assert_eq!(
+        second::blocked_within(&book, 3, 0),
+        Some(second::blocked(&book, 3))
+    );
 }
 
 /// A search that runs out of steps says nothing and leaves the buffer.
@@ -97,5 +129,43 @@ fn twenty_are_needed_together() {
         let leaf = draft.rules[part].references[0].category;
         fewer.columns.retain(|c| !group.contains(c) || *c == leaf);
         assert!(needed(&fewer), "the rest without {part} covers 0");
+    }
+}
+
+/// The choices of operations that open the first association of rule 30 to the first user it covers.
+fn opening(draft: &books::Draft) -> Vec<Vec<u8>> {
+    let book = reading::read(&draft.bytes()).expect("it is accepted");
+    let rule = &book.rules[30];
+    let user = *rule.users.first().expect("it covers a user");
+    let offered: Vec<Vec<Access>> = rule
+        .references
+        .iter()
+        .map(|of| {
+            let datum = blocked::data(&book, of)[0];
+            let all = book.obtainable().into_iter();
+            all.filter(|a| (a.action, a.leaf) == (datum.action, datum.leaf))
+                .collect()
+        })
+        .collect();
+    let mut found = Vec::new();
+    choice::first(&offered, &mut |chosen: &[Access]| {
+        let accesses = chosen.iter().copied().collect();
+        if breaking::broken(&book, user, &accesses).is_empty() {
+            found.push(chosen.iter().map(|access| access.operation).collect());
+        }
+        false
+    });
+    found
+}
+
+/// In the books that are hard to open one choice does, the last or the first of 25 pairs.
+#[test]
+fn hardly_anything_opens() {
+    for (name, draft, _) in books::blocked::hard() {
+        let wanted = match name.as_str() {
+            "pairs in turn" => [15, 11, 11],
+            _ => [15, 15, 15],
+        };
+        assert_eq!(opening(&draft), [wanted], "{name}");
     }
 }

@@ -213,9 +213,10 @@ fn the_answers_in_the_document() {
     run(&folder, &["build", "tpc-ds.pspec", "-o", "tpc.book"]);
     let document = text("docs/EXAMPLE.md");
     let (_, shown) = document.split_once("```json\n").expect("it is there");
-    let shown: Vec<&str> = shown.lines().take(4).collect();
+    let shown: Vec<&str> = shown.lines().take(5).collect();
     let answer = |arguments: &[&str]| run(&folder, arguments).1;
     assert!(answer(&["report", "shop.book", "--json"]).contains(shown[0]));
+    assert!(answer(&["blocked", "tpc.book", "--json"]).contains(shown[4]));
     let plan = "tpc-ds-zip.plan";
     for (arguments, shown) in [
         (&["labels", "shop.book", "--json"][..], shown[1]),

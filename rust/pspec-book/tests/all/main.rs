@@ -2,6 +2,7 @@
 
 mod any_rows;
 mod any_text;
+mod blocked;
 mod commands;
 mod common;
 mod examples;

@@ -4,11 +4,17 @@ use crate::common::{built, numbered, text};
 use books::valid::{self, Size};
 use books::Random;
 use pspec_book::named::NamedBook;
-use pspec_book::{html, report, words};
+use pspec_book::{blocked, html, report, words};
 
 fn page(named: &NamedBook) -> String {
     let reports = report::each(named, |_| Ok(())).expect("it is reported");
     html::page("a & b.book", named, &reports)
+}
+
+/// The page on the blocked rules.
+fn blocked_page(named: &NamedBook) -> String {
+    let rules = blocked::each(named).expect("it is a book");
+    html::blocked("a & b.book", named, &rules)
 }
 
 #[test]
@@ -56,13 +62,14 @@ fn every_page_is_sound_and_complete() {
         let mut random = Random::new(seed);
         let size = [Size::Tiny, Size::Small, Size::Large][seed as usize % 3];
         let named = numbered(valid::draft(&mut random, size).bytes());
-        let page = page(&named);
-        is_sound(&page);
-        let count = |what: &str| page.matches(what).count();
-        assert_eq!(count("<section "), named.contents.rules.len());
-        let categories = named.contents.users.len() + named.contents.data.len();
-        assert_eq!(count("<circle "), categories);
-        assert_eq!(count("<path "), categories - 2);
+        for page in [page(&named), blocked_page(&named)] {
+            is_sound(&page);
+            let count = |what: &str| page.matches(what).count();
+            assert_eq!(count("<section "), named.contents.rules.len());
+            let categories = named.contents.users.len() + named.contents.data.len();
+            assert_eq!(count("<circle "), categories);
+            assert_eq!(count("<path "), categories - 2);
+        }
     }
 }
 

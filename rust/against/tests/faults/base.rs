@@ -1,21 +1,16 @@
-//! Faulty engines: the random cases tell each from the second implementation, and what is printed
-//! of a difference shows it again.
+//! Faults of the book check, Seal, Flows, Judge and Idle.
 
-use against::engine::{Idleness, Search, Second, STEPS};
-use against::run::compare;
-use against::{run, text, Engine, Limit, Tally};
+use crate::GOOD;
+use against::engine::{Blocking, Idleness};
+use against::Engine;
 use books::draft::BLOCK;
 use second::access::Access;
 use second::{breaking, path, plan, reading, Refusal};
 use std::collections::BTreeSet;
 
-const GOOD: Second = Second {
-    search: Search::Skipping(STEPS),
-};
-
 /// The faults, among them those of document 01's "Mistakes near at hand".
 #[derive(Clone, Copy, Debug, PartialEq, Eq)]
-enum Fault {
+pub enum Fault {
     NoPlaces,
     SealsChecksWithHighByteLast,
     ClearsWordsBeforeRefusing,
@@ -30,7 +25,7 @@ enum Fault {
     NeverIdle,
 }
 
-const FAULTS: [Fault; 12] = [
+pub const FAULTS: [Fault; 12] = [
     Fault::NoPlaces,
     Fault::SealsChecksWithHighByteLast,
     Fault::ClearsWordsBeforeRefusing,
@@ -104,6 +99,10 @@ impl Engine for Fault {
         }
         Some(answer)
     }
+
+    fn blocked(&self, book: &[u8], rule: u32) -> Blocking {
+        GOOD.blocked(book, rule)
+    }
 }
 
 impl Fault {
@@ -173,24 +172,4 @@ fn covered_by_one(book: &[u8], rule: u32) -> bool {
         let two = [head, this, rules[other]].concat();
         GOOD.idle(&two, 0, &mut [0; 36]) == Some(Ok(None))
     })
-}
-
-#[test]
-fn each_fault_is_found_and_shown_again() {
-    for fault in FAULTS {
-        let engines: [&dyn Engine; 2] = [&fault, &GOOD];
-        let mut cases = 0;
-        let mut count = |tally: &Tally| cases = tally.cases;
-        let difference = run(engines, 7, Limit::Cases(30_000), &mut count);
-        let difference = difference
-            .err()
-            .unwrap_or_else(|| panic!("{fault:?} not found"));
-        println!("{fault:?} found after {cases} cases");
-        let again = text::read(&difference.to_string()).expect("it can be read");
-        assert_eq!(again, difference.case);
-        assert!(
-            compare(engines, &again).is_err(),
-            "{fault:?} not seen again"
-        );
-    }
 }
