@@ -12,7 +12,7 @@
  *    the same time;
  *  - its answer is the one that crates/capi/specs/Packing.antt says, over specs/Answers.antt of the
  *    crates below, and so are the slice's elements on leaving;
- *  - what the numbers of pspec_judge and pspec_idle mean for a policy is one page,
+ *  - what the numbers of pspec_judge, pspec_idle and pspec_blocked mean for a policy is one page,
  *    crates/capi/specs/Demands.antt, and is proved of them;
  *  - a refusal leaves `block`, `words` and `buffer` as they were.
  *
@@ -22,9 +22,9 @@
  * crates/capi/proofs/Unpacking.antt).
  *
  * Not proved: this file, and that there is stack enough. On the largest book the smallest stacks that
- * worked were 16 KiB for pspec_check, 33 KiB for pspec_flows and pspec_judge, 50 KiB for pspec_idle
- * (bench stack); on a thread with less the process is stopped. Give them 128 KiB. The calls use
- * memcpy and memset and nothing else from outside.
+ * worked were 16 KiB for pspec_check, 33 KiB for pspec_flows and pspec_judge, 50 KiB for pspec_idle,
+ * 54 KiB for pspec_blocked (bench stack); on a thread with less the process is stopped. Give them
+ * 128 KiB. The calls use memcpy and memset and nothing else from outside.
  */
 #ifndef PSPEC_H
 #define PSPEC_H
