@@ -22,7 +22,7 @@
  * crates/capi/proofs/Unpacking.antt).
  *
  * Not proved: this file, and that there is stack enough. On the largest book the smallest stacks that
- * worked were 16 KiB for pspec_check, 33 KiB for pspec_flows and pspec_judge, 50 KiB for pspec_idle,
+ * worked were 16 KiB for pspec_check, 33 KiB for pspec_flows and pspec_judge, 48 KiB for pspec_idle,
  * 54 KiB for pspec_blocked (bench stack); on a thread with less the process is stopped. Give them
  * 128 KiB. The calls use memcpy and memset and nothing else from outside.
  */

@@ -137,7 +137,7 @@ fn pairs_in_turn() -> Draft {
 
 /// Each leaf of the third group has a rule of its own and opens under another pair of operations for the
 /// other two, 20 pairs. Two rules, for two halves of the users, can't both be kept, and nine rules that
-/// accept everything divide the users further: no user has all rules, and hardly two have the same.
+/// accept everything divide the users further, into eleven groups: no user has all rules.
 fn pair_each() -> Draft {
     let mut draft = hard_head();
     for (number, parent) in draft.users.iter_mut().enumerate().skip(3) {
