@@ -3,24 +3,24 @@
 use Prim.Native.Nat.{ℕ, _+_, _*_, _/_, _%_, _≤_, _<_}
 use native.Mathlib.Omega.{arith}
 use mathlib.Core.Path.{_≡_, refl, sym, ap, _∙_}
-use mathlib.Core.Bool.{Bool, true, false, _&&_, not}
+use mathlib.Core.Bool.{Bool, true, false, _&&_, _||_, not}
 use mathlib.Core.List.{List}
 use lib.ListN.{getD}
 use lib.Dec.{eqb, ltb}
-use borrow.Author.Tests.{not-true, eqb-true, eqb-false, lt-ltb}
+use borrow.Author.Tests.{not-true, eqb-true, eqb-false, eq-eqb, ne-eqb, lt-ltb, ltb-true, ltb-false}
 use Rattle.book.specs.Lists.{any, upTo}
 use Rattle.book.specs.Sets.{has}
-use Rattle.book.proofs.Lists.{and-both, and-end, and-false, and-true, and-left, and-right, at-none, none-at}
+use Rattle.book.proofs.Lists.{and-both, and-end, and-true, and-left, and-right, at-none, none-at, or-end, or-true}
 use Rattle.book.proofs.Members.{has-zero}
-use Rattle.search.specs.Inner.Places.{PlacesOf, inPlaces}
+use Rattle.search.specs.Inner.Places.{FirstFrom, PlacesOf, inPlaces}
 use Rattle.search.specs.Inner.Table.{meets}
 use Rattle.search.specs.Inner.Closing.{acceptedAt, closes}
 use Rattle.search.proofs.Sieves.{both}
 use Rattle.search.proofs.Solutions.{fails}
 use Rattle.blocked.specs.Inner.Cells.{Left, Opens, Tried, inCell, spares}
-use Rattle.blocked.specs.Inner.Pairs.{Accepts, Answers, Asked, MasksHold, Prepared, SecondPairs, SlicesHold}
-use Rattle.blocked.specs.Inner.Pairs.{firstAt, secondAt, thirdAt}
-use Rattle.blocked.proofs.CellLaws.{cell-member}
+use Rattle.blocked.specs.Inner.Pairs.{Accepts, Answers, Asked, CellOperations, MasksHold, Prepared, SecondPairs}
+use Rattle.blocked.specs.Inner.Pairs.{SlicesHold, firstAt, secondAt, thirdAt}
+use Rattle.blocked.proofs.CellLaws.{cell-member, cell-place}
 use Rattle.blocked.proofs.OrderLaws.{accepted-operations, accepts-spared, spared-accepts}
 
 -- an empty set has no place
@@ -54,7 +54,7 @@ module _ (t : List ℕ) (rules : ℕ → Bool) (a y x : ℕ) where
 module _ (t met : List ℕ) (rules : ℕ) (seconds before : List ℕ) (a m : ℕ) (masks s pairs : List ℕ)
     (given : Prepared t met (has rules) seconds before) (masked : MasksHold t rules a m masks)
     (sliced : SlicesHold t masks a s) (paired : SecondPairs seconds m pairs) (second-small : m < 132) where
-  module _ (n third : ℕ) (small : n < 132) (word : (k : ℕ) → k < 16 → has third k ≡ inPlaces before (16 * n + k))
+  module _ (n third : ℕ) (small : n < 132) (word : CellOperations before n third)
       (y x w b : ℕ) (lw : w < 4) (lb : b < 64) (ey : y ≡ 16 * m + (4 * w + b / 16)) (ex : x ≡ 16 * n + b % 16) where
     -- the rules of a mask that cell n meets too, by the places
     module _ (q v : ℕ) (lq : q < 32) (lv : v < 6) (member : inPlaces seconds y ≡ true) (left : inPlaces before x ≡ true)
@@ -62,12 +62,14 @@ module _ (t met : List ℕ) (rules : ℕ) (seconds before : List ℕ) (a m : ℕ
       second-meets : meets t q (secondAt v) (16 * m) ≡ meets t q (secondAt v) y
       second-meets =
           let e : 16 * (y / 16) ≡ 16 * m = omega arith in
-          ap (meets t q (secondAt v)) (sym e) ∙ sym (given .seconds-whole q (secondAt v) y lq rule (omega arith) (omega arith) member)
+          ap (meets t q (secondAt v)) (sym e)
+          ∙ sym (given .seconds-whole q (secondAt v) y lq rule (omega arith) (omega arith) member)
 
       third-meets : meets t q (thirdAt v) (16 * n) ≡ meets t q (thirdAt v) x
       third-meets =
           let e : 16 * (x / 16) ≡ 16 * n = omega arith in
-          ap (meets t q (thirdAt v)) (sym e) ∙ sym (given .thirds-whole q (thirdAt v) x lq rule (omega arith) (omega arith) left)
+          ap (meets t q (thirdAt v)) (sym e)
+          ∙ sym (given .thirds-whole q (thirdAt v) x lq rule (omega arith) (omega arith) left)
 
       accepted-there :
           acceptedAt t q (thirdAt v) (firstAt v) (secondAt v) a y x
@@ -130,233 +132,100 @@ module _ (t met : List ℕ) (rules : ℕ) (seconds before : List ℕ) (a m : ℕ
               (sym (second-meets q v lq lv member left rule) ∙ two .1);
         }
 
--- One cell
-
-module _ (s met masks pairs : List ℕ) (n : ℕ) (places : List ℕ) (third : ℕ) (answer : Bool)
-    (word : (k : ℕ) → k < 16 → has third k ≡ inPlaces places (16 * n + k))
-    (told : Answers s met masks pairs third n answer) where
-  pub asked-stays : answer ≡ false → Asked s met masks pairs n places places
-  asked-stays e =
-      record {
-        third = third;
-        answer = answer;
-        word = word;
-        told = told;
-        kept = λ p l.
-            sym
-            (ap (λ (b : Bool). inPlaces places p && not (eqb (p / 16) n && b)) e
-            ∙ ap (λ (b : Bool). inPlaces places p && not b) (and-false (eqb (p / 16) n))
-            ∙ and-end (inPlaces places p));
-      }
-
-  pub asked-gone :
-      (after : List ℕ)
-      → answer ≡ true
-      → PlacesOf (λ p. inPlaces places p && not (eqb (p / 16) n)) after
-      → Asked s met masks pairs n places after
-  asked-gone after e less =
-      record {
-        third = third;
-        answer = answer;
-        word = word;
-        told = told;
-        kept = λ p l.
-            less p l
-            ∙ sym
-            (ap (λ (b : Bool). inPlaces places p && not (eqb (p / 16) n && b)) e
-            ∙ ap (λ (b : Bool). inPlaces places p && not b) (and-end (eqb (p / 16) n)));
-      }
-
 -- One cell after the other
 
--- fewer places
-pub prepared-places :
-    (t met : List ℕ) (rules : ℕ → Bool) (seconds places rest : List ℕ)
-    → ((x : ℕ) → x < 2112 → inPlaces rest x ≡ true → inPlaces places x ≡ true)
-    → Prepared t met rules seconds places
-    → Prepared t met rules seconds rest
-prepared-places t met rules seconds places rest fewer given =
-    record {
-      met-holds = given .met-holds;
-      seconds-whole = given .seconds-whole;
-      thirds-whole = λ q i p l h li lp member. given .thirds-whole q i p l h li lp (fewer p lp member);
-      repeats = given .repeats;
-    }
-
--- what is left of the cells below n, and the others as they were
-pub record Asking (t : List ℕ) (rules : ℕ) (seconds : List ℕ) (a m : ℕ) (before rest : List ℕ) (n : ℕ) : Type 0 where
-  pub fewer : (x : ℕ) → x < 2112 → inPlaces rest x ≡ true → inPlaces before x ≡ true
-  pub whole :
-      (x z : ℕ)
-      → x < 2112
-      → z < 2112
-      → z / 16 ≡ x / 16
-      → inPlaces rest x ≡ true
-      → inPlaces before z ≡ true
-      → inPlaces rest z ≡ true
-  pub closed :
-      (x y : ℕ)
-      → x < 2112
-      → x / 16 < n
-      → inPlaces rest x ≡ true
-      → y / 16 ≡ m
-      → inPlaces seconds y ≡ true
-      → spares t (has rules) a y x ≡ false
-  pub gone :
-      (x : ℕ)
-      → x < 2112
-      → inPlaces before x ≡ true
-      → inPlaces rest x ≡ false
-      → (y z : ℕ)
-      × (y / 16 ≡ m)
-      × (inPlaces seconds y ≡ true)
-      × (z / 16 ≡ x / 16)
-      × (inPlaces before z ≡ true)
-      × (spares t (has rules) a y z ≡ true)
-
-module _ (t : List ℕ) (rules : ℕ) (seconds : List ℕ) (a m : ℕ) (before : List ℕ) where
-  pub asking-start : Asking t rules seconds a m before before 0
-  asking-start =
+module _ (s met masks pairs before : List ℕ) where
+  pub asked-start : Asked s met masks pairs 0 before before
+  asked-start =
       record {
-        fewer = λ x l h. h;
-        whole = λ x z l k e h g. g;
-        closed = λ x y l low h e g. absurd (omega arith);
-        gone = λ x l h n. both h n;
+        answer = λ n. false;
+        told = λ n l h. absurd (omega arith);
+        later = λ n l. refl;
+        kept = λ p l. sym (and-end (inPlaces before p));
       }
 
-  module _ (rest : List ℕ) (n : ℕ) (old : Asking t rules seconds a m before rest n) where
-    -- a cell with nothing in it
-    pub asking-none : inCell rest n ≡ false → Asking t rules seconds a m before rest (n + 1)
-    asking-none none =
+  module _ (c : ℕ) (rest : List ℕ) (old : Asked s met masks pairs c before rest) where
+    -- a cell that has not been asked about is as it was
+    same-later : (p : ℕ) → p < 2112 → c ≤ p / 16 → inPlaces rest p ≡ inPlaces before p
+    same-later p l past = old .kept p l ∙ rw (old .later (p / 16) past, and-end)
+
+    -- the cells up to the next place that is left have none
+    pub asked-skip : (p x : ℕ) → p ≡ 16 * c → FirstFrom rest p x → Asked s met masks pairs (x / 16) before rest
+    asked-skip p x ep next =
         record {
-          fewer = old .fewer;
-          whole = old .whole;
-          closed = λ x y l low h e g. go x y l low h e g (eqb (x / 16) n) refl;
-          gone = old .gone;
+          answer = old .answer;
+          told = λ n l h. go n l h (ltb n c) refl;
+          later = λ n l. old .later n (omega (arith, next .low));
+          kept = old .kept;
         }
       where
         go :
-            (x y : ℕ)
-            → x < 2112
-            → x / 16 < n + 1
-            → inPlaces rest x ≡ true
-            → y / 16 ≡ m
-            → inPlaces seconds y ≡ true
+            (n : ℕ)
+            → n < x / 16
+            → inCell before n ≡ true
             → (b : Bool)
-            → eqb (x / 16) n ≡ b
-            → spares t (has rules) a y x ≡ false
-        go x y l low h e g true f =
-            both (cell-member rest x h) (ap (inCell rest) (eqb-true (x / 16) n f) ∙ none)
-        go x y l low h e g false f =
-            let other = eqb-false (x / 16) n f in
-            old .closed x y l (omega arith) h e g
+            → ltb n c ≡ b
+            → (third : ℕ) × CellOperations before n third × Answers s met masks pairs third n (old .answer n)
+        go n l h true e = old .told n (ltb-true n c e) h
+        go n l h false e =
+            let z = cell-place before n h in
+            let in-cell : z .0 / 16 ≡ n = z .1 in
+            let past = ltb-false n c e in
+            let high = next .high in
+            both (same-later (z .0) (omega arith) (omega arith) ∙ z .2)
+            (next .skipped (z .0) (omega arith) (omega arith))
 
-    module _ (met masks s pairs after : List ℕ) (small : n < 132) (second-small : m < 132)
-        (given : Prepared t met (has rules) seconds before) (masked : MasksHold t rules a m masks)
-        (sliced : SlicesHold t masks a s) (paired : SecondPairs seconds m pairs)
-        (asked : Asked s met masks pairs n rest after) where
-      here : Prepared t met (has rules) seconds rest
-      here = prepared-places t met (has rules) seconds before rest (old .fewer) given
+    module _ (third : ℕ) (answer : Bool) (small : c < 132) (word : CellOperations rest c third)
+        (here : Answers s met masks pairs third c answer) where
+      -- what was told of the cells before, and is told of this one
+      telling :
+          (told : ℕ → Bool)
+          → ((n : ℕ) → n < c → told n ≡ old .answer n)
+          → told c ≡ answer
+          → (n : ℕ)
+          → n < c + 1
+          → inCell before n ≡ true
+          → (b : Bool)
+          → eqb n c ≡ b
+          → (z : ℕ) × CellOperations before n z × Answers s met masks pairs z n (told n)
+      telling told others this n l h true e =
+          let same = eqb-true n c e in
+          rw (same, this) (third, λ k m. word k m ∙ same-later (16 * c + k) (omega arith) (omega arith), here)
+      telling told others this n l h false e =
+          let other = eqb-false n c e in
+          rw (others n (omega arith)) (old .told n (omega arith) h)
 
-      stays : (x : ℕ) → x < 2112 → inPlaces after x ≡ true → inPlaces rest x ≡ true
-      stays x l h =
-          and-left (inPlaces rest x) (not (eqb (x / 16) n && asked .answer)) (sym (asked .kept x l) ∙ h)
-
-      -- what the answer says of the cell's places
-      opened :
-          asked .answer ≡ true
-          → (y z : ℕ)
-          × (y / 16 ≡ m)
-          × (inPlaces seconds y ≡ true)
-          × (z / 16 ≡ n)
-          × (inPlaces rest z ≡ true)
-          × (spares t (has rules) a y z ≡ true)
-      opened e =
-          let found = asked .told .found e in
-          let w = found .0 in
-          let b = found .1 in
-          let lw : w < 4 = found .2 in
-          let lb : b < 64 = found .3 in
-          let y = 16 * m + (4 * w + b / 16) in
-          let z = 16 * n + b % 16 in
-          let p =
-          accepts-spares t met rules seconds rest a m masks s pairs here masked sliced paired second-small n
-          (asked .third) small (asked .word) y z w b lw lb refl refl (found .4) in
-          (y, z, omega arith, p .0, omega arith, p .1, p .2)
-
-      unopened :
-          asked .answer ≡ false
-          → (x y : ℕ)
-          → x / 16 ≡ n
-          → inPlaces rest x ≡ true
-          → y / 16 ≡ m
-          → inPlaces seconds y ≡ true
-          → spares t (has rules) a y x ≡ false
-      unopened e x y ex h ey g =
-          fails (spares t (has rules) a y x)
-          (λ spared.
-          let w = y % 16 / 4 in
-          let b = 16 * (y % 4) + x % 16 in
-          asked .told .none e w b (omega arith) (omega arith)
-          (spares-accepts t met rules seconds rest a m masks s pairs here masked sliced paired second-small n
-          (asked .third) small (asked .word) y x w b (omega arith) (omega arith) (omega arith) (omega arith) g h spared))
-
-      pub asking-more : Asking t rules seconds a m before after (n + 1)
-      asking-more =
+      pub asked-stays : answer ≡ false → Asked s met masks pairs (c + 1) before rest
+      asked-stays e =
           record {
-            fewer = λ x l h. old .fewer x l (stays x l h);
-            whole = λ x z l k e h g.
-                let both-left = old .whole x z l k e (stays x l h) g in
-                asked .kept z k
-                ∙ and-true (inPlaces rest z) (not (eqb (z / 16) n && asked .answer)) both-left
-                (rw e
-                (and-right (inPlaces rest x) (not (eqb (x / 16) n && asked .answer)) (sym (asked .kept x l) ∙ h)));
-            closed = λ x y l low h e g. shut x y l low h e g (eqb (x / 16) n) refl;
-            gone = λ x l h none. out x l h none (inPlaces rest x) refl (eqb (x / 16) n) refl (asked .answer) refl;
+            answer = old .answer;
+            told = λ n l h.
+                telling (old .answer) (λ j m. refl) (old .later c (omega arith) ∙ sym e) n l h (eqb n c) refl;
+            later = λ n l. old .later n (omega arith);
+            kept = old .kept;
+          }
+
+      pub asked-gone :
+          (after : List ℕ)
+          → answer ≡ true
+          → PlacesOf (λ p. inPlaces rest p && not (eqb (p / 16) c)) after
+          → Asked s met masks pairs (c + 1) before after
+      asked-gone after e less =
+          record {
+            answer = λ n. old .answer n || eqb n c;
+            told = λ n l h.
+                telling (λ j. old .answer j || eqb j c) (λ j m. rw (ne-eqb j c (λ z. omega arith), or-end))
+                (rw (eq-eqb c c refl, e) (or-true (old .answer c))) n l h (eqb n c) refl;
+            later = λ n l. rw (old .later n (omega arith)) (ne-eqb n c (λ z. omega arith));
+            kept = λ p l.
+                less p l
+                ∙ rw (old .kept p l) (less-both (inPlaces before p) (old .answer (p / 16)) (eqb (p / 16) c));
           }
         where
-          shut :
-              (x y : ℕ)
-              → x < 2112
-              → x / 16 < n + 1
-              → inPlaces after x ≡ true
-              → y / 16 ≡ m
-              → inPlaces seconds y ≡ true
-              → (b : Bool)
-              → eqb (x / 16) n ≡ b
-              → spares t (has rules) a y x ≡ false
-          shut x y l low h e g true f =
-              let there = and-right (inPlaces rest x) (not (eqb (x / 16) n && asked .answer)) (sym (asked .kept x l) ∙ h) in
-              unopened (not-true (asked .answer) (rw f at there)) x y (eqb-true (x / 16) n f) (stays x l h) e g
-          shut x y l low h e g false f =
-              let other = eqb-false (x / 16) n f in
-              old .closed x y l (omega arith) (stays x l h) e g
-
-          out :
-              (x : ℕ)
-              → x < 2112
-              → inPlaces before x ≡ true
-              → inPlaces after x ≡ false
-              → (c : Bool)
-              → inPlaces rest x ≡ c
-              → (d : Bool)
-              → eqb (x / 16) n ≡ d
-              → (k : Bool)
-              → asked .answer ≡ k
-              → (y z : ℕ)
-              × (y / 16 ≡ m)
-              × (inPlaces seconds y ≡ true)
-              × (z / 16 ≡ x / 16)
-              × (inPlaces before z ≡ true)
-              × (spares t (has rules) a y z ≡ true)
-          out x l h none false ec d ed k ek = old .gone x l h ec
-          out x l h none true ec false ed k ek = both (asked .kept x l ∙ rw (ec, ed)) none
-          out x l h none true ec true ed false ek = both (asked .kept x l ∙ rw (ec, ed, ek)) none
-          out x l h none true ec true ed true ek =
-              let p = opened ek in
-              let e : x / 16 ≡ n = eqb-true (x / 16) n ed in
-              let f : p .1 / 16 ≡ n = p .4 in
-              (p .0, p .1, p .2, p .3, omega arith, old .fewer (p .1) (omega arith) (p .5), p .6)
+          less-both : (x y z : Bool) → ((x && not y) && not z) ≡ (x && not (y || z))
+          less-both true true z = refl
+          less-both true false z = refl
+          less-both false y z = refl
 
 -- One first place
 
@@ -374,33 +243,108 @@ module _ (t : List ℕ) (rules : ℕ) (firsts seconds : List ℕ) (l m k : ℕ) 
         gone = λ x b h n. both h n;
       }
 
-  pub tried-asked :
-      (a n : ℕ) (after : List ℕ)
-      → a ≡ 16 * l + k
-      → inPlaces firsts a ≡ true
-      → 132 ≤ n
-      → Asking t rules seconds a m before after n
-      → Tried t rules firsts seconds l m k before after
-  tried-asked a n after ea first past all =
-      record {
-        fewer = all .fewer;
-        whole = all .whole;
-        closed = λ x y b h f e g.
-            ap (λ (c : ℕ). spares t (has rules) c y x) (sym ea) ∙ all .closed x y b (omega arith) h e g;
-        gone = λ x b h none.
-            let p = all .gone x b h none in (
-              ap (inPlaces firsts) (sym ea) ∙ first,
-              p .0,
-              p .1,
-              p .2,
-              p .3,
-              p .4,
-              p .5,
-              ap (λ (c : ℕ). spares t (has rules) c (p .0) (p .1)) (sym ea) ∙ p .6,
-            );
-      }
+  module _ (a : ℕ) (met masks s pairs after : List ℕ) (ea : a ≡ 16 * l + k) (first : inPlaces firsts a ≡ true)
+      (second-small : m < 132) (given : Prepared t met (has rules) seconds before)
+      (masked : MasksHold t rules a m masks) (sliced : SlicesHold t masks a s) (paired : SecondPairs seconds m pairs)
+      (asked : Asked s met masks pairs 132 before after) where
+    stays :
+        (x : ℕ)
+        → x < 2112
+        → inPlaces after x ≡ true
+        → (inPlaces before x ≡ true) × (not (asked .answer (x / 16)) ≡ true)
+    stays x b h = and-both (inPlaces before x) (not (asked .answer (x / 16))) (sym (asked .kept x b) ∙ h)
+
+    -- what the answer says of a cell's places
+    opened :
+        (x : ℕ)
+        → x < 2112
+        → inPlaces before x ≡ true
+        → asked .answer (x / 16) ≡ true
+        → (y z : ℕ)
+        × (y / 16 ≡ m)
+        × (inPlaces seconds y ≡ true)
+        × (z / 16 ≡ x / 16)
+        × (inPlaces before z ≡ true)
+        × (spares t (has rules) a y z ≡ true)
+    opened x small h e =
+        let n = x / 16 in
+        let one = asked .told n (omega arith) (cell-member before x h) in
+        let found = one .2 .found e in
+        let w = found .0 in
+        let b = found .1 in
+        let lw : w < 4 = found .2 in
+        let lb : b < 64 = found .3 in
+        let y = 16 * m + (4 * w + b / 16) in
+        let z = 16 * n + b % 16 in
+        let p =
+        accepts-spares t met rules seconds before a m masks s pairs given masked sliced paired second-small n
+        (one .0) (omega arith) (one .1) y z w b lw lb refl refl (found .4) in
+        (y, z, omega arith, p .0, omega arith, p .1, p .2)
+
+    unopened :
+        (x y : ℕ)
+        → x < 2112
+        → inPlaces before x ≡ true
+        → asked .answer (x / 16) ≡ false
+        → y / 16 ≡ m
+        → inPlaces seconds y ≡ true
+        → spares t (has rules) a y x ≡ false
+    unopened x y small h e ey g =
+        let n = x / 16 in
+        let one = asked .told n (omega arith) (cell-member before x h) in
+        fails (spares t (has rules) a y x)
+        (λ spared.
+        let w = y % 16 / 4 in
+        let b = 16 * (y % 4) + x % 16 in
+        one .2 .none e w b (omega arith) (omega arith)
+        (spares-accepts t met rules seconds before a m masks s pairs given masked sliced paired second-small n
+        (one .0) (omega arith) (one .1) y x w b (omega arith) (omega arith) (omega arith) (omega arith) g h spared))
+
+    pub tried-asked : Tried t rules firsts seconds l m k before after
+    tried-asked =
+        record {
+          fewer = λ x b h. stays x b h .0;
+          whole = λ x z b d e h g.
+              asked .kept z d ∙ and-true (inPlaces before z) (not (asked .answer (z / 16))) g (rw e (stays x b h .1));
+          closed = λ x y b h f e g.
+              let there = stays x b h in
+              ap (λ (c : ℕ). spares t (has rules) c y x) (sym ea)
+              ∙ unopened x y b (there .0) (not-true (asked .answer (x / 16)) (there .1)) e g;
+          gone = λ x b h none.
+              let p = opened x b h (taken x b h none) in (
+                ap (inPlaces firsts) (sym ea) ∙ first,
+                p .0,
+                p .1,
+                p .2,
+                p .3,
+                p .4,
+                p .5,
+                ap (λ (c : ℕ). spares t (has rules) c (p .0) (p .1)) (sym ea) ∙ p .6,
+              );
+        }
+      where
+        taken : (x : ℕ) → x < 2112 → inPlaces before x ≡ true → inPlaces after x ≡ false → asked .answer (x / 16) ≡ true
+        taken x b h none = go (asked .answer (x / 16)) refl
+          where
+            go : (c : Bool) → asked .answer (x / 16) ≡ c → asked .answer (x / 16) ≡ true
+            go true e = e
+            go false e = both (asked .kept x b ∙ rw (h, e)) none
 
 -- All first places of a cell
+
+-- fewer places
+pub prepared-places :
+    (t met : List ℕ) (rules : ℕ → Bool) (seconds places rest : List ℕ)
+    → ((x : ℕ) → x < 2112 → inPlaces rest x ≡ true → inPlaces places x ≡ true)
+    → Prepared t met rules seconds places
+    → Prepared t met rules seconds rest
+prepared-places t met rules seconds places rest fewer given =
+    record {
+      met-holds = given .met-holds;
+      seconds-whole = given .seconds-whole;
+      thirds-whole = λ q i p l h li lp member. given .thirds-whole q i p l h li lp (fewer p lp member);
+      repeats = given .repeats;
+    }
 
 module _ (t : List ℕ) (rules : ℕ) (firsts seconds thirds : List ℕ) (l m : ℕ) where
   pub left-start : Left t rules firsts seconds thirds l m 0 thirds

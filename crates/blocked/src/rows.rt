@@ -1,13 +1,13 @@
 // A row: the third cells that stay closed beside a first and a second cell. One place of the first
 // cell after the other opens some of them.
-use crate::cells::PAST_CELLS;
 use crate::cells::cell_word;
-use crate::cells::has_cell;
 use crate::cells::inside;
 use crate::cells::less_cell;
 use crate::pairs::fill_slices;
 use crate::pairs::row_masks;
 use crate::pairs::some_accepted;
+use search::places::PAST_PLACES;
+use search::places::first_from;
 use search::places::is_empty;
 use search::tables::spread;
 ghost use Prim.Native.Nat.{_<_};
@@ -35,28 +35,23 @@ fn second_pairs(seconds: [u64; 33], m: usize) -> [u64; 4]
     ]
 }
 
-// What is left when cell n has been asked about, k being the first place's operation.
-fn asked(
-    s: &[u64],
-    met: &[u64],
-    masks: [u64; 6],
-    pairs: [u64; 4],
-    k: usize,
-    n: usize,
-    before: Row,
-) -> Row
-    ensures { λ r. ⌜ (n < pastCells
-        → Asked (now (s .entry)) (now (met .entry)) masks pairs n (before .places) (r .places)) ⌝ }
+// What is left when each cell has been asked about, k being the first place's operation.
+fn asked(s: &[u64], met: &[u64], masks: [u64; 6], pairs: [u64; 4], k: usize, before: Row) -> Row
+    ensures { λ r. ⌜ Asked (now (s .entry)) (now (met .entry)) masks pairs pastCells (before .places) (r .places) ⌝ }
 {
-    let places = before.places;
-    if !some_accepted(s, met, masks, pairs, cell_word(places, n), n) {
-        return before;
+    let mut places = before.places;
+    let mut hint = before.hint;
+    let mut x = first_from(places, 0);
+    while x < PAST_PLACES {
+        let n = x / 16;
+        if some_accepted(s, met, masks, pairs, cell_word(places, n), n) {
+            let rest = less_cell(places, n);
+            places = rest;
+            hint = (k % 16) as u8;
+        }
+        x = first_from(places, 16 * n + 16);
     }
-    let rest = less_cell(places, n);
-    Row {
-        places: rest,
-        hint: (k % 16) as u8,
-    }
+    Row { places, hint }
 }
 
 // What is left when the k-th place of cell l has been tried.
@@ -83,16 +78,7 @@ fn tried(
     let mut s = [0u64; 768];
     fill_slices(&mut s, t, masks, a);
     let pairs = second_pairs(seconds, m);
-    let mut row = before;
-    for n in 0..PAST_CELLS {
-        let places = row.places;
-        if !has_cell(places, n) {
-            continue;
-        }
-        let next = asked(&s, met, masks, pairs, k, n, row);
-        row = next;
-    }
-    row
+    asked(&s, met, masks, pairs, k, before)
 }
 
 // What is left when every place of cell l has been tried: it stays closed.

@@ -1,17 +1,18 @@
 -- Pairs of operations beside one first place: which of them the rules accept, as words. A second operation c and a
 -- third operation d are bit 16 × (c % 4) + d of word c / 4. No call's promise leans on this file. Assumes nothing.
-use Prim.Native.Nat.{ℕ, _+_, _*_, _/_, _%_, _<_}
+use Prim.Native.Nat.{ℕ, _+_, _*_, _/_, _%_, _≤_, _<_}
 use mathlib.Core.Path.{_≡_}
 use mathlib.Core.Bool.{Bool, true, false, _&&_, _||_, not}
 use mathlib.Core.List.{List}
 use lib.ListN.{getD}
-use lib.Dec.{eqb, ltb}
+use lib.Dec.{ltb}
 use Rattle.book.specs.Lists.{all, upTo}
 use Rattle.book.specs.Sets.{has}
 use Rattle.search.specs.Inner.Places.{PlacesOf, inPlaces, pastPlaces}
 use Rattle.search.specs.Inner.Table.{meets, takesAt}
 use Rattle.search.specs.Inner.Closing.{acceptedAt}
 use Rattle.search.specs.Inner.Search.{coversIn}
+use Rattle.blocked.specs.Inner.Cells.{inCell}
 
 -- the six orders in which three places stand for the references of a rule: where the first, the second and the third do
 abbrev pub thirdAt : ℕ → ℕ
@@ -35,6 +36,10 @@ MasksHold t rules a m masks =
     → v < 6
     → has (getD masks v 0) q
     ≡ (has rules q && (ltb q 32 && (meets t q (firstAt v) a && meets t q (secondAt v) (16 * m))))
+
+-- the operations with which the places of cell c are in a set
+abbrev pub CellOperations : List ℕ → ℕ → ℕ → Type 0
+CellOperations set c word = (k : ℕ) → k < 16 → has word k ≡ inPlaces set (16 * c + k)
 
 -- the pairs that some restriction of rule q accepts, with the third place at i, a at k and the second place at l
 abbrev pub AcceptedWords : List ℕ → ℕ → ℕ → ℕ → ℕ → ℕ → List ℕ → Type 0
@@ -79,13 +84,17 @@ pub record Answers (s met masks pairs : List ℕ) (third n : ℕ) (answer : Bool
   pub found : answer ≡ true → (w b : ℕ) × (w < 4) × (b < 64) × Accepts s met masks pairs third n w b
   pub none : answer ≡ false → (w b : ℕ) → w < 4 → b < 64 → Accepts s met masks pairs third n w b → ⊥
 
--- cell n is gone from a set of places when there is such a pair with its operations, and nothing else is
-pub record Asked (s met masks pairs : List ℕ) (n : ℕ) (before after : List ℕ) : Type 0 where
-  pub third : ℕ
-  pub answer : Bool
-  pub word : (k : ℕ) → k < 16 → has third k ≡ inPlaces before (16 * n + k)
-  pub told : Answers s met masks pairs third n answer
-  pub kept : PlacesOf (λ p. inPlaces before p && not (eqb (p / 16) n && answer)) after
+-- of a set of places the cells below c are gone for which there is such a pair with their operations, and nothing else
+-- is
+pub record Asked (s met masks pairs : List ℕ) (c : ℕ) (before after : List ℕ) : Type 0 where
+  pub answer : ℕ → Bool
+  pub told :
+      (n : ℕ)
+      → n < c
+      → inCell before n ≡ true
+      → (third : ℕ) × CellOperations before n third × Answers s met masks pairs third n (answer n)
+  pub later : (n : ℕ) → c ≤ n → answer n ≡ false
+  pub kept : PlacesOf (λ p. inPlaces before p && not (answer (p / 16))) after
 
 -- the pairs of a second place of cell m and any third operation
 abbrev pub SecondPairs : List ℕ → ℕ → List ℕ → Type 0
