@@ -1,6 +1,6 @@
 -- Laws of rows: which pairs of operations open a third cell beside a first place, what is left when a first place has
 -- been tried, and when every one has. Assumes nothing.
-use Prim.Native.Nat.{ℕ, _+_, _*_, _/_, _%_, _≤_, _<_}
+use Prim.Native.Nat.{ℕ, _+_, _-_, _*_, _/_, _%_, _≤_, _<_}
 use native.Mathlib.Omega.{arith}
 use mathlib.Core.Path.{_≡_, refl, sym, ap, _∙_}
 use mathlib.Core.Bool.{Bool, true, false, _&&_, _||_, not}
@@ -346,89 +346,117 @@ prepared-places t met rules seconds places rest fewer given =
       repeats = given .repeats;
     }
 
-module _ (t : List ℕ) (rules : ℕ) (firsts seconds thirds : List ℕ) (l m : ℕ) where
-  pub left-start : Left t rules firsts seconds thirds l m 0 thirds
+-- what is left when j places of cell l have been tried, in turn from the h-th
+pub record LeftFrom
+    (t : List ℕ)
+    (rules : ℕ)
+    (firsts seconds thirds : List ℕ)
+    (l m h j : ℕ)
+    (rest : List ℕ)
+    : Type 0 where
+  pub left : Left t rules firsts seconds thirds l m 0 rest
+  pub closed :
+      (i x y : ℕ)
+      → i < j
+      → x < 2112
+      → inPlaces rest x ≡ true
+      → inPlaces firsts (16 * l + (h + i) % 16) ≡ true
+      → y / 16 ≡ m
+      → inPlaces seconds y ≡ true
+      → spares t (has rules) (16 * l + (h + i) % 16) y x ≡ false
+
+module _ (t : List ℕ) (rules : ℕ) (firsts seconds thirds : List ℕ) (l m h : ℕ) where
+  pub left-start : LeftFrom t rules firsts seconds thirds l m h 0 thirds
   left-start =
       record {
-        fewer = λ x b h. h;
-        whole = λ x z b d e h g. g;
-        closed = λ j x y low b h f e g. absurd (omega arith);
-        gone = λ x b h n. both h n;
+        left = record {
+          fewer = λ x b g. g;
+          whole = λ x z b d e g i. i;
+          closed = λ j x y low b g f e i. absurd (omega arith);
+          gone = λ x b g n. both g n;
+        };
+        closed = λ i x y low b g f e k. absurd (omega arith);
       }
 
-  -- what is left of nothing stays closed
-  pub left-empty :
-      (k : ℕ) (rest : List ℕ)
-      → ((w : ℕ) → getD rest w 0 ≡ 0)
-      → Left t rules firsts seconds thirds l m k rest
-      → Left t rules firsts seconds thirds l m 16 rest
-  left-empty k rest none old =
-      record {
-        fewer = old .fewer;
-        whole = old .whole;
-        closed = λ j x y low b h f e g. both h (none-in rest none x);
-        gone = old .gone;
-      }
-
-  module _ (k : ℕ) (small : k < 16) (before after : List ℕ) (tried : Tried t rules firsts seconds l m k before after) where
-    opens-gone :
-        (h : ℕ) (old : Left t rules firsts seconds thirds l m h before)
-        → (x : ℕ)
-        → x < 2112
-        → inPlaces thirds x ≡ true
-        → inPlaces after x ≡ false
-        → Opens t (has rules) firsts seconds thirds l m (x / 16)
-    opens-gone h old x b there none = go (inPlaces before x) refl
-      where
-        go : (c : Bool) → inPlaces before x ≡ c → Opens t (has rules) firsts seconds thirds l m (x / 16)
-        go false e = old .gone x b there e
-        go true e =
-            let p = tried .gone x b e none in
-            let f : p .2 / 16 ≡ x / 16 = p .5 in
-            record {
-              first = 16 * l + k;
-              second = p .1;
-              third = p .2;
-              in-first = (omega arith, p .0);
-              in-second = (p .3, p .4);
-              in-third = (f, old .fewer (p .2) (omega arith) (p .6));
-              spared = p .7;
-            }
-
-    -- whatever had been tried
-    pub tried-left : (h : ℕ) → Left t rules firsts seconds thirds l m h before → Left t rules firsts seconds thirds l m h after
-    tried-left h old =
+  module _ (j : ℕ) (rest : List ℕ) (old : LeftFrom t rules firsts seconds thirds l m h j rest) where
+    -- nothing is left, and nothing of it is open
+    pub left-empty : ((w : ℕ) → getD rest w 0 ≡ 0) → Left t rules firsts seconds thirds l m 16 rest
+    left-empty none =
         record {
-          fewer = λ x b g. old .fewer x b (tried .fewer x b g);
-          whole = λ x z b d e g i. tried .whole x z b d e g (old .whole x z b d e (tried .fewer x b g) i);
-          closed = λ j x y low b g f e i. old .closed j x y low b (tried .fewer x b g) f e i;
-          gone = opens-gone h old;
+          fewer = old .left .fewer;
+          whole = old .left .whole;
+          closed = λ k x y low b g f e i. both g (none-in rest none x);
+          gone = old .left .gone;
         }
 
-    -- the next in turn
-    pub tried-next :
-        Left t rules firsts seconds thirds l m k before → Left t rules firsts seconds thirds l m (k + 1) after
-    tried-next old =
+    -- sixteen in turn are all
+    pub left-end : 16 ≤ j → Left t rules firsts seconds thirds l m 16 rest
+    left-end all =
         record {
-          fewer = λ x b g. old .fewer x b (tried .fewer x b g);
-          whole = λ x z b d e g i. tried .whole x z b d e g (old .whole x z b d e (tried .fewer x b g) i);
-          closed = λ j x y low b g f e i. go j x y low b g f e i (eqb j k) refl;
-          gone = opens-gone k old;
+          fewer = old .left .fewer;
+          whole = old .left .whole;
+          closed = λ k x y low b g f e i.
+              let turn : (h + (k + 16 - h % 16) % 16) % 16 ≡ k = in-turn h k low in
+              rw turn at
+              (old .closed ((k + 16 - h % 16) % 16) x y (omega arith) b g
+              (ap (λ (c : ℕ). inPlaces firsts (16 * l + c)) turn ∙ f) e i);
+          gone = old .left .gone;
         }
       where
-        go :
-            (j x y : ℕ)
-            → j < k + 1
-            → x < 2112
-            → inPlaces after x ≡ true
-            → inPlaces firsts (16 * l + j) ≡ true
-            → y / 16 ≡ m
-            → inPlaces seconds y ≡ true
-            → (c : Bool)
-            → eqb j k ≡ c
-            → spares t (has rules) (16 * l + j) y x ≡ false
-        go j x y low b g f e i true ej =
-            rw (eqb-true j k ej) (tried .closed x y b g (rw (eqb-true j k ej) at f) e i)
-        go j x y low b g f e i false ej =
-            let other = eqb-false j k ej in
-            old .closed j x y (omega arith) b (tried .fewer x b g) f e i
+        in-turn : (h k : ℕ) → k < 16 → (h + (k + 16 - h % 16) % 16) % 16 ≡ k
+        in-turn h k low = omega arith
+
+    module _ (after : List ℕ) (tried : Tried t rules firsts seconds l m ((h + j) % 16) rest after) where
+      opens-gone :
+          (x : ℕ)
+          → x < 2112
+          → inPlaces thirds x ≡ true
+          → inPlaces after x ≡ false
+          → Opens t (has rules) firsts seconds thirds l m (x / 16)
+      opens-gone x b there none = go (inPlaces rest x) refl
+        where
+          go : (c : Bool) → inPlaces rest x ≡ c → Opens t (has rules) firsts seconds thirds l m (x / 16)
+          go false e = old .left .gone x b there e
+          go true e =
+              let p = tried .gone x b e none in
+              let f : p .2 / 16 ≡ x / 16 = p .5 in
+              record {
+                first = 16 * l + (h + j) % 16;
+                second = p .1;
+                third = p .2;
+                in-first = (omega arith, p .0);
+                in-second = (p .3, p .4);
+                in-third = (f, old .left .fewer (p .2) (omega arith) (p .6));
+                spared = p .7;
+              }
+
+      -- the next in turn
+      pub left-more : LeftFrom t rules firsts seconds thirds l m h (j + 1) after
+      left-more =
+          record {
+            left = record {
+              fewer = λ x b g. old .left .fewer x b (tried .fewer x b g);
+              whole = λ x z b d e g i.
+                  tried .whole x z b d e g (old .left .whole x z b d e (tried .fewer x b g) i);
+              closed = λ k x y low b g f e i. absurd (omega arith);
+              gone = opens-gone;
+            };
+            closed = λ i x y low b g f e k. go i x y low b g f e k (eqb i j) refl;
+          }
+        where
+          go :
+              (i x y : ℕ)
+              → i < j + 1
+              → x < 2112
+              → inPlaces after x ≡ true
+              → inPlaces firsts (16 * l + (h + i) % 16) ≡ true
+              → y / 16 ≡ m
+              → inPlaces seconds y ≡ true
+              → (c : Bool)
+              → eqb i j ≡ c
+              → spares t (has rules) (16 * l + (h + i) % 16) y x ≡ false
+          go i x y low b g f e k true ei =
+              rw (eqb-true i j ei) (tried .closed x y b g (rw (eqb-true i j ei) at f) e k)
+          go i x y low b g f e k false ei =
+              let other = eqb-false i j ei in
+              old .closed i x y (omega arith) b (tried .fewer x b g) f e k

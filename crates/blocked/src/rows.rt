@@ -15,11 +15,22 @@ ghost use Rattle.book.specs.Sets.{has};
 ghost use Rattle.blocked.specs.Inner.Cells.{Left, Tried, pastCells};
 ghost use Rattle.blocked.specs.Inner.Pairs.{Asked, Prepared, SecondPairs};
 
-// What is left of the third places, by whole cells; and where to look first: the place of the first
-// cell that opened something last. No promise speaks of it.
+// What is left of the third places, by whole cells; and where to look first: at the place of the
+// first cell that was the first to open something. No promise speaks of it.
 pub struct Row {
     pub places: [u64; 33],
     pub hint: u8,
+}
+
+// The hint of a row in which nothing has been opened yet.
+const NO_HINT: u8 = 16;
+
+// A hint, or another one where there is none.
+fn hint_or(hint: u8, other: u8) -> u8 {
+    if hint < NO_HINT {
+        return hint;
+    }
+    other
 }
 
 // The pairs of a second place of cell m and any third operation.
@@ -47,7 +58,7 @@ fn asked(s: &[u64], met: &[u64], masks: [u64; 6], pairs: [u64; 4], k: usize, bef
         if some_accepted(s, met, masks, pairs, cell_word(places, n), n) {
             let rest = less_cell(places, n);
             places = rest;
-            hint = (k % 16) as u8;
+            hint = hint_or(hint, (k % 16) as u8);
         }
         x = first_from(places, 16 * n + 16);
     }
@@ -81,7 +92,7 @@ fn tried(
     asked(&s, met, masks, pairs, k, before)
 }
 
-// What is left when every place of cell l has been tried: it stays closed.
+// What is left when every place of cell l has been tried, in turn from the hint: it stays closed.
 pub fn closed_row(
     t: &[u64],
     met: &[u64],
@@ -96,15 +107,24 @@ pub fn closed_row(
         → Prepared (now (t .entry)) (now (met .entry)) (has rules) seconds (before .places)
         → Left (now (t .entry)) rules firsts seconds (before .places) l m 16 (r .places)) ⌝ }
 {
-    let hint = before.hint as usize % 16;
-    let mut row = tried(t, met, rules, firsts, seconds, l, m, hint, before);
-    for k in 0..16usize {
+    let thirds = before.places;
+    let from = before.hint;
+    let mut row = Row {
+        places: thirds,
+        hint: NO_HINT,
+    };
+    for j in 0..16usize {
         let places = row.places;
         if is_empty(places) {
-            return row;
+            break;
         }
+        let k = (from as usize + j) % 16;
         let next = tried(t, met, rules, firsts, seconds, l, m, k, row);
         row = next;
     }
-    row
+    let places = row.places;
+    Row {
+        places,
+        hint: hint_or(row.hint, from),
+    }
 }

@@ -42,7 +42,7 @@ loop-again c =
     let turned : Asked (a .s .now) (a .met .now) (a .masks) (a .pairs) (n + 1) (a .before .places) rest =
     ⊎-elim
     (λ w.
-    rw (w .2)
+    rw (w .3)
     (asked-gone (a .s .now) (a .met .now) (a .masks) (a .pairs) (a .before .places) n (loop .places) (loop .inv .1)
     (word .result) (answer .result) small (word .ensures small) (answer .ensures small) (w .1 .result) (w .0 .taken)
     (w .1 .ensures small)))
@@ -74,6 +74,7 @@ asked-spec =
     (λ c κs. search needs)
     (λ c κs. search needs)
     (λ c. search needs)
+    (λ c κs. search needs)
     (λ c. search needs)
     (λ c. search needs)
     (λ c κs. search needs)
