@@ -1,21 +1,25 @@
 -- Laws of pairs of operations as words: one restriction more, four words written in a row, and the words of each rule
 -- and order. Assumes nothing.
-use Prim.Native.Nat.{ℕ, zero, suc, _+_, _*_, _/_, _%_, _^_, _≤_, _<_}
-use native.Mathlib.Nat.{zero-add, add-zero, eq-or-lt-of-le}
+use Prim.Native.Nat.{ℕ, zero, suc, _+_, _-_, _*_, _/_, _%_, _^_, _≤_, _<_}
+use native.Mathlib.Nat.{zero-add, add-zero, eq-or-lt-of-le, lt-of-le-of-lt}
 use native.Mathlib.Omega.{arith}
 use mathlib.Core.Path.{_≡_, refl, sym, _∙_, ap}
-use mathlib.Core.Bool.{Bool, true, false, _&&_, _||_, not, false≢true}
+use mathlib.Core.Bool.{Bool, true, false, _&&_, _||_, not}
 use mathlib.Core.Logic.{⊎-elim}
 use mathlib.Core.List.{List, [], _∷_}
 use lib.ListN.{length, getD, set, length-set}
 use lib.Seq.{getD-set-same, getD-set-other}
-use lib.Bits.{bitAnd, bitOr}
+use lib.Dec.{eqb, ltb}
+use lib.Bits.{bitAnd, bitOr, and-le-l}
+use borrow.Author.Tests.{eqb-true, eqb-false, ne-eqb}
 use Rattle.book.specs.Lists.{any, upTo}
-use Rattle.book.specs.Sets.{has}
-use Rattle.book.proofs.Lists.{any-none, any-more, or-end, and-false}
+use Rattle.book.specs.Sets.{has, WordOf}
+use Rattle.book.proofs.Lists.{any-none, any-more, or-end, and-end, and-false}
 use Rattle.book.proofs.Members.{has-zero, has-or, has-and}
 use Rattle.search.specs.Inner.Table.{takesAt}
 use Rattle.search.specs.Inner.Closing.{acceptedAt}
+use Rattle.search.proofs.Fours.{has-cut}
+use Rattle.search.proofs.Sieves.{both, later-member, low-rules, without-single}
 use Rattle.search.proofs.PlaceLaws.{has-shift}
 use Rattle.blocked.specs.Inner.Pairs.{AcceptedWords, SlicesHold, thirdAt, firstAt, secondAt}
 
@@ -136,14 +140,16 @@ withFour s n words =
 pub four-size : (s : List ℕ) (n : ℕ) (words : List ℕ) → length (withFour s n words) ≡ length s
 four-size s n words = simp length-set
 
-pub four-below :
-    (s : List ℕ) (n : ℕ) (words : List ℕ) (m : ℕ) → m < n → getD (withFour s n words) m 0 ≡ getD s m 0
-four-below s n words m h =
+four-other :
+    (s : List ℕ) (n : ℕ) (words : List ℕ) (m : ℕ)
+    → ((i : ℕ) → i < 4 → m ≡ n + i → ⊥)
+    → getD (withFour s n words) m 0 ≡ getD s m 0
+four-other s n words m other =
     rw (
-      getD-set-other _ (n + 3) m (getD words 3 0) 0 (λ z. omega arith),
-      getD-set-other _ (n + 2) m (getD words 2 0) 0 (λ z. omega arith),
-      getD-set-other _ (n + 1) m (getD words 1 0) 0 (λ z. omega arith),
-      getD-set-other s n m (getD words 0 0) 0 (λ z. omega arith),
+      getD-set-other _ (n + 3) m (getD words 3 0) 0 (other 3 (omega arith)),
+      getD-set-other _ (n + 2) m (getD words 2 0) 0 (other 2 (omega arith)),
+      getD-set-other _ (n + 1) m (getD words 1 0) 0 (other 1 (omega arith)),
+      getD-set-other s n m (getD words 0 0) 0 (λ z. other 0 (omega arith) (omega arith)),
     )
 
 pub four-written :
@@ -189,60 +195,94 @@ four-written s n words h (suc (suc (suc (suc w)))) m = absurd (omega arith)
 -- The words of each rule and order
 
 module _ (t masks : List ℕ) (a : ℕ) where
-  -- what the four words of rule n / 6 in order n % 6 tell
-  abbrev pub SliceAt : List ℕ → ℕ → Type 0
-  SliceAt s n =
+  -- what the four words of rule q in order v tell
+  abbrev pub SliceOf : List ℕ → ℕ → ℕ → Type 0
+  SliceOf s q v =
       (w b : ℕ)
       → w < 4
       → b < 64
-      → has (getD masks (n % 6) 0) (n / 6) ≡ true
-      → has (getD s (4 * n + w) 0) b
-      ≡ acceptedAt t (n / 6) (thirdAt (n % 6)) (firstAt (n % 6)) (secondAt (n % 6)) a (4 * w + b / 16) b
+      → has (getD s (24 * q + 4 * v + w) 0) b
+      ≡ acceptedAt t q (thirdAt v) (firstAt v) (secondAt v) a (4 * w + b / 16) b
 
+  -- the orders below v have had their turn
   abbrev pub Sliced : List ℕ → ℕ → Type 0
-  Sliced s h = (n : ℕ) → n < h → SliceAt s n
+  Sliced s v = (q u : ℕ) → q < 32 → u < v → has (getD masks u 0) q ≡ true → SliceOf s q u
+
+  -- and the rules of order v that do not wait
+  pub record Slicing (s : List ℕ) (v waiting : ℕ) : Type 0 where
+    pub fits : waiting < 2 ^ 64
+    pub members : (q : ℕ) → has waiting q ≡ true → q < 32
+    pub earlier : Sliced s v
+    pub turned : (q : ℕ) → q < 32 → has (getD masks v 0) q ≡ true → has waiting q ≡ false → SliceOf s q v
 
   pub sliced-none : (s : List ℕ) → Sliced s 0
-  sliced-none s n h = absurd (omega arith)
+  sliced-none s q u lq lu = absurd (omega arith)
 
-  pub sliced-skip :
-      (s : List ℕ) (h : ℕ) (x : Bool)
-      → Sliced s h
-      → x ≡ has (getD masks (h % 6) 0) (h / 6)
-      → not x ≡ true
-      → Sliced s (h + 1)
-  sliced-skip s h x old ex e n m = ⊎-elim (λ q. here q) (λ q. old n q) (eq-or-lt-of-le (omega arith))
+  -- all wait first
+  pub slicing-start : (s : List ℕ) (v : ℕ) → Sliced s v → Slicing s v (getD masks v 0 % 4294967296)
+  slicing-start s v old =
+      record {
+        fits = omega arith;
+        members = λ q h. low-rules (getD masks v 0) q h .0;
+        earlier = old;
+        turned = λ q lq h none. both (has-cut 32 (getD masks v 0) q lq ∙ h) none;
+      }
+
+  -- rule q has had its turn
+  pub slicing-more :
+      (s words : List ℕ) (v waiting one q n k l : ℕ)
+      → v < 6
+      → one < 2 ^ 64
+      → WordOf (λ i. eqb i q) one
+      → has waiting q ≡ true
+      → n ≡ 24 * q + 4 * v
+      → n + 3 < length s
+      → k ≡ firstAt v
+      → l ≡ secondAt v
+      → AcceptedWords t q (thirdAt v) k l a words
+      → Slicing s v waiting
+      → Slicing (withFour s n words) v (bitAnd waiting ((2 ^ 64 - 1) - one))
+  slicing-more s words v waiting one q n k l lv lo single member en room ek el new old =
+      record {
+        fits = lt-of-le-of-lt (and-le-l waiting ((2 ^ 64 - 1) - one)) (old .fits);
+        members = λ j h. old .members j (later-member waiting one j h);
+        earlier = λ j u lj lu h w b lw lb. rw (other j u w lw (λ z. omega arith)) (old .earlier j u lj lu h w b lw lb);
+        turned = λ j lj h none. go j lj h none (eqb j q) refl;
+      }
     where
-      off : (y : Bool) → not y ≡ true → y ≡ false
-      off true h = sym h
-      off false h = refl
+      without :
+          (j : ℕ) → has (bitAnd waiting ((2 ^ 64 - 1) - one)) j ≡ (has waiting j && not (ltb j 64 && eqb j q))
+      without j = without-single waiting one q j (old .fits) lo single
 
-      here : n ≡ h → SliceAt s n
-      here q w b mw mb on = absurd (false≢true (sym (off x e) ∙ ex ∙ (rw q at on)))
+      other :
+          (j u w : ℕ)
+          → w < 4
+          → (6 * j + u ≡ 6 * q + v → ⊥)
+          → getD (withFour s n words) (24 * j + 4 * u + w) 0 ≡ getD s (24 * j + 4 * u + w) 0
+      other j u w lw apart = four-other s n words (24 * j + 4 * u + w) (λ i li e. apart (omega arith))
 
-  pub sliced-more :
-      (s words : List ℕ) (h k l : ℕ)
-      → 4 * h + 3 < length s
-      → Sliced s h
-      → k ≡ firstAt (h % 6)
-      → l ≡ secondAt (h % 6)
-      → AcceptedWords t (h / 6) (thirdAt (h % 6)) k l a words
-      → Sliced (withFour s (4 * h) words) (h + 1)
-  sliced-more s words h k l room old ek el new n m =
-      ⊎-elim (λ q. here q) (λ q. below q) (eq-or-lt-of-le (omega arith))
+      go :
+          (j : ℕ)
+          → j < 32
+          → has (getD masks v 0) j ≡ true
+          → has (bitAnd waiting ((2 ^ 64 - 1) - one)) j ≡ false
+          → (x : Bool)
+          → eqb j q ≡ x
+          → SliceOf (withFour s n words) j v
+      go j lj h none true e w b lw lb =
+          rw (eqb-true j q e, ← en, four-written s n words room w lw, ← ek, ← el) (new w b lw lb)
+      go j lj h none false e w b lw lb =
+          let apart = eqb-false j q e in
+          rw (other j v w lw (λ z. apart (omega arith)))
+          (old .turned j lj h (rw (without j, ne-eqb j q apart, and-false, and-end) at none) w b lw lb)
+
+  -- none waits any more
+  pub slicing-end : (s : List ℕ) (v waiting : ℕ) → waiting ≡ 0 → Slicing s v waiting → Sliced s (v + 1)
+  slicing-end s v waiting z old q u lq lu h =
+      ⊎-elim (λ e. here e) (λ l. old .earlier q u lq l h) (eq-or-lt-of-le (omega arith))
     where
-      here : n ≡ h → SliceAt (withFour s (4 * h) words) n
-      here q w b mw mb on =
-          rw (q, four-written s (4 * h) words room w mw, ← ek, ← el) (new w b mw mb)
+      here : u ≡ v → SliceOf s q u
+      here e = rw e (old .turned q lq (rw e at h) (rw z (has-zero q)))
 
-      below : n < h → SliceAt (withFour s (4 * h) words) n
-      below q w b mw mb on =
-          rw (four-below s (4 * h) words (4 * n + w) (omega arith)) (old n q w b mw mb on)
-
-  pub sliced-end : (s : List ℕ) (h : ℕ) → 192 ≤ h → Sliced s h → SlicesHold t masks a s
-  sliced-end s h full old q v w b mq mv mw mb on =
-      let eq : (6 * q + v) / 6 ≡ q = omega arith in
-      let ev : (6 * q + v) % 6 ≡ v = omega arith in
-      let at : 24 * q + 4 * v + w ≡ 4 * (6 * q + v) + w = omega arith in
-      let told = rw (eq, ev) at (old (6 * q + v) (omega arith) w b mw mb) in
-      rw at (told on)
+  pub sliced-end : (s : List ℕ) (v : ℕ) → 6 ≤ v → Sliced s v → SlicesHold t masks a s
+  sliced-end s v all old q u w b lq lu lw lb h = old q u lq (omega arith) h w b lw lb

@@ -100,16 +100,18 @@ pub fn fill_slices(s: &mut [u64], t: &[u64], masks: [u64; 6], a: usize)
     if s.len() < 768 {
         return;
     }
-    for h in 0..192usize {
-        let v = (h % 6) as u8;
-        if !contains(masks[h % 6], h / 6) {
-            continue;
+    for v in 0..6u8 {
+        let mut waiting = masks[v as usize] % 4294967296;
+        while waiting != 0 {
+            let q = lowest(waiting);
+            waiting = waiting & !single(q);
+            let words = accepted_words(t, q as u8, v / 2, first_at(v), second_at(v), a);
+            let at = 24 * (q % 32) + 4 * v as usize;
+            s[at] = words[0];
+            s[at + 1] = words[1];
+            s[at + 2] = words[2];
+            s[at + 3] = words[3];
         }
-        let words = accepted_words(t, (h / 6) as u8, v / 2, first_at(v), second_at(v), a);
-        s[4 * h] = words[0];
-        s[4 * h + 1] = words[1];
-        s[4 * h + 2] = words[2];
-        s[4 * h + 3] = words[3];
     }
 }
 
