@@ -18,8 +18,15 @@ ghost use lib.Dec.{ltb};
 ghost use lib.ListN.{length};
 ghost use Rattle.book.specs.Sets.{has};
 ghost use Rattle.search.specs.Inner.Table.{meets};
+ghost use Rattle.blocked.specs.Inner.Cells.{pastCells};
 ghost use Rattle.blocked.specs.Inner.Pairs.{AcceptedWords, Answers, MasksHold, MetHolds, Narrowed, SlicesHold};
-ghost use Rattle.blocked.specs.Inner.Pairs.{firstAt, secondAt};
+ghost use Rattle.blocked.specs.Inner.Pairs.{firstAt, metWords, secondAt, sliceWords};
+
+// Three words for each cell.
+pub const MET_WORDS: usize = 396;
+
+// Four words for each rule and order.
+pub const SLICE_WORDS: usize = 768;
 
 // The references that the first, the second and the third place stand for, in order v.
 fn first_at(v: u8) -> u8
@@ -47,19 +54,19 @@ fn met_by(t: &[u64], i: u8, p: usize) -> u64
 
 // For each cell and reference the rules whose reference its first place meets.
 pub fn fill_met(met: &mut [u64], t: &[u64])
-    ensures { λ _. ⌜ (length (now (met .entry)) ≡ 396 → MetHolds (now (t .entry)) (now (met .exit))) ⌝ }
+    ensures { λ _. ⌜ (length (now (met .entry)) ≡ metWords → MetHolds (now (t .entry)) (now (met .exit))) ⌝ }
 {
-    if met.len() < 396 {
+    if met.len() < MET_WORDS {
         return;
     }
-    for h in 0..396usize {
+    for h in 0..MET_WORDS {
         met[h] = met_by(t, (h % 3) as u8, 16 * (h / 3));
     }
 }
 
 // For each order the rules of a set that first place a and the places of cell m meet.
 pub fn row_masks(t: &[u64], met: &[u64], rules: u64, a: usize, m: usize) -> [u64; 6]
-    ensures { λ r. ⌜ (m < 132 → MetHolds (now (t .entry)) (now (met .entry))
+    ensures { λ r. ⌜ (m < pastCells → MetHolds (now (t .entry)) (now (met .entry))
         → MasksHold (now (t .entry)) rules a m r) ⌝ }
 {
     let mut masks = [0u64; 6];
@@ -95,9 +102,9 @@ fn accepted_words(t: &[u64], q: u8, i: u8, k: u8, l: u8, a: usize) -> [u64; 4]
 
 // The same for each rule and order of the masks.
 pub fn fill_slices(s: &mut [u64], t: &[u64], masks: [u64; 6], a: usize)
-    ensures { λ _. ⌜ (length (now (s .entry)) ≡ 768 → SlicesHold (now (t .entry)) masks a (now (s .exit))) ⌝ }
+    ensures { λ _. ⌜ (length (now (s .entry)) ≡ sliceWords → SlicesHold (now (t .entry)) masks a (now (s .exit))) ⌝ }
 {
-    if s.len() < 768 {
+    if s.len() < SLICE_WORDS {
         return;
     }
     for v in 0..6u8 {
@@ -143,7 +150,7 @@ pub fn some_accepted(
     third: u64,
     n: usize,
 ) -> bool
-    ensures { λ r. ⌜ (n < 132 → Answers (now (s .entry)) (now (met .entry)) masks pairs third n r) ⌝ }
+    ensures { λ r. ⌜ (n < pastCells → Answers (now (s .entry)) (now (met .entry)) masks pairs third n r) ⌝ }
 {
     let thirds = four(third, third, third, third);
     let mut rest = [

@@ -3,6 +3,7 @@
 use crate::cells::cell_word;
 use crate::cells::inside;
 use crate::cells::less_cell;
+use crate::pairs::SLICE_WORDS;
 use crate::pairs::fill_slices;
 use crate::pairs::row_masks;
 use crate::pairs::some_accepted;
@@ -86,7 +87,7 @@ fn tried(
         return before;
     }
     let masks = row_masks(t, met, rules, a, m);
-    let mut s = [0u64; 768];
+    let mut s = [0u64; SLICE_WORDS];
     fill_slices(&mut s, t, masks, a);
     let pairs = second_pairs(seconds, m);
     asked(&s, met, masks, pairs, k, before)

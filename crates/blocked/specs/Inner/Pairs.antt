@@ -12,7 +12,7 @@ use Rattle.search.specs.Inner.Places.{PlacesOf, inPlaces, pastPlaces}
 use Rattle.search.specs.Inner.Table.{meets, takesAt}
 use Rattle.search.specs.Inner.Closing.{acceptedAt}
 use Rattle.search.specs.Inner.Search.{coversIn}
-use Rattle.blocked.specs.Inner.Cells.{inCell}
+use Rattle.blocked.specs.Inner.Cells.{inCell, pastCells}
 
 -- the six orders in which three places stand for the references of a rule: where the first, the second and the third do
 abbrev pub thirdAt : ℕ → ℕ
@@ -24,10 +24,17 @@ firstAt v = (v / 2 + 1 + v % 2) % 3
 abbrev pub secondAt : ℕ → ℕ
 secondAt v = (v / 2 + 2 + 2 * (v % 2)) % 3
 
+-- three words for each cell, and four for each rule and order
+abbrev pub metWords : ℕ
+metWords = 396
+
+abbrev pub sliceWords : ℕ
+sliceWords = 768
+
 -- for each cell and reference the rules whose reference its first place meets
 abbrev pub MetHolds : List ℕ → List ℕ → Type 0
 MetHolds t met =
-    (c i q : ℕ) → c < 132 → i < 3 → has (getD met (3 * c + i) 0) q ≡ (ltb q 32 && meets t q i (16 * c))
+    (c i q : ℕ) → c < pastCells → i < 3 → has (getD met (3 * c + i) 0) q ≡ (ltb q 32 && meets t q i (16 * c))
 
 -- for each order the rules that first place a and the places of cell m meet
 abbrev pub MasksHold : List ℕ → ℕ → ℕ → ℕ → List ℕ → Type 0
