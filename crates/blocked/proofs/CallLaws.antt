@@ -20,8 +20,8 @@ use Rattle.search.specs.Inner.Places.{PlacesOf}
 use Rattle.search.specs.Inner.Table.{CoversHold, HadHolds, TableHolds}
 use Rattle.search.specs.Inner.Search.{candidate}
 use Rattle.blocked.specs.Answers.{blockedAnswer, blockedTests, blockingOf, closedAnswer, datumByte, forbidTests}
-use Rattle.blocked.specs.Inner.Cells.{DeniedFirst}
 use Rattle.blocked.specs.Inner.Pairs.{MetHolds, Ready}
+use Rattle.blocked.specs.Inner.Users.{DeniedFirst}
 use Rattle.blocked.specs.Inner.First.{FirstDenied, Standing, associationAt, datumAt, noCell, pairAt}
 use Rattle.blocked.specs.declared.Blocking.{Blocking}
 use Rattle.blocked.specs.declared.Blocking.the-variants as blocking

@@ -37,9 +37,9 @@ use Rattle.blocked.specs.Associations.{Datum, Pair, accessTo, associatio
 use Rattle.blocked.specs.Associations.{isAssociationFrom, pairBefore}
 use Rattle.blocked.specs.Open.{isClosed, someBroken}
 use Rattle.blocked.specs.Demand.{Chooses, InScope}
-use Rattle.blocked.specs.Inner.Cells.{Cells, DeniedFirst, DeniedUser, FoundAmong, Opens}
-use Rattle.blocked.specs.Inner.Cells.{coveringRules, spares}
+use Rattle.blocked.specs.Inner.Cells.{Cells, Opens, spares}
 use Rattle.blocked.specs.Inner.Pairs.{MetHolds, Ready, Whole}
+use Rattle.blocked.specs.Inner.Users.{DeniedFirst, DeniedUser, coveringRules}
 use Rattle.blocked.specs.Inner.First.{FirstDenied, associationAt, pairAt}
 use Rattle.blocked.specs.declared.users.Denied.{Denied}
 use Rattle.blocked.specs.declared.users.Denied.the-variants.{Nobody, User}
@@ -379,16 +379,16 @@ module _ (book : List ℕ) (accepted : BookAccepted book) (bytes : (i : ℕ) →
       → Cells firsts seconds thirds c y x
       → pairBefore p (pairAt u b z w) ≡ true
       → Opens t (coveringRules covered (p .user)) firsts seconds thirds c y x
-  unfolding pairBefore FoundAmong
+  unfolding pairBefore
   earlier p u b z w c y x within denied cells small e own before =
       let n = referenceCount (ruleAt book r) in
       ⊎-elim
       (λ (v : ltb (p .user) u ≡ true).
-      denied .users (p .user) (ltb-true (p .user) u v) (covers-rule (p .user) small ∙ within .covered) c y x refl own)
+      denied .users (p .user) (ltb-true (p .user) u v) (covers-rule (p .user) small ∙ within .covered) c y x own)
       (λ (v : (eqb (p .user) u && associationBefore (p .association) (associationAt b z w)) ≡ true).
       let q = and-both (eqb (p .user) u) (associationBefore (p .association) (associationAt b z w)) v in
       rw (eqb-true (p .user) u (q .0))
-      (denied .found .2 c y x
+      (denied .earliest c y x
       (shape-before c y x b z w n (sound r l .few) (cells-shape c y x own .0) (cells-shape b z w cells .0)
       (rw e at (q .1)))
       own))
@@ -396,15 +396,15 @@ module _ (book : List ℕ) (accepted : BookAccepted book) (bytes : (i : ℕ) →
 
   pub lifted :
       (found : Denied) → DeniedFirst t r firsts seconds thirds covered found → FirstDenied book r found
-  unfolding DeniedFirst FirstDenied FoundAmong
+  unfolding DeniedFirst FirstDenied
   lifted Nobody h =
       closed-none book r
       (λ p within.
       pair-open p within
       (λ b z w small e cells.
-      h (p .user) small (covers-rule (p .user) small ∙ within .covered) b z w refl cells))
+      h (p .user) small (covers-rule (p .user) small ∙ within .covered) b z w cells))
   lifted (User u b z w) h =
-      let cells = h .found .1 .cells in
+      let cells = h .shut .cells in
       let here = cells-shape b z w cells in
       let user = sym (covers-rule u (h .below)) ∙ h .covers in (
         closed-first book r (pairAt u b z w) (record { covered = user; association = here .1 })
@@ -421,4 +421,4 @@ module _ (book : List ℕ) (accepted : BookAccepted book) (bytes : (i : ℕ) →
           → isClosed book (pairAt u b z w) ≡ c
           → c ≡ true
       go user cells true e = refl
-      go user cells false e = absurd (h .found .1 .closed (open-opens b z w cells u (h .below) user e))
+      go user cells false e = absurd (h .shut .closed (open-opens b z w cells u (h .below) user e))

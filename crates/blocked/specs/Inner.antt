@@ -1,4 +1,6 @@
 -- What the inner functions promise each other. No call's promise leans on these files.
 pub mod Cells
 pub mod Pairs
+pub mod Rows
+pub mod Users
 pub mod First

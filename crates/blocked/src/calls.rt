@@ -2,6 +2,7 @@
 use crate::Blocking;
 use crate::RULE_FORBIDS;
 use crate::pairs::fill_met;
+use crate::searching::Scope;
 use crate::users::Denied;
 use crate::users::first_denied;
 use book::Tested;
@@ -64,7 +65,12 @@ fn denied(book: &[u8], head: &[u64], rule: u8) -> Denied
     let covered = covered_by(book, head, n);
     let mut met = [0u64; 396];
     fill_met(&mut met, &t);
-    first_denied(&t, &met, all, rule, firsts, seconds, thirds, covered)
+    let scope = Scope {
+        firsts,
+        seconds,
+        thirds,
+    };
+    first_denied(&t, &met, all, rule, scope, covered)
 }
 
 // The byte of a cell that is not that of an absent reference.

@@ -6,7 +6,7 @@ pub mod calls; // Blocked
 pub mod cells; // places of one action and leaf
 pub mod pairs; // pairs of operations beside one place
 pub mod rows; // the third cells that stay closed beside two others
-pub mod searching; // the first closed association, for one set of rules
+pub mod searching; // the first closed cell of a row, for one set of rules
 pub mod users; // the first user
 
 use book::Refusal;

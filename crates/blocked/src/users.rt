@@ -1,23 +1,27 @@
-// The first user for whom some association is closed. Where a set of rules leaves all open, every
-// part of it does: so the rules of many users together are tried before those of each, and a user
-// all of whose rules are among those of such a set needs no search.
+// The first user for whom some association is closed. The rows are gone through once, and in each the
+// users that come before the one found so far. Where a set of rules leaves a row open, every part of
+// it does: so the rules of many users are tried together, and a user all of whose rules are in a set
+// that left the row open needs no search.
 use crate::cells::PAST_CELLS;
-use crate::searching::Found;
-use crate::searching::first_closed;
-use book::sets::contains;
+use crate::cells::has_cell;
+use crate::searching::Scope;
+use crate::searching::closed_third;
 use book::sets::single;
 use book::sets::word_if;
 use search::users::covers;
 ghost use mathlib.Core.Path.{_≡_};
 ghost use mathlib.Core.Bool.{true, _&&_};
-ghost use Prim.Native.Nat.{ℕ, _<_};
+ghost use Prim.Native.Nat.{ℕ, _+_, _*_, _≤_, _<_};
 ghost use lib.Dec.{ltb};
 ghost use lib.ListN.{getD};
 ghost use Rattle.book.specs.Sets.{has};
 ghost use Rattle.search.specs.Inner.Closing.{Within};
 ghost use Rattle.search.specs.Inner.Search.{coversIn};
-ghost use Rattle.blocked.specs.Inner.Cells.{coveringRules, AllOpen, DeniedFirst, FoundFor, OpensAll, OpenUpTo};
-ghost use Rattle.blocked.specs.Inner.Pairs.{Prepared, Ready};
+ghost use Rattle.blocked.specs.Inner.Cells.{pastCells};
+ghost use Rattle.blocked.specs.Inner.Pairs.{Ready};
+ghost use lib.Bits.{bitAnd};
+ghost use Rattle.blocked.specs.Inner.Rows.{AllOpen, AskedUser, DeniedIn, RowGiven, RowOpen};
+ghost use Rattle.blocked.specs.Inner.Users.{coveringRules, DeniedFirst, Given, OwnRules, RowsUpTo};
 
 // Nobody; or the first user, and the three cells of its first association.
 pub enum Denied {
@@ -30,14 +34,42 @@ pub enum Denied {
     },
 }
 
-// A set of rules that leaves every cell open; and the first cell before which all rules do.
-struct Known {
-    rules: u64,
-    from: usize,
+// A set of rules that leaves a row open; and where to look first.
+pub struct Opening {
+    pub rules: u64,
+    pub hint: u8,
+}
+
+// What is known of a row: sets of rules that leave it open, the first third cell that is closed to the
+// user asked about last, and where to look first.
+pub struct Asking {
+    pub third: usize,
+    pub opened: [u64; 33],
+    pub hint: u8,
+}
+
+// The first user to whom a row is closed, and the rest as above.
+pub struct InRow {
+    pub user: u8,
+    pub third: usize,
+    pub opened: [u64; 33],
+    pub hint: u8,
+}
+
+// The first user to whom the rows so far are closed, 32 where there is none, and the three cells. Each
+// user has a set of rules that it is tried with, and all users have one: no promise speaks of these,
+// nor of the hint.
+pub struct Asked {
+    pub user: u8,
+    pub first: usize,
+    pub second: usize,
+    pub third: usize,
+    pub joined: [u64; 33],
+    pub hint: u8,
 }
 
 // The rules that cover user u.
-pub fn covering(covered: [u64; 32], u: u8) -> u64
+fn covering(covered: [u64; 32], u: u8) -> u64
     ensures { λ w. ⌜ ((q : ℕ) → has w q ≡ (ltb q 32 && coveringRules covered u q)) ⌝ }
 {
     let mut found = 0u64;
@@ -54,142 +86,282 @@ fn rules_for(covered: [u64; 32], r: u8, u: u8) -> u64
     word_if(covers(covered, r, u), covering(covered, u))
 }
 
-// The rules for some users from u on. No promise: they are only tried.
-fn rules_of(covered: [u64; 32], r: u8, u: u8, count: u8) -> u64 {
+// The same for each user.
+fn own_rules(covered: [u64; 32], r: u8) -> [u64; 32]
+    ensures { λ w. ⌜ OwnRules r covered w ⌝ }
+{
+    let mut own = [0u64; 32];
+    for u in 0..32usize {
+        own[u] = rules_for(covered, r, u as u8);
+    }
+    own
+}
+
+// The rules of all users. No promise: they are only tried.
+fn joint(own: [u64; 32]) -> u64 {
     let mut found = 0u64;
-    for i in 0..count % 32 {
-        found = found | rules_for(covered, r, u % 32 + i);
+    for u in 0..32usize {
+        found = found | own[u];
     }
     found
 }
 
-// Whether all rules of a set are in one of the masks. Only `true` is promised: it spares a search.
-fn settled(masks: [u64; 37], rules: u64) -> bool
-    ensures { λ r. ⌜ (r ≡ true → (i : ℕ) × (i < 37) × Within (has rules) (has (getD masks i 0))) ⌝ }
+// Some of all rules, if they leave a row open; otherwise none.
+fn open_under(
+    t: &[u64],
+    met: &[u64],
+    all: u64,
+    rules: u64,
+    scope: Scope,
+    l: usize,
+    m: usize,
+    hint: u8,
+) -> Opening
+    ensures { λ o. ⌜ (RowGiven (now (t .entry)) (now (met .entry)) all scope l m
+        → RowOpen (now (t .entry)) (has (o .rules)) scope l m) ⌝ }
 {
-    for i in 0..37usize {
-        if rules & !masks[i] == 0 {
+    let third = closed_third(t, met, all & rules, scope, l, m, hint);
+    if third.cell < PAST_CELLS {
+        return Opening {
+            rules: 0,
+            hint: third.hint,
+        };
+    }
+    Opening {
+        rules: all & rules,
+        hint: third.hint,
+    }
+}
+
+// A row that is open to the user asked about last.
+fn open_row(opened: [u64; 33], hint: u8) -> Asking
+    ensures { λ a. ⌜ (a .opened ≡ opened) × (a .third ≡ pastCells) ⌝ }
+{
+    Asking {
+        third: PAST_CELLS,
+        opened,
+        hint,
+    }
+}
+
+fn in_row(user: u8, asking: Asking) -> InRow
+    ensures { λ f. ⌜ (f .user ≡ user) × (f .third ≡ asking .third) ⌝ }
+{
+    let opened = asking.opened;
+    InRow {
+        user,
+        third: asking.third,
+        opened,
+        hint: asking.hint,
+    }
+}
+
+// Whether all rules of a set are in one of the sets. Only `true` is promised: it spares a search.
+fn settled(sets: [u64; 33], rules: u64) -> bool
+    ensures { λ r. ⌜ (r ≡ true → (i : ℕ) × (i < 33) × Within (has rules) (has (getD sets i 0))) ⌝ }
+{
+    for i in 0..33usize {
+        if rules & !sets[i] == 0 {
             return true;
         }
     }
     false
 }
 
-// What all rules together leave open.
-fn together(
+// The sets that leave a row open, with one user's rules: in the set of another user that was tried with
+// the same rules, if the row stays open; otherwise alone.
+fn with_rules(
     t: &[u64],
     met: &[u64],
     all: u64,
-    firsts: [u64; 33],
-    seconds: [u64; 33],
-    thirds: [u64; 33],
-) -> Known
-    ensures { λ k. ⌜ (Prepared (now (t .entry)) (now (met .entry)) (has all) seconds thirds
-        → OpensAll (now (t .entry)) firsts seconds thirds (has (k .rules))
-        × OpenUpTo (now (t .entry)) (has all) firsts seconds thirds (k .from)) ⌝ }
-{
-    match first_closed(t, met, all, firsts, seconds, thirds, 0, 0) {
-        Found::At {
-            first,
-            second: _,
-            third: _,
-        } => Known {
-            rules: 0,
-            from: first,
-        },
-        Found::Nothing { hint: _ } => Known {
-            rules: all,
-            from: PAST_CELLS,
-        },
-    }
-}
-
-// Some of all rules, if they leave every cell open; otherwise none.
-fn open_under(
-    t: &[u64],
-    met: &[u64],
-    all: u64,
+    scope: Scope,
+    l: usize,
+    m: usize,
+    opened: [u64; 33],
+    joined: [u64; 33],
+    at: usize,
     rules: u64,
-    firsts: [u64; 33],
-    seconds: [u64; 33],
-    thirds: [u64; 33],
-    from: usize,
-) -> u64
-    ensures { λ w. ⌜ (Prepared (now (t .entry)) (now (met .entry)) (has all) seconds thirds
-        → OpenUpTo (now (t .entry)) (has all) firsts seconds thirds from
-        → OpensAll (now (t .entry)) firsts seconds thirds (has w)) ⌝ }
+    hint: u8,
+) -> [u64; 33]
+    ensures { λ w. ⌜ (RowGiven (now (t .entry)) (now (met .entry)) all scope l m
+        → RowOpen (now (t .entry)) (has rules) scope l m → AllOpen (now (t .entry)) scope l m opened
+        → AllOpen (now (t .entry)) scope l m w) ⌝ }
 {
-    let some = all & rules;
-    match first_closed(t, met, some, firsts, seconds, thirds, from, 0) {
-        Found::At {
-            first: _,
-            second: _,
-            third: _,
-        } => 0,
-        Found::Nothing { hint: _ } => some,
+    let mut sets = opened;
+    let own = at % 32;
+    for d in 0..32usize {
+        if (joined[d] != joined[own]) | (sets[d] == 0) {
+            continue;
+        }
+        let wider = open_under(t, met, all, sets[d] | rules, scope, l, m, hint);
+        if wider.rules != 0 {
+            sets[d] = wider.rules;
+            return sets;
+        }
     }
+    sets[own] = rules;
+    sets
 }
 
-// The masks, with those of the 16, 8, 4 and 2 users from u on where u begins such a group.
-fn with_groups(
+// What is known of a row once user u has been asked about, and the first third cell that is closed to
+// it: past all of them where none is.
+fn asked_user(
     t: &[u64],
     met: &[u64],
     all: u64,
-    r: u8,
-    firsts: [u64; 33],
-    seconds: [u64; 33],
-    thirds: [u64; 33],
-    covered: [u64; 32],
-    masks: [u64; 37],
+    scope: Scope,
+    l: usize,
+    m: usize,
+    joined: [u64; 33],
     u: u8,
-    from: usize,
-) -> [u64; 37]
-    ensures { λ w. ⌜ (Prepared (now (t .entry)) (now (met .entry)) (has all) seconds thirds
-        → OpenUpTo (now (t .entry)) (has all) firsts seconds thirds from
-        → AllOpen (now (t .entry)) firsts seconds thirds masks
-        → AllOpen (now (t .entry)) firsts seconds thirds w) ⌝ }
+    rules: u64,
+    before: Asking,
+) -> Asking
+    ensures { λ a. ⌜ (RowGiven (now (t .entry)) (now (met .entry)) all scope l m
+        → AllOpen (now (t .entry)) scope l m (before .opened)
+        → AskedUser (now (t .entry)) scope l m (has (bitAnd all rules)) (a .opened) (a .third)) ⌝ }
 {
-    let starts = [0x0001_0001u64, 0x0101_0101, 0x1111_1111, 0x5555_5555];
-    let counts = [16u8, 8, 4, 2];
-    let mut known = masks;
-    for i in 0..4usize {
-        if !contains(starts[i], (u % 64) as usize) {
-            continue;
-        }
-        let rules = rules_of(covered, r, u, counts[i]);
-        if settled(known, rules) {
-            continue;
-        }
-        known[33 + i] = open_under(t, met, all, rules, firsts, seconds, thirds, from);
+    let mut sets = before.opened;
+    let own = all & rules;
+    if settled(sets, own) {
+        return open_row(sets, before.hint);
     }
-    known
+    let at = (u % 32) as usize;
+    let tried = open_under(t, met, all, joined[at], scope, l, m, before.hint);
+    sets[at] = tried.rules;
+    if settled(sets, own) {
+        return open_row(sets, tried.hint);
+    }
+    let closed = closed_third(t, met, own, scope, l, m, tried.hint);
+    if closed.cell < PAST_CELLS {
+        return Asking {
+            third: closed.cell,
+            opened: sets,
+            hint: closed.hint,
+        };
+    }
+    let wider = with_rules(t, met, all, scope, l, m, sets, joined, at, own, closed.hint);
+    open_row(wider, closed.hint)
 }
 
-// The search for user u, given the masks from the users before. A user whom r does not cover has no
-// rules here.
-fn denied_to(
+// The first user below a limit to whom a row is closed; the limit, if there is none.
+fn denied_in(
     t: &[u64],
     met: &[u64],
     all: u64,
-    r: u8,
-    firsts: [u64; 33],
-    seconds: [u64; 33],
-    thirds: [u64; 33],
-    covered: [u64; 32],
-    masks: [u64; 37],
-    u: u8,
-    from: usize,
-) -> Found
-    ensures { λ s. ⌜ (u < 32 → Ready (now (t .entry)) (now (met .entry)) all seconds thirds covered
-        → OpenUpTo (now (t .entry)) (has all) firsts seconds thirds from
-        → AllOpen (now (t .entry)) firsts seconds thirds masks
-        → FoundFor (now (t .entry)) r firsts seconds thirds covered u s) ⌝ }
+    scope: Scope,
+    own: [u64; 32],
+    l: usize,
+    m: usize,
+    before: Asked,
+) -> InRow
+    ensures { λ f. ⌜ (RowGiven (now (t .entry)) (now (met .entry)) all scope l m → before .user ≤ 32
+        → DeniedIn (now (t .entry)) all scope own l m (before .user) (f .user) (f .third)) ⌝ }
 {
-    let rules = rules_for(covered, r, u);
-    if settled(masks, rules) {
-        return Found::Nothing { hint: 0 };
+    let joined = before.joined;
+    let every = open_under(t, met, all, joined[32], scope, l, m, before.hint);
+    let mut sets = [0u64; 33];
+    sets[32] = every.rules;
+    let mut asking = open_row(sets, every.hint);
+    for u in 0..32u8 {
+        if before.user <= u {
+            break;
+        }
+        let rules = own[(u % 32) as usize];
+        let next = asked_user(t, met, all, scope, l, m, joined, u, rules, asking);
+        asking = next;
+        if asking.third < PAST_CELLS {
+            return in_row(u, asking);
+        }
     }
-    first_closed(t, met, rules, firsts, seconds, thirds, from, 0)
+    in_row(before.user, asking)
+}
+
+// The sets that the users are tried with in the next row: one under which this row is not open is
+// parted as the row parted it.
+fn parted(own: [u64; 32], joined: [u64; 33], opened: [u64; 33]) -> [u64; 33] {
+    let mut next = joined;
+    for i in 0..1024usize {
+        let u = i / 32;
+        let d = i % 32;
+        if (joined[d] != joined[u]) | (opened[d] == 0) {
+            continue;
+        }
+        if own[u] & !opened[d] != 0 {
+            continue;
+        }
+        next[u] = opened[d];
+    }
+    next
+}
+
+// One row more.
+fn asked_row(
+    t: &[u64],
+    met: &[u64],
+    all: u64,
+    scope: Scope,
+    own: [u64; 32],
+    l: usize,
+    m: usize,
+    before: Asked,
+) -> Asked
+    ensures { λ a. ⌜ (RowGiven (now (t .entry)) (now (met .entry)) all scope l m
+        → RowsUpTo (now (t .entry)) all scope own (pastCells * l + m) before
+        → RowsUpTo (now (t .entry)) all scope own (pastCells * l + (m + 1)) a) ⌝ }
+{
+    let found = denied_in(t, met, all, scope, own, l, m, before);
+    let tried = before.joined;
+    let opened = found.opened;
+    let joined = parted(own, tried, opened);
+    if found.user < before.user {
+        return Asked {
+            user: found.user,
+            first: l,
+            second: m,
+            third: found.third,
+            joined,
+            hint: found.hint,
+        };
+    }
+    Asked {
+        user: before.user,
+        first: before.first,
+        second: before.second,
+        third: before.third,
+        joined,
+        hint: found.hint,
+    }
+}
+
+// The rows beside first cell l.
+fn asked_beside(
+    t: &[u64],
+    met: &[u64],
+    all: u64,
+    scope: Scope,
+    own: [u64; 32],
+    l: usize,
+    before: Asked,
+) -> Asked
+    ensures { λ a. ⌜ (Given (now (t .entry)) (now (met .entry)) all scope → l < pastCells
+        → RowsUpTo (now (t .entry)) all scope own (pastCells * l) before
+        → RowsUpTo (now (t .entry)) all scope own (pastCells * (l + 1)) a) ⌝ }
+{
+    let firsts = scope.firsts;
+    let seconds = scope.seconds;
+    let mut asked = before;
+    if !has_cell(firsts, l) {
+        return asked;
+    }
+    for m in 0..PAST_CELLS {
+        if !has_cell(seconds, m) {
+            continue;
+        }
+        let next = asked_row(t, met, all, scope, own, l, m, asked);
+        asked = next;
+    }
+    asked
 }
 
 // The first user, and the first cells for it, by the tables.
@@ -198,63 +370,33 @@ pub fn first_denied(
     met: &[u64],
     all: u64,
     r: u8,
-    firsts: [u64; 33],
-    seconds: [u64; 33],
-    thirds: [u64; 33],
+    scope: Scope,
     covered: [u64; 32],
 ) -> Denied
-    ensures { λ s. ⌜ (Ready (now (t .entry)) (now (met .entry)) all seconds thirds covered
-        → DeniedFirst (now (t .entry)) r firsts seconds thirds covered s) ⌝ }
+    ensures { λ s. ⌜ (Ready (now (t .entry)) (now (met .entry)) all (scope .seconds) (scope .thirds) covered
+        → DeniedFirst (now (t .entry)) r (scope .firsts) (scope .seconds) (scope .thirds) covered s) ⌝ }
 {
-    let known = together(t, met, all, firsts, seconds, thirds);
-    let from = known.from;
-    let mut masks = [0u64; 37];
-    masks[32] = known.rules;
-    for u in 0..32u8 {
-        let groups = with_groups(
-            t,
-            met,
-            all,
-            r,
-            firsts,
-            seconds,
-            thirds,
-            covered,
-            masks,
-            u,
-            from,
-        );
-        masks = groups;
-        let found = denied_to(
-            t,
-            met,
-            all,
-            r,
-            firsts,
-            seconds,
-            thirds,
-            covered,
-            masks,
-            u,
-            from,
-        );
-        match found {
-            Found::At {
-                first,
-                second,
-                third,
-            } => {
-                return Denied::User {
-                    user: u,
-                    first,
-                    second,
-                    third,
-                };
-            }
-            Found::Nothing { hint: _ } => {
-                masks[u as usize] = rules_for(covered, r, u);
-            }
-        }
+    let own = own_rules(covered, r);
+    let joined = [joint(own); 33];
+    let mut asked = Asked {
+        user: 32,
+        first: 0,
+        second: 0,
+        third: 0,
+        joined,
+        hint: 0,
+    };
+    for l in 0..PAST_CELLS {
+        let next = asked_beside(t, met, all, scope, own, l, asked);
+        asked = next;
     }
-    Denied::Nobody
+    if 32 <= asked.user {
+        return Denied::Nobody;
+    }
+    Denied::User {
+        user: asked.user,
+        first: asked.first,
+        second: asked.second,
+        third: asked.third,
+    }
 }

@@ -4,17 +4,10 @@ use Prim.Native.Nat.{ℕ, _+_, _*_, _/_, _<_}
 use mathlib.Core.Path.{_≡_}
 use mathlib.Core.Bool.{Bool, true, false, _&&_, not}
 use mathlib.Core.List.{List}
-use lib.ListN.{getD}
-use lib.Dec.{ltb}
 use Rattle.book.specs.Lists.{any, upTo}
 use Rattle.book.specs.Sets.{has}
 use Rattle.search.specs.Inner.Places.{inPlaces, pastPlaces}
 use Rattle.search.specs.Inner.Closing.{closes}
-use Rattle.search.specs.Inner.Search.{coversIn, tripleBefore}
-use Rattle.blocked.specs.declared.searching.Found.{Found}
-use Rattle.blocked.specs.declared.searching.Found.the-variants.{At, Nothing}
-use Rattle.blocked.specs.declared.users.Denied.{Denied}
-use Rattle.blocked.specs.declared.users.Denied.the-variants.{Nobody, User}
 
 -- one past the last cell that 33 words have room for
 abbrev pub pastCells : ℕ
@@ -125,67 +118,3 @@ pub record Cells (firsts seconds thirds : List ℕ) (l m n : ℕ) : Type 0 where
 pub record Shut (t : List ℕ) (rules : ℕ → Bool) (firsts seconds thirds : List ℕ) (l m n : ℕ) : Type 0 where
   pub cells : Cells firsts seconds thirds l m n
   pub closed : Opens t rules firsts seconds thirds l m n → ⊥
-
--- the cells that pass a test are open
-abbrev pub OpenWhere :
-    List ℕ → (ℕ → Bool) → List ℕ → List ℕ → List ℕ → (ℕ → ℕ → ℕ → Bool) → Type 0
-OpenWhere t rules firsts seconds thirds test =
-    (b z w : ℕ)
-    → test b z w ≡ true
-    → Cells firsts seconds thirds b z w
-    → Opens t rules firsts seconds thirds b z w
-
--- the cells whose first one is before l are open
-abbrev pub OpenUpTo : List ℕ → (ℕ → Bool) → List ℕ → List ℕ → List ℕ → ℕ → Type 0
-OpenUpTo t rules firsts seconds thirds l = OpenWhere t rules firsts seconds thirds (λ b z w. ltb b l)
-
--- the first of the cells that pass a test and are shut
-unfoldable pub FoundAmong :
-    List ℕ → (ℕ → Bool) → List ℕ → List ℕ → List ℕ → (ℕ → ℕ → ℕ → Bool) → Found → Type 0
-FoundAmong t rules firsts seconds thirds among (At l m n) =
-    (among l m n ≡ true)
-    × Shut t rules firsts seconds thirds l m n
-    × OpenWhere t rules firsts seconds thirds (λ b z w. among b z w && tripleBefore b z w l m n)
-FoundAmong t rules firsts seconds thirds among (Nothing hint) =
-    OpenWhere t rules firsts seconds thirds among
-
--- Users
-
--- the rules that cover user u
-abbrev pub coveringRules : List ℕ → ℕ → ℕ → Bool
-coveringRules covered u q = coversIn covered q u
-
--- a set of rules under which all cells are open
-abbrev pub OpensAll : List ℕ → List ℕ → List ℕ → List ℕ → (ℕ → Bool) → Type 0
-OpensAll t firsts seconds thirds rules = OpenWhere t rules firsts seconds thirds (λ b z w. true)
-
--- every mask is such a set
-abbrev pub AllOpen : List ℕ → List ℕ → List ℕ → List ℕ → List ℕ → Type 0
-AllOpen t firsts seconds thirds masks = (i : ℕ) → i < 37 → OpensAll t firsts seconds thirds (has (getD masks i 0))
-
--- what the search for user u answers, if rule r covers it
-unfoldable pub FoundFor : List ℕ → ℕ → List ℕ → List ℕ → List ℕ → List ℕ → ℕ → Found → Type 0
-FoundFor t r firsts seconds thirds covered u (At l m n) =
-    (coversIn covered r u ≡ true)
-    × FoundAmong t (coveringRules covered u) firsts seconds thirds (λ b z w. true) (At l m n)
-FoundFor t r firsts seconds thirds covered u (Nothing hint) =
-    coversIn covered r u ≡ true → OpensAll t firsts seconds thirds (coveringRules covered u)
-
--- the users before u that rule r covers have all cells open
-abbrev pub OpenBefore : List ℕ → ℕ → List ℕ → List ℕ → List ℕ → List ℕ → ℕ → Type 0
-OpenBefore t r firsts seconds thirds covered u =
-    (v : ℕ)
-    → v < u
-    → coversIn covered r v ≡ true
-    → OpensAll t firsts seconds thirds (coveringRules covered v)
-
--- the first user whom rule r covers, and for it the first three cells
-pub record DeniedUser (t : List ℕ) (r : ℕ) (firsts seconds thirds covered : List ℕ) (u l m n : ℕ) : Type 0 where
-  pub below : u < 32
-  pub covers : coversIn covered r u ≡ true
-  pub found : FoundAmong t (coveringRules covered u) firsts seconds thirds (λ b z w. true) (At l m n)
-  pub users : OpenBefore t r firsts seconds thirds covered u
-
-unfoldable pub DeniedFirst : List ℕ → ℕ → List ℕ → List ℕ → List ℕ → List ℕ → Denied → Type 0
-DeniedFirst t r firsts seconds thirds covered Nobody = OpenBefore t r firsts seconds thirds covered 32
-DeniedFirst t r firsts seconds thirds covered (User u l m n) = DeniedUser t r firsts seconds thirds covered u l m n

@@ -3,7 +3,7 @@ use Prim.Native.Nat.{_-_, _≤_}
 use native.Mathlib.Omega.{arith}
 use Rattle.verdicts.proofs.Marks.{Marks, marks-none, marks-more}
 use Rattle.search.proofs.UserLaws.{others-end}
-use Rattle.blocked.specs.Inner.Cells.{coveringRules}
+use Rattle.blocked.specs.Inner.Users.{coveringRules}
 use borrow.Author.Needs.{needs}
 use Rattle.blocked.proofs.users.covering.Statement.{statement}
 use Rattle.blocked.proofs.users.covering.Tie as tie

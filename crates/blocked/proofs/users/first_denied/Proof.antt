@@ -1,74 +1,57 @@
--- One user a turn (`Users`). Assumes nothing.
-use Prim.Native.Nat.{_-_, _≤_}
+-- One first cell a turn (`RowsUpTo`). Assumes nothing.
+use Prim.Native.Nat.{_*_, _-_, _≤_}
 use native.Mathlib.Omega.{arith}
 use mathlib.Core.Path.{refl}
-use lib.ListN.{replicate, getD-replicate}
-use Rattle.blocked.specs.Inner.Pairs.{Ready}
-use Rattle.blocked.proofs.UserLaws.{Users, users-end, users-found, users-masks, users-more, users-none}
+use Rattle.blocked.specs.Inner.Users.{Given, RowsUpTo}
+use Rattle.blocked.proofs.UserLaws.{denied-nobody, denied-user, rows-none}
 use borrow.Author.Needs.{needs}
 use Rattle.blocked.proofs.users.first_denied.Statement.{statement}
 use Rattle.blocked.proofs.users.first_denied.Tie as tie
+use Rattle.blocked.proofs.users.first_denied.Reads as reads
+use Rattle.blocked.proofs.users.first_denied.Lts as lts
+use Rattle.blocked.proofs.users.asked_beside.Reads as asked-beside-reads
+use Rattle.blocked.proofs.users.joint.Reads as joint-reads
+use Rattle.blocked.proofs.users.own_rules.Reads as own-rules-reads
 
 abbrev Inv-loop : tie.InvT-loop
-Inv-loop t met all r firsts seconds thirds covered from masks₀ u₀ masks u =
-    (u ≤ 32)
-    × (Ready t met all seconds thirds covered → Users t r firsts seconds thirds covered masks u)
+Inv-loop t met all r scope own asked₀ l₀ asked l =
+    (l ≤ 132) × (Given t met all scope → RowsUpTo t all scope own (132 * l) asked)
 
 abbrev μ-loop : tie.MeasureT-loop
-μ-loop t met all r firsts seconds thirds covered from masks₀ u₀ masks u = 32 - u
+μ-loop t met all r scope own asked₀ l₀ asked l = 132 - l
 
+-- src/users.rt:386:5
 loop-holds : tie.Need-loop-holds Inv-loop μ-loop
 loop-holds c =
-    let a = c .before .before .before .args in (
-      search needs,
-      λ ready.
-          users-none (a .t .now) (a .r) (a .firsts) (a .seconds) (a .thirds) (a .covered) (replicate 37 0)
-          (c .together .result .rules) refl (λ i. getD-replicate 37 i 0 0) (c .together .ensures (ready .prepared) .0),
-    )
+    let a = c .before .before .before .before .args in
+    (search needs, λ given. rows-none (a .t .now) (a .all) (a .scope) (c .before .own-rules .result) _ refl)
 
-returns : tie.Need-returns Inv-loop μ-loop
-returns c ready =
-    let a = c .before .before .before .before .before .before .before .before .before .before .args in
-    let loop = c .before .before .before .before .before .before .loop in
-    let below = c .before .before .before .before .before .loop-test .taken in
-    let before = c .before .before .before .before .before .before .before .together .ensures (ready .prepared) .1 in
-    let groups = c .before .before .before .before .with-groups in
-    let found = c .before .before .before .denied-to in
-    let told = c .before .found .given in
-    let old = loop .inv .1 ready in
-    let free = groups .ensures (ready .prepared) before (old .free) in
-    users-found (a .t .now) (a .r) (a .firsts) (a .seconds) (a .thirds) (a .covered) (groups .result) (loop .u)
-    (found .result) below
-    (users-masks (a .t .now) (a .r) (a .firsts) (a .seconds) (a .thirds) (a .covered) (loop .masks) (groups .result)
-    (loop .u) old (search needs) free)
-    (found .ensures below ready before free) (told .0 .0) (told .0 .1 .0) (told .0 .1 .1 .0) (told .1)
-
+-- src/users.rt:386:5
 loop-again : tie.Need-loop-again Inv-loop μ-loop
 loop-again c =
-    let a = c .before .before .before .before .before .before .before .before .before .before .args in
-    let loop = c .before .before .before .before .before .before .loop in
-    let below = c .before .before .before .before .before .loop-test .taken in
-    let groups = c .before .before .before .before .with-groups in
-    let found = c .before .before .before .denied-to in
-    let told = c .before .enum-told .given in (
-      omega arith,
-      λ ready.
-          let before = c .before .before .before .before .before .before .before .together .ensures (ready .prepared) .1 in
-          let old = loop .inv .1 ready in
-          let free = groups .ensures (ready .prepared) before (old .free) in
-          users-more (a .t .now) (a .r) (a .firsts) (a .seconds) (a .thirds) (a .covered) (groups .result) (loop .u)
-          (found .result) below
-          (users-masks (a .t .now) (a .r) (a .firsts) (a .seconds) (a .thirds) (a .covered) (loop .masks)
-          (groups .result) (loop .u) old (search needs) free)
-          (found .ensures below ready before free) (told .0 .0) (c .rules-for .result) (told .1) (c .rules-for .ensures),
-    )
+    let loop = c .before .before .loop in
+    let below = c .before .loop-test .taken in
+    (omega arith, λ given. c .asked-beside .ensures given below (loop .inv .1 given))
 
+-- src/users.rt:391:9
+returns : tie.Need-returns Inv-loop μ-loop
+returns c ready =
+    let a = c .before .before .before .before .before .before .before .before .args in
+    let own = c .before .before .before .before .before .own-rules in
+    let loop = c .before .before .before .loop in
+    let past = c .before .before .loop-test .left in
+    denied-nobody (a .t .now) (a .met .now) (a .r) (a .all) (a .scope) (a .covered) (own .result) ready (own .ensures)
+    (132 * loop .l) (loop .asked) (omega arith) (loop .inv .1 (ready .prepared)) (c .if1 .taken)
+
+-- src/users.rt:365:1
 returns-2 : tie.Need-returns-2 Inv-loop μ-loop
 returns-2 c ready =
-    let a = c .before .before .before .before .before .args in
-    let loop = c .before .loop in
-    users-end (a .t .now) (a .r) (a .firsts) (a .seconds) (a .thirds) (a .covered) (loop .masks) (loop .u)
-    (c .loop-test .left) (loop .inv .1 ready)
+    let a = c .before .before .before .before .before .before .before .before .args in
+    let own = c .before .before .before .before .before .own-rules in
+    let loop = c .before .before .before .loop in
+    let past = c .before .before .loop-test .left in
+    denied-user (a .t .now) (a .met .now) (a .r) (a .all) (a .scope) (a .covered) (own .result) ready (own .ensures)
+    (132 * loop .l) (loop .asked) (omega arith) (loop .inv .1 (ready .prepared)) (c .if1 .left)
 
 pub first-denied-spec : {M : Type 1} → statement M
 first-denied-spec =
@@ -77,18 +60,11 @@ first-denied-spec =
     Inv-loop
     μ-loop
     (λ c κs. search needs)
-    (λ c. search needs)
+    (λ c κs. search needs)
     loop-holds
     (λ c κs. search needs)
-    (λ c κs. search needs)
-    (λ c. search needs)
-    returns
-    (λ c. search needs)
-    (λ c κs. search needs)
-    (λ c. search needs)
-    (λ c. search needs)
-    (λ c. search needs)
     (λ c. search needs)
     (λ c. search needs)
     loop-again
+    returns
     returns-2)

@@ -1,4 +1,4 @@
--- The first mask that leaves no rule of the set outside. Assumes nothing.
+-- The first set that leaves no rule of the set outside. Assumes nothing.
 use Prim.Native.Nat.{_-_, _≤_}
 use mir.Syntax.{w64}
 use mir.Val.{Fits}
@@ -10,10 +10,10 @@ use Rattle.blocked.proofs.users.settled.Statement.{statement}
 use Rattle.blocked.proofs.users.settled.Tie as tie
 
 abbrev Inv-loop : tie.InvT-loop
-Inv-loop rules masks i₀ i = i ≤ 37
+Inv-loop rules sets i₀ i = i ≤ 33
 
 abbrev μ-loop : tie.MeasureT-loop
-μ-loop rules masks i₀ i = 37 - i
+μ-loop rules sets i₀ i = 33 - i
 
 returns : tie.Need-returns Inv-loop μ-loop
 returns c e =
