@@ -158,14 +158,16 @@ fn opening(draft: &books::Draft) -> Vec<Vec<u8>> {
     found
 }
 
-/// In the books that are hard to open one choice does, the last or the first of 25 pairs.
+/// In the books that are hard to open one choice does, the last or the first of 25 pairs; in that of eight
+/// classes two do.
 #[test]
 fn hardly_anything_opens() {
     for (name, draft, _) in books::blocked::hard() {
         let wanted = match name.as_str() {
-            "pairs in turn" => [15, 11, 11],
-            _ => [15, 15, 15],
+            "pairs in turn" => vec![[15, 11, 11]],
+            "eight classes" => vec![[15, 15, 14], [15, 15, 15]],
+            _ => vec![[15, 15, 15]],
         };
-        assert_eq!(opening(&draft), [wanted], "{name}");
+        assert_eq!(opening(&draft), wanted, "{name}");
     }
 }
