@@ -1,7 +1,7 @@
 //! Times each call of the engine and of the second implementation, in one run, on the same bytes.
 //!
 //! `bench count` counts the instructions of each call (valgrind is needed), and `bench stack` finds
-//! the smallest stack on which each call of the largest book runs.
+//! the smallest stack on which each call runs.
 #![forbid(unsafe_code)]
 
 mod calls;
@@ -103,9 +103,20 @@ fn all() -> Vec<Timed> {
     all
 }
 
+/// The book for the stack alone: the engine goes up its categories by recursion.
+fn deep() -> Timed {
+    Timed {
+        name: "one chain".to_string(),
+        draft: named::chain(),
+        rule: 0,
+        calls: For::All,
+    }
+}
+
 /// The input of a book by its name.
 fn input_named(name: &str) -> Input {
-    let found = all().into_iter().find(|book| book.name == name);
+    let mut books = all().into_iter().chain([deep()]);
+    let found = books.find(|book| book.name == name);
     let book = found.expect("a book of that name");
     Input::new(book.name, book.draft, book.rule..book.rule + 1)
 }
