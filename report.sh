@@ -6,12 +6,13 @@
 set -euo pipefail
 root=$(cd "$(dirname "$0")" && pwd)
 [ $# -le 1 ] || { echo "found $# arguments; expected report.sh [BOOK]" >&2; exit 2; }
-book=$(realpath -m -- "${1:-$root/crates/policyreport/data/small.book}")
+given=${1:-$root/crates/policyreport/data/small.book}
+book=$(realpath -m -- "$given")
 if [ -d "$book" ]; then
-    echo "$1: found a folder; expected a book" >&2
+    echo "$given: found a folder; expected a book" >&2
     exit 2
 elif [ ! -r "$book" ]; then
-    echo "$1: there is no such file, or it can't be read" >&2
+    echo "$given: there is no such file, or it can't be read" >&2
     exit 2
 fi
 

@@ -21,10 +21,11 @@
  * something is refused. So the functions at the end of this file give the answer's own parts (proved:
  * crates/capi/proofs/Unpacking.antt).
  *
- * Not proved: this file, and that there is stack enough. On the largest book the smallest stacks that
- * worked were 16 KiB for pspec_check, 33 KiB for pspec_flows and pspec_judge, 48 KiB for pspec_idle,
- * 54 KiB for pspec_blocked (bench stack); on a thread with less the process is stopped. Give them
- * 128 KiB. The calls use memcpy and memset and nothing else from outside.
+ * Not proved: this file, and that there is stack enough. On the largest book and on one with 64
+ * categories in a chain the smallest stacks that worked were 16 KiB for pspec_check, 33 KiB for
+ * pspec_flows and pspec_judge, 50 KiB for pspec_idle, 54 KiB for pspec_blocked (bench stack); on a
+ * thread with less the process is stopped. Give them 128 KiB. The calls use memcpy and memset and
+ * nothing else from outside.
  */
 #ifndef PSPEC_H
 #define PSPEC_H

@@ -92,7 +92,14 @@ fn named_books() {
     for (_, draft, _) in named::all() {
         cases(&draft).iter().for_each(assert_alike);
     }
-    for draft in [named::small_shop(), named::middling(), named::largest()] {
+    let chain = named::chain();
+    cases(&chain).iter().for_each(assert_alike);
+    for draft in [
+        named::small_shop(),
+        named::middling(),
+        named::largest(),
+        chain,
+    ] {
         for rule in 0..draft.rules.len() as u32 {
             assert_alike(&idle(&draft, rule));
             assert_alike(&blocked(&draft, rule));
@@ -133,7 +140,7 @@ fn hard_books_are_as_meant() {
             }
         }
     }
-    assert!(searched > 8, "{searched} are searched to the end");
+    assert!(searched > 20, "{searched} are searched to the end");
 }
 
 /// The engine does, for every rule.

@@ -27,6 +27,16 @@ const fn counted(name: &'static str, symbol: &'static str, rows: usize) -> Count
     Counted { name, symbol, rows }
 }
 
+impl Counted {
+    /// Its name, with the rule where one is asked about.
+    pub fn about(&self, rule: u32) -> String {
+        match self.symbol {
+            "pspec_idle" | "pspec_blocked" => format!("{}, rule {rule}", self.name),
+            _ => self.name.to_string(),
+        }
+    }
+}
+
 /// The instructions of one call on a book, or nothing where valgrind is missing or fails.
 pub fn instructions(call: &Counted, book: &str) -> Option<u64> {
     let this = std::env::current_exe().ok()?;

@@ -1,7 +1,7 @@
 //! Times each call of the engine and of the second implementation, in one run, on the same bytes.
 //!
 //! `bench count` counts the instructions of each call (valgrind is needed), and `bench stack` finds
-//! the smallest stack on which each call of the largest book runs.
+//! the smallest stack on which each call runs.
 #![forbid(unsafe_code)]
 
 mod calls;
@@ -103,9 +103,20 @@ fn all() -> Vec<Timed> {
     all
 }
 
+/// The book for the stack alone: the engine goes up its categories by recursion.
+fn deep() -> Timed {
+    Timed {
+        name: "one chain".to_string(),
+        draft: named::chain(),
+        rule: 0,
+        calls: For::All,
+    }
+}
+
 /// The input of a book by its name.
 fn input_named(name: &str) -> Input {
-    let found = all().into_iter().find(|book| book.name == name);
+    let mut books = all().into_iter().chain([deep()]);
+    let found = books.find(|book| book.name == name);
     let book = found.expect("a book of that name");
     Input::new(book.name, book.draft, book.rule..book.rule + 1)
 }
@@ -113,12 +124,15 @@ fn input_named(name: &str) -> Input {
 /// Counts the instructions of each call on each book, beside those of a plain loop over the sums.
 fn instructions() {
     table::count_head();
-    for Timed { name, calls, .. } in all() {
+    for Timed {
+        name, rule, calls, ..
+    } in all()
+    {
         let mut sums = None;
         for call in count::CALLS.iter().filter(|call| calls.has(call.name)) {
             let number = count::instructions(call, &name);
             sums = sums.or(number.filter(|_| call.name == "sums"));
-            table::count_row(&name, call.name, number, sums);
+            table::count_row(&name, &call.about(rule), number, sums);
         }
     }
 }
@@ -173,10 +187,10 @@ impl Input {
         }
     }
 
-    fn line(&self, call: &'static str) -> Line<'_> {
+    fn line(&self, call: impl Into<String>) -> Line<'_> {
         Line {
             book: &self.name,
-            call,
+            call: call.into(),
             engine: None,
             second: None,
             plain: None,
@@ -248,10 +262,10 @@ fn idle(input: &Input) {
     });
 }
 
-fn idle_name(input: &Input) -> &'static str {
+fn idle_name(input: &Input) -> String {
     match input.rules.len() {
-        1 => "idle",
-        _ => "idle, all rules",
+        1 => format!("idle, rule {}", input.rules.start),
+        _ => "idle, all rules".to_string(),
     }
 }
 
@@ -275,7 +289,7 @@ fn idle_naive(input: &Input) {
     });
 }
 
-/// The rule that takes the engine longest, and all rules together.
+/// The rule that takes the engine longest, and all rules together. Without the engine, the first rule.
 fn blocked(input: &Input) {
     let engine = calls::blocked(&input.book, input.rules.clone());
     let worst = engine.iter().flatten().max_by_key(|(_, time)| *time);
@@ -284,10 +298,11 @@ fn blocked(input: &Input) {
     let one = || search(asked).is_some();
     let all = || input.rules.clone().all(|rule| search(rule).is_some());
     let second = one().then(|| best(one));
+    let worst_said = worst.map_or("", |_| "worst ");
     table::row(&Line {
         engine: worst.map(|(_, time)| *time),
         second,
-        ..input.line("blocked, worst rule")
+        ..input.line(format!("blocked, {worst_said}rule {asked}"))
     });
     let soon = second.is_some_and(|time| time < SOON);
     table::row(&Line {

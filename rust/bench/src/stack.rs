@@ -1,32 +1,44 @@
-//! The smallest stack on which each call of the largest book runs. A call that has too little stops
-//! its process, so each try is a process of its own.
+//! The smallest stack on which each call runs. A call that has too little stops its process, so each
+//! try is a process of its own.
 
 use crate::{count, Input};
 use std::process::{Command, Stdio};
 
-const BOOK: &str = "largest";
+/// What needs stack: the largest tables, and the longest recursion, up a chain of categories.
+const BOOKS: [&str; 2] = ["largest", "one chain"];
 
-/// Prints the smallest stack of each call, to the next KiB, of those that a thread can have.
+/// Prints the smallest stack of each call on each book, and on both.
 pub fn print() {
+    println!(
+        "{:<15} {:>9} {:>9} {:>9}",
+        "KiB", BOOKS[0], BOOKS[1], "both"
+    );
     for call in count::CALLS.iter().filter(|call| call.name != "sums") {
-        let (mut low, mut high) = (16, 1024);
-        while low < high {
-            let middle = (low + high) / 2;
-            match runs(middle, call.name) {
-                true => high = middle,
-                false => low = middle + 1,
-            }
-        }
-        println!("{:<15} {low:>5} KiB", call.name);
+        let [one, other] = BOOKS.map(|book| smallest(call.name, book));
+        let both = one.max(other);
+        println!("{:<15} {one:>9} {other:>9} {both:>9}", call.name);
     }
 }
 
-fn runs(kib: usize, call: &str) -> bool {
+/// The smallest stack of a call, to the next KiB, of those that a thread can have.
+fn smallest(call: &str, book: &str) -> usize {
+    let (mut low, mut high) = (16, 1024);
+    while low < high {
+        let middle = (low + high) / 2;
+        match runs(middle, call, book) {
+            true => high = middle,
+            false => low = middle + 1,
+        }
+    }
+    low
+}
+
+fn runs(kib: usize, call: &str, book: &str) -> bool {
     let Ok(this) = std::env::current_exe() else {
         return false;
     };
     let mut try_it = Command::new(this);
-    try_it.args(["on", &kib.to_string(), call, BOOK]);
+    try_it.args(["on", &kib.to_string(), call, book]);
     try_it.stderr(Stdio::null());
     try_it.status().is_ok_and(|status| status.success())
 }

@@ -5,7 +5,7 @@ use std::time::Duration;
 /// One line: a call on a book, and the times that there are.
 pub struct Line<'a> {
     pub book: &'a str,
-    pub call: &'static str,
+    pub call: String,
     pub engine: Option<Duration>,
     pub second: Option<Duration>,
     /// A plain loop over the same bytes.
@@ -30,7 +30,7 @@ pub fn head() {
 pub fn row(line: &Line) {
     print([
         line.book.to_string(),
-        line.call.to_string(),
+        line.call.clone(),
         time(line.engine),
         time(line.second),
         ratio(line.second, line.engine),
@@ -41,7 +41,7 @@ pub fn row(line: &Line) {
 
 fn print([book, call, engine, second, ratio, plain, plain_ratio]: [String; 7]) {
     let timed = format!("{engine:>10} {second:>10} {ratio:>14}");
-    println!("{book:<29} {call:<19} {timed} {plain:>10} {plain_ratio:>12}");
+    println!("{book:<29} {call:<22} {timed} {plain:>10} {plain_ratio:>12}");
 }
 
 fn time(time: Option<Duration>) -> String {
@@ -76,5 +76,5 @@ pub fn count_row(book: &str, call: &str, number: Option<u64>, sums: Option<u64>)
 }
 
 fn count_print([book, call, number, ratio]: [String; 4]) {
-    println!("{book:<30} {call:<15} {number:>14} {ratio:>8}");
+    println!("{book:<30} {call:<16} {number:>14} {ratio:>8}");
 }

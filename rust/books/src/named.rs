@@ -93,6 +93,25 @@ pub fn largest() -> Draft {
     draft
 }
 
+/// Data categories in one chain, as deep as a book can have it: the last supports what the first owns.
+pub fn chain() -> Draft {
+    let mut random = Random::new(63);
+    let rule = |category| Rule {
+        user: 0,
+        excluded: vec![],
+        references: vec![reference(category, ACCESS)],
+        restrictions: restrictions(&mut random, 8, 1, ALL),
+    };
+    let child = |parent: u8| (parent, 0);
+    Draft {
+        users: flat(32),
+        rules: (0..32).map(rule).collect(),
+        data: [(0, ALL)].into_iter().chain((0..63).map(child)).collect(),
+        columns: vec![63; 128],
+        functions: (0..64).map(|i| i % 16).collect(),
+    }
+}
+
 /// Where a rule's twin stands.
 #[derive(Clone, Copy, Debug, PartialEq, Eq)]
 pub enum Twin {

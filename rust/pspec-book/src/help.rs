@@ -41,10 +41,11 @@ Names are taken from BOOK.names; without that file they are numbers, such as use
 Exit status: 0 when the answer is given and, for judge, no rule is broken; 1 when the policy, the
 book, the user or the plan is refused, or a rule is broken, so that only 0 opens a gate; 2 for wrong
 arguments, a file that can't be read or written, or names of another book; 3 for report --exit-code
-when some rule is idle, and for blocked --exit-code when some rule is blocked. With --json the answer
-is one line of JSON; what is refused is said in words on the other output, and the status is the same.
+when some rule is idle, and for blocked --exit-code when some rule is blocked. With --json the
+answer is one line of JSON; what is refused is said in words on the other output, and the status is
+the same.
 
 Every answer about a book comes from the proved engine: the book check, Flows, Judge, Idle and
-Blocked. Why a rule is idle is found by asking it about books with rules left out. This program stands outside the
-proof: that a text means the blocks made of it, which accesses break a rule and from which lines they
-come, and the words around an answer are tried by tests only.";
+Blocked. Why a rule is idle is found by asking it about books with rules left out. This program
+stands outside the proof: that a text means the blocks made of it, which accesses break a rule and
+from which lines they come, and the words around an answer are tried by tests only.";

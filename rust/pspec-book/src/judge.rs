@@ -10,7 +10,7 @@ use crate::names::Names;
 use crate::plan;
 use crate::rule;
 use crate::text::place;
-use pspec::{Access, Refusal};
+use pspec::{Access, Refusal, Verdict};
 
 /// Why no judgement is given.
 #[derive(Clone, Debug, PartialEq, Eq)]
@@ -55,8 +55,10 @@ pub fn broken(named: &NamedBook, user: &str, text: &str) -> Result<Vec<BrokenRul
         Refusal::NoUser => NotJudged::User(explain::no_user(number, &contents.users, names)),
         _ => NotJudged::Plan(explain::plan(refusal, &plan, contents).into()),
     };
-    let broken = book.judge(number.into(), &plan.plan).broken();
-    let broken = broken.map_err(refused)?;
+    let broken = match book.judge(number.into(), &plan.plan) {
+        Verdict::Judged(broken) => broken,
+        Verdict::Refused(refusal) => return Err(refused(refusal)),
+    };
     let traced = lineage::traced(&plan, named).map_err(refused)?;
     Ok(broken.rules().map(|r| one(r, named, &traced)).collect())
 }

@@ -192,16 +192,10 @@ impl Policy {
     }
 
     fn own(&mut self, cursor: &mut Cursor) -> Result<u16, Mistake> {
-        let mut own = 0;
         if !cursor.take("[") {
-            return Ok(own);
+            return Ok(0);
         }
-        loop {
-            own |= 1 << rule::operation(cursor, &mut self.names)?;
-            if !cursor.take(",") {
-                break;
-            }
-        }
+        let own = rule::operation_mask(cursor, &mut self.names)?;
         match cursor.take("]") {
             true => Ok(own),
             false => Err(cursor.found("',' or ']'")),

@@ -55,6 +55,12 @@ pub fn operation(cursor: &mut Cursor, names: &mut Names) -> Result<u8, Mistake> 
     Ok(place as u8 + 1)
 }
 
+/// The mask of one or more operations.
+pub fn operation_mask(cursor: &mut Cursor, names: &mut Names) -> Result<u16, Mistake> {
+    let numbers = cursor.separated(",", |cursor| operation(cursor, names))?;
+    Ok(numbers.iter().fold(0, |mask, number| mask | 1 << number))
+}
+
 /// Refuses more of something than there is room for.
 fn at_most(cursor: &Cursor, count: usize, most: usize, what: &str) -> Result<(), Mistake> {
     if count <= most {
@@ -94,14 +100,8 @@ fn excluded_users(cursor: &mut Cursor, names: &Names) -> Result<Vec<u8>, Mistake
 }
 
 fn references(cursor: &mut Cursor, names: &Names) -> Result<Vec<Reference>, Mistake> {
-    let mut references = Vec::new();
     cursor.expect("[")?;
-    loop {
-        references.push(reference(cursor, names)?);
-        if !cursor.take(",") {
-            break;
-        }
-    }
+    let references = cursor.separated(",", |cursor| reference(cursor, names))?;
     if !cursor.take("]") {
         return Err(cursor.found("',', 'exclude' or ']'"));
     }
@@ -146,19 +146,13 @@ fn restrictions(
     names: &mut Names,
     references: usize,
 ) -> Result<Vec<[u16; 3]>, Mistake> {
-    let mut restrictions = Vec::new();
     if cursor.take("forbid") {
-        return Ok(restrictions);
+        return Ok(vec![]);
     }
-    loop {
-        if cursor.ahead(0) != Some("[") {
-            return Err(cursor.found("'[' or 'forbid'"));
-        }
-        restrictions.push(restriction(cursor, names, references)?);
-        if !cursor.take("or") {
-            break;
-        }
-    }
+    let restrictions = cursor.separated("or", |cursor| match cursor.ahead(0) {
+        Some("[") => restriction(cursor, names, references),
+        _ => Err(cursor.found("'[' or 'forbid'")),
+    })?;
     at_most(
         cursor,
         restrictions.len(),
@@ -173,14 +167,8 @@ fn restriction(
     names: &mut Names,
     references: usize,
 ) -> Result<[u16; 3], Mistake> {
-    let mut masks = Vec::new();
     cursor.expect("[")?;
-    loop {
-        masks.push(mask(cursor, names)?);
-        if !cursor.take(",") {
-            break;
-        }
-    }
+    let mut masks = cursor.separated(",", |cursor| mask(cursor, names))?;
     cursor.expect("]")?;
     if masks.len() != references {
         let what = format!(
@@ -195,17 +183,11 @@ fn restriction(
 }
 
 fn mask(cursor: &mut Cursor, names: &mut Names) -> Result<u16, Mistake> {
-    let mut mask = 0;
     cursor.expect("{")?;
     if cursor.take("}") {
-        return Ok(mask);
+        return Ok(0);
     }
-    loop {
-        mask |= 1 << operation(cursor, names)?;
-        if !cursor.take(",") {
-            break;
-        }
-    }
+    let mask = operation_mask(cursor, names)?;
     cursor.expect("}")?;
     Ok(mask)
 }

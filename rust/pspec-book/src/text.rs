@@ -133,6 +133,19 @@ impl<'a> Cursor<'a> {
         }
     }
 
+    /// One or more of something, with a word or mark between them.
+    pub fn separated<T>(
+        &mut self,
+        between: &str,
+        mut one: impl FnMut(&mut Self) -> Result<T, Mistake>,
+    ) -> Result<Vec<T>, Mistake> {
+        let mut all = vec![one(self)?];
+        while self.take(between) {
+            all.push(one(self)?);
+        }
+        Ok(all)
+    }
+
     /// The next word, which must be a name.
     pub fn name(&mut self, expected: &str) -> Result<&'a str, Mistake> {
         let name = self.ahead(0).filter(|word| is_name(word));

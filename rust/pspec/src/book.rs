@@ -68,17 +68,19 @@ impl Book {
     /// Which rules a user and a plan break.
     ///
     /// ```
-    /// use pspec::{Book, Plan, Refusal};
+    /// use pspec::{Book, Plan, Refusal, Verdict};
     ///
     /// # let bytes = books::named::small_shop().bytes();
     /// let book = Book::new(bytes)?; // the small shop
-    /// let price = Plan::new([1, 2, 0, 0, 4, 0, 0, 0]); // column 2, put out
-    /// let broken = book.judge(1, &price).broken()?;
-    /// assert!(!broken.opens());
-    /// assert!(broken.rules().eq([1]));
-    ///
     /// assert!(book.judge(1, &Plan::new([])).opens());
-    /// assert_eq!(book.judge(0, &price).broken(), Err(Refusal::NoUser)); // others are below user 0
+    ///
+    /// let price = Plan::new([1, 2, 0, 0, 4, 0, 0, 0]); // column 2, put out
+    /// match book.judge(1, &price) {
+    ///     Verdict::Judged(broken) => assert!(broken.rules().eq([1])),
+    ///     Verdict::Refused(refusal) => return Err(refusal),
+    /// }
+    /// let no_user = Verdict::Refused(Refusal::NoUser);
+    /// assert_eq!(book.judge(0, &price), no_user); // others are below user 0
     /// # Ok::<(), Refusal>(())
     /// ```
     pub fn judge(&self, user: u32, plan: &Plan) -> Verdict {

@@ -3,20 +3,31 @@
 use crate::Refusal;
 use std::fmt;
 
-/// What Judge says of a user and a plan.
+/// What Judge says of a user and a plan. Ask [`opens`](Verdict::opens), or match both cases.
 ///
-/// It is no `Result`: of one that held the broken rules, `is_ok` would be true for a plan that breaks
-/// some.
+/// It is no `Result` and turns into none: `is_ok` would be true for a plan that breaks rules. Nor into
+/// an `Option`: `is_none` would be true for a plan that is refused, or else for one that breaks rules.
 ///
+/// ```
+/// # let book = pspec::Book::new(books::named::small_shop().bytes()).unwrap();
+/// # let plan = pspec::Plan::new([1, 2, 0, 0, 4, 0, 0, 0]);
+/// assert!(!book.judge(1, &plan).opens());
+/// ```
 /// ```compile_fail
 /// # let book = pspec::Book::new(books::named::small_shop().bytes()).unwrap();
-/// # let plan = pspec::Plan::new([]);
-/// if book.judge(1, &plan).is_ok() {}
+/// # let plan = pspec::Plan::new([1, 2, 0, 0, 4, 0, 0, 0]);
+/// assert!(!book.judge(1, &plan).is_ok());
+/// ```
+/// ```compile_fail
+/// # let book = pspec::Book::new(books::named::small_shop().bytes()).unwrap();
+/// # let plan = pspec::Plan::new([1, 2, 0, 0, 4, 0, 0, 0]);
+/// assert!(!book.judge(1, &plan).broken().is_ok());
 /// ```
 #[derive(Clone, Copy, Debug, PartialEq, Eq, Hash)]
 #[must_use = "the gate opens only where `opens` says so"]
 pub enum Verdict {
-    /// The user and the plan are judged: these rules they break, if any.
+    /// The user and the plan are judged, which is not yet being let through: these rules they break,
+    /// if any.
     Judged(Broken),
     /// The user or the plan is refused.
     Refused(Refusal),
@@ -28,14 +39,6 @@ impl Verdict {
         match self {
             Verdict::Judged(broken) => broken.opens(),
             Verdict::Refused(_) => false,
-        }
-    }
-
-    /// The broken rules, or the refusal. Being judged is not being let through: ask `opens`.
-    pub fn broken(self) -> Result<Broken, Refusal> {
-        match self {
-            Verdict::Judged(broken) => Ok(broken),
-            Verdict::Refused(refusal) => Err(refusal),
         }
     }
 }

@@ -1,7 +1,7 @@
 //! Empty slices, and slices in the middle of other bytes.
 
 use books::named::{opposed_shop, small_shop};
-use pspec::{raw, seal, Book, Plan, Refusal};
+use pspec::{raw, seal, Book, Plan, Refusal, Verdict};
 
 fn refusal(answer: u64) -> Refusal {
     raw::value(answer).expect_err("it is refused")
@@ -80,11 +80,15 @@ fn refused_users_and_plans_open_nothing() {
     let book = Book::new(small_shop().bytes()).expect("it is sound");
     let short = Plan::new([1, 2, 0]);
     let itself = Plan::new([4, 0, 0, 0]);
-    let said = |user, plan: &Plan| book.judge(user, plan).broken();
-    assert_eq!(said(0, &Plan::default()), Err(Refusal::NoUser));
-    assert_eq!(said(1, &short), Err(Refusal::PlanLength));
-    assert_eq!(said(1, &itself), Err(Refusal::FaultyRow { row: 0 }));
-    assert!(!book.judge(1, &itself).opens());
+    for (user, plan, refusal) in [
+        (0, &Plan::default(), Refusal::NoUser),
+        (1, &short, Refusal::PlanLength),
+        (1, &itself, Refusal::FaultyRow { row: 0 }),
+    ] {
+        let verdict = book.judge(user, plan);
+        assert_eq!(verdict, Verdict::Refused(refusal));
+        assert!(!verdict.opens());
+    }
     assert_eq!(book.flows(&short), Err(Refusal::PlanLength));
     assert_eq!(short.to_string(), "010200");
     assert_eq!(short.rows().count(), 0);

@@ -3,7 +3,9 @@
 use books::valid::{draft, Size};
 use books::{plans, Random};
 use second::access::Access;
+use second::book::Book;
 use second::{blocked, breaking, choice, idle, path, plan, reading};
+use std::fmt::Debug;
 
 #[test]
 fn accesses_by_paths_and_by_rows() {
@@ -23,44 +25,40 @@ fn accesses_by_paths_and_by_rows() {
     assert!(compared > 1_000, "only {compared} accesses compared");
 }
 
-#[test]
-fn idle_naive_and_pruned() {
-    let mut random = Random::new(12);
+/// Compares two searches for every rule of so many random books that has few choices: how often they
+/// find something, and how often nothing.
+fn compared<T: PartialEq + Debug>(
+    seed: u64,
+    books: usize,
+    naive: impl Fn(&Book, usize) -> Option<T>,
+    within: impl Fn(&Book, usize, u64) -> Option<Option<T>>,
+) -> [usize; 2] {
+    let mut random = Random::new(seed);
     let [mut found, mut none] = [0, 0];
-    for _ in 0..600 {
+    for _ in 0..books {
         let draft = draft(&mut random, Size::Tiny);
         let book = reading::read(&draft.bytes()).expect("the draft is sound");
-        for rule in 0..book.rules.len() {
-            if idle::choices(&book, rule) > 2_000 {
-                continue;
-            }
-            let naive = idle::naive(&book, rule);
+        let few = |&rule: &usize| idle::choices(&book, rule) <= 2_000;
+        for rule in (0..book.rules.len()).filter(few) {
+            let naive = naive(&book, rule);
             found += usize::from(naive.is_some());
             none += usize::from(naive.is_none());
-            assert_eq!(idle::within(&book, rule, u64::MAX), Some(naive));
+            assert_eq!(within(&book, rule, u64::MAX), Some(naive));
         }
     }
-    assert!(found > 100 && none > 100, "{found} needed, {none} idle");
+    [found, none]
 }
 
 #[test]
+fn idle_naive_and_pruned() {
+    let [needed, idle] = compared(12, 600, idle::naive, idle::within);
+    assert!(needed > 100 && idle > 100, "{needed} needed, {idle} idle");
+}
+
+/// A rule has as many choices of operations here as it has choices for Idle.
+#[test]
 fn blocked_naive_and_pruned() {
-    let mut random = Random::new(14);
-    let [mut closed, mut open] = [0, 0];
-    for _ in 0..1_000 {
-        let draft = draft(&mut random, Size::Tiny);
-        let book = reading::read(&draft.bytes()).expect("the draft is sound");
-        for rule in 0..book.rules.len() {
-            // As many choices of operations as Idle has choices.
-            if idle::choices(&book, rule) > 2_000 {
-                continue;
-            }
-            let naive = blocked::naive(&book, rule);
-            closed += usize::from(naive.is_some());
-            open += usize::from(naive.is_none());
-            assert_eq!(blocked::within(&book, rule, u64::MAX), Some(naive));
-        }
-    }
+    let [closed, open] = compared(14, 1_000, blocked::naive, blocked::within);
     assert!(closed > 100 && open > 100, "{closed} closed, {open} open");
 }
 
@@ -158,14 +156,16 @@ fn opening(draft: &books::Draft) -> Vec<Vec<u8>> {
     found
 }
 
-/// In the books that are hard to open one choice does, the last or the first of 25 pairs.
+/// In the books that are hard to open one choice does, the last or the first of 25 pairs; in that of eight
+/// classes two do.
 #[test]
 fn hardly_anything_opens() {
     for (name, draft, _) in books::blocked::hard() {
         let wanted = match name.as_str() {
-            "pairs in turn" => [15, 11, 11],
-            _ => [15, 15, 15],
+            "pairs in turn" => vec![[15, 11, 11]],
+            "eight classes" => vec![[15, 15, 14], [15, 15, 15]],
+            _ => vec![[15, 15, 15]],
         };
-        assert_eq!(opening(&draft), [wanted], "{name}");
+        assert_eq!(opening(&draft), wanted, "{name}");
     }
 }

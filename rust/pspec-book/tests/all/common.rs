@@ -1,6 +1,6 @@
 //! Files of the repository, and books of texts.
 
-use pspec::Book;
+use pspec::{Book, Broken, Plan, Verdict};
 use pspec_book::contents::Contents;
 use pspec_book::named::NamedBook;
 use pspec_book::names::Names;
@@ -41,4 +41,12 @@ pub fn numbered(bytes: Vec<u8>) -> NamedBook {
     let book = Book::new(bytes).expect("it is sound");
     let names = Names::numbered(&Contents::of(&book));
     NamedBook::new(book, names)
+}
+
+/// The rules that a user and a sound plan break.
+pub fn broken(book: &Book, user: u32, plan: &Plan) -> Broken {
+    match book.judge(user, plan) {
+        Verdict::Judged(broken) => broken,
+        Verdict::Refused(refusal) => panic!("{refusal}"),
+    }
 }

@@ -1,6 +1,6 @@
 //! `docs/FORMAT.md`: its bytes and answers are those of the engine.
 
-use crate::common::{file, text};
+use crate::common::{broken, file, text};
 use pspec::{Book, Plan, Refusal, BLOCK};
 
 fn small_shop() -> Vec<u8> {
@@ -57,7 +57,7 @@ fn the_plans_are_judged_so() {
     for row in cells(plans).filter(|row| row.len() == 4 && row[3] != "User 2") {
         let plan = Plan::new(hexadecimal(&row[1]));
         for (user, said) in [(1, &row[2]), (2, &row[3])] {
-            let broken = book.judge(user, &plan).broken().expect("it is a plan");
+            let broken = broken(&book, user, &plan);
             let rules: Vec<String> = broken.rules().map(|r| r.to_string()).collect();
             let wanted = if rules.is_empty() {
                 "none".to_string()

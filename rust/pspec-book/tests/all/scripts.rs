@@ -111,6 +111,12 @@ fn what_is_no_book() {
     complains("tools", "tools: found a folder; expected a book\n");
     let (status, _, _) = run(&folder, &["report.sh", "a", "b"]);
     assert_eq!(status, 2);
+    let small = "crates/policyreport/data/small.book";
+    fs::remove_file(folder.join(small)).expect("it was there");
+    let (status, answer, complaint) = run(&folder, &["report.sh"]);
+    assert_eq!((status, answer.as_str()), (2, ""));
+    let missing = format!("{small}: there is no such file, or it can't be read\n");
+    assert!(complaint.ends_with(&missing), "{complaint}");
 }
 
 #[test]

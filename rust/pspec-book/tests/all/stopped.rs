@@ -1,6 +1,6 @@
 //! What breaks a rule, against the engine on random books and plans.
 
-use crate::common::numbered;
+use crate::common::{broken, numbered};
 use books::valid::{self, Size};
 use books::{plans, Random};
 use pspec::{Access, Plan};
@@ -68,20 +68,18 @@ fn what_is_found_breaks_the_rule() {
         let accesses = named.book.flows(&plan.plan).expect("it is a plan");
         let accesses: Vec<Access> = accesses.iter().collect();
         for user in leaves(&named.contents.users, 0, &[]) {
-            let judged = named.book.judge(user.into(), &plan.plan).broken();
-            let judged = judged.expect("it is a plan");
+            let judged = broken(&named.book, user.into(), &plan.plan);
             for (r, rule) in named.contents.rules.iter().enumerate() {
                 let covered = leaves(&named.contents.users, rule.user, &rule.excluded);
                 let found = breaking(rule, &named.contents, &accesses);
                 let found_all = found.iter().all(|of| !of.is_empty());
-                let broken = judged.contains(r as u32);
-                assert_eq!(broken, found_all && covered.contains(&user));
-                if let (true, Some(plan)) = (broken, plan_of(&found.concat(), &named)) {
-                    let again_judged = named.book.judge(user.into(), &plan).broken();
-                    assert!(again_judged.expect("it is a plan").contains(r as u32));
+                let breaks = judged.contains(r as u32);
+                assert_eq!(breaks, found_all && covered.contains(&user));
+                if let (true, Some(plan)) = (breaks, plan_of(&found.concat(), &named)) {
+                    assert!(broken(&named.book, user.into(), &plan).contains(r as u32));
                     again += 1;
                 }
-                broken_rules += usize::from(broken);
+                broken_rules += usize::from(breaks);
             }
         }
     }
