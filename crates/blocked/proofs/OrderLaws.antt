@@ -70,21 +70,27 @@ module _ (t : List ℕ) (q : ℕ) where
 
         go : (v : ℕ) → v < 6 → meets t q (thirdAt v) x ≡ true → closesIn v ≡ true → (one || (two || three)) ≡ true
         go zero l m h =
-            or-left one (two || three) (and-true (meets t q 0 x) (closesIn 0 || closesIn 1) m (or-left (closesIn 0) (closesIn 1) h))
+            or-left one (two || three)
+            (and-true (meets t q 0 x) (closesIn 0 || closesIn 1) m (or-left (closesIn 0) (closesIn 1) h))
         go (suc zero) l m h =
-            or-left one (two || three) (and-true (meets t q 0 x) (closesIn 0 || closesIn 1) m (or-right (closesIn 0) (closesIn 1) h))
+            or-left one (two || three)
+            (and-true (meets t q 0 x) (closesIn 0 || closesIn 1) m (or-right (closesIn 0) (closesIn 1) h))
         go (suc (suc zero)) l m h =
             or-right one (two || three)
-            (or-left two three (and-true (meets t q 1 x) (closesIn 3 || closesIn 2) m (or-right (closesIn 3) (closesIn 2) h)))
+            (or-left two three
+            (and-true (meets t q 1 x) (closesIn 3 || closesIn 2) m (or-right (closesIn 3) (closesIn 2) h)))
         go (suc (suc (suc zero))) l m h =
             or-right one (two || three)
-            (or-left two three (and-true (meets t q 1 x) (closesIn 3 || closesIn 2) m (or-left (closesIn 3) (closesIn 2) h)))
+            (or-left two three
+            (and-true (meets t q 1 x) (closesIn 3 || closesIn 2) m (or-left (closesIn 3) (closesIn 2) h)))
         go (suc (suc (suc (suc zero)))) l m h =
             or-right one (two || three)
-            (or-right two three (and-true (meets t q 2 x) (closesIn 4 || closesIn 5) m (or-left (closesIn 4) (closesIn 5) h)))
+            (or-right two three
+            (and-true (meets t q 2 x) (closesIn 4 || closesIn 5) m (or-left (closesIn 4) (closesIn 5) h)))
         go (suc (suc (suc (suc (suc zero))))) l m h =
             or-right one (two || three)
-            (or-right two three (and-true (meets t q 2 x) (closesIn 4 || closesIn 5) m (or-right (closesIn 4) (closesIn 5) h)))
+            (or-right two three
+            (and-true (meets t q 2 x) (closesIn 4 || closesIn 5) m (or-right (closesIn 4) (closesIn 5) h)))
         go (suc (suc (suc (suc (suc (suc v)))))) l m h = absurd (omega arith)
 
     closes-order : closes t q a y x ≡ true → (v : ℕ) × (v < 6) × (meets t q (thirdAt v) x ≡ true) × (closesIn v ≡ true)
@@ -114,7 +120,8 @@ module _ (t : List ℕ) (q : ℕ) where
             → (w : ℕ) × (w < 6) × (meets t q (thirdAt w) x ≡ true) × (closesIn w ≡ true)
         pick i u v lu lv eu ev g =
             let p = and-both (meets t q i x) (closesIn u || closesIn v) g in
-            ⊎-elim (λ (c : closesIn u ≡ true). (u, lu, rw eu (p .0), c)) (λ (c : closesIn v ≡ true). (v, lv, rw ev (p .0), c))
+            ⊎-elim (λ (c : closesIn u ≡ true). (u, lu, rw eu (p .0), c))
+            (λ (c : closesIn v ≡ true). (v, lv, rw ev (p .0), c))
             (or-either (closesIn u) (closesIn v) (p .1))
 
     -- where the rule is not broken, what meets in some order is accepted in it
@@ -152,7 +159,8 @@ module _ (t : List ℕ) (q : ℕ) where
         and-both (meets t q (firstAt v) a)
         (meets t q (secondAt v) y && not (acceptedAt t q (thirdAt v) (firstAt v) (secondAt v) a y x)) (w .3) in
         let two =
-        and-both (meets t q (secondAt v) y) (not (acceptedAt t q (thirdAt v) (firstAt v) (secondAt v) a y x)) (one .1) in
+        and-both (meets t q (secondAt v) y) (not (acceptedAt t q (thirdAt v) (firstAt v) (secondAt v) a y x))
+        (one .1) in
         both (each v (w .1) (w .2) (one .0) (two .0))
         (not-true (acceptedAt t q (thirdAt v) (firstAt v) (secondAt v) a y x) (two .1)))
 
