@@ -70,15 +70,19 @@ module _ (t : List ℕ) (s : Scope) (l m : ℕ) where
   open-third rules cell e free =
       record { open-before = λ w low cells. free w cells; shut = λ below. absurd (omega arith) }
 
-  -- rules that are all in one of the sets
+  -- rules that are all in a set, or in one of the sets
+  pub within-open :
+      (rules wide : ℕ) → Within (has rules) (has wide) → RowOpen t (has wide) s l m → RowOpen t (has rules) s l m
+  within-open rules wide within free w cells =
+      opens-fewer t s (has rules) (has wide) (λ q k h. within q h) l m w (free w cells)
+
   pub settled-open :
       (sets : List ℕ) (i rules : ℕ)
       → i < 33
       → Within (has rules) (has (getD sets i 0))
       → AllOpen t s l m sets
       → RowOpen t (has rules) s l m
-  settled-open sets i rules small within free w cells =
-      opens-fewer t s (has rules) (has (getD sets i 0)) (λ q k h. within q h) l m w (free i small w cells)
+  settled-open sets i rules small within free = within-open rules (getD sets i 0) within (free i small)
 
   -- one set changed, if it is there
   pub sets-set :

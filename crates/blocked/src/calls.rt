@@ -1,6 +1,7 @@
 // Blocked: whether a rule has data that no operation can open, or the first user and association.
 use crate::Blocking;
 use crate::RULE_FORBIDS;
+use crate::pairs::MET_WORDS;
 use crate::pairs::fill_met;
 use crate::searching::Scope;
 use crate::users::Denied;
@@ -63,7 +64,7 @@ fn denied(book: &[u8], head: &[u64], rule: u8) -> Denied
     let seconds = candidates(&t, rule, references, had, 1);
     let thirds = candidates(&t, rule, references, had, 2);
     let covered = covered_by(book, head, n);
-    let mut met = [0u64; 396];
+    let mut met = [0u64; MET_WORDS];
     fill_met(&mut met, &t);
     let scope = Scope {
         firsts,

@@ -168,6 +168,18 @@ fn settled(sets: [u64; 33], rules: u64) -> bool
     false
 }
 
+// Whether the rules of every user are in a set. Only `true` is promised, as above.
+fn all_settled(own: [u64; 32], all: u64, set: u64) -> bool
+    ensures { λ r. ⌜ (r ≡ true → (u : ℕ) → u < 32 → Within (has (bitAnd all (getD own u 0))) (has set)) ⌝ }
+{
+    for u in 0..32usize {
+        if all & own[u] & !set != 0 {
+            return false;
+        }
+    }
+    true
+}
+
 // The sets that leave a row open, with one user's rules: in the set of another user that was tried with
 // the same rules, if the row stays open; otherwise alone.
 fn with_rules(
@@ -263,6 +275,9 @@ fn denied_in(
     let mut sets = [0u64; 33];
     sets[32] = every.rules;
     let mut asking = open_row(sets, every.hint);
+    if all_settled(own, all, every.rules) {
+        return in_row(before.user, asking);
+    }
     for u in 0..32u8 {
         if before.user <= u {
             break;
@@ -281,6 +296,9 @@ fn denied_in(
 // parted as the row parted it.
 fn parted(own: [u64; 32], joined: [u64; 33], opened: [u64; 33]) -> [u64; 33] {
     let mut next = joined;
+    if opened[32] != 0 {
+        return next;
+    }
     for i in 0..1024usize {
         let u = i / 32;
         let d = i % 32;

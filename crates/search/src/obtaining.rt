@@ -54,20 +54,23 @@ pub fn four(a: u64, b: u64, c: u64, d: u64) -> u64
     a % 65536 + 65536 * (b % 65536) + 4294967296 * (c % 65536) + 281474976710656 * (d % 65536)
 }
 
-// The set of the accesses that can be had, bit p % 64 of word p / 64 for the one at place p.
+// The set of the accesses that can be had, bit p % 64 of word p / 64 for the one at place p. Both
+// actions have the same words.
 pub fn obtainable(head: &[u8]) -> [u64; 32]
     ensures { λ r. ⌜ HadHolds (now (head .entry)) r ⌝ }
 {
     let labels = labels_of(head);
     let operations = operations_of(head);
     let mut had = [0u64; 32];
-    for w in 0..32usize {
-        let d = (w % 16 * 4) as u8;
+    for w in 0..16usize {
+        let d = (4 * w) as u8;
         let a = operations_for(head, labels, operations, d);
         let b = operations_for(head, labels, operations, d + 1);
         let c = operations_for(head, labels, operations, d + 2);
         let e = operations_for(head, labels, operations, d + 3);
-        had[w] = four(a, b, c, e);
+        let word = four(a, b, c, e);
+        had[w] = word;
+        had[16 + w] = word;
     }
     had
 }

@@ -9,10 +9,6 @@ use Rattle.blocked.proofs.UserLaws.{rows-absent, rows-skip}
 use borrow.Author.Needs.{needs}
 use Rattle.blocked.proofs.users.asked_beside.Statement.{statement}
 use Rattle.blocked.proofs.users.asked_beside.Tie as tie
-use Rattle.blocked.proofs.users.asked_beside.Reads as reads
-use Rattle.blocked.proofs.users.asked_beside.Lts as lts
-use Rattle.blocked.proofs.cells.has_cell.Reads as has-cell-reads
-use Rattle.blocked.proofs.users.asked_row.Reads as asked-row-reads
 
 abbrev Inv-loop : tie.InvT-loop
 Inv-loop t met all scope own l seconds asked₀ m₀ asked m =

@@ -7,11 +7,6 @@ use Rattle.blocked.proofs.UserLaws.{denied-nobody, denied-user, rows-no
 use borrow.Author.Needs.{needs}
 use Rattle.blocked.proofs.users.first_denied.Statement.{statement}
 use Rattle.blocked.proofs.users.first_denied.Tie as tie
-use Rattle.blocked.proofs.users.first_denied.Reads as reads
-use Rattle.blocked.proofs.users.first_denied.Lts as lts
-use Rattle.blocked.proofs.users.asked_beside.Reads as asked-beside-reads
-use Rattle.blocked.proofs.users.joint.Reads as joint-reads
-use Rattle.blocked.proofs.users.own_rules.Reads as own-rules-reads
 
 abbrev Inv-loop : tie.InvT-loop
 Inv-loop t met all r scope own asked₀ l₀ asked l =

@@ -3,8 +3,6 @@ use Prim.Native.Nat.{_-_, _≤_}
 use borrow.Author.Needs.{needs}
 use Rattle.blocked.proofs.users.joint.Statement.{statement}
 use Rattle.blocked.proofs.users.joint.Tie as tie
-use Rattle.blocked.proofs.users.joint.Reads as reads
-use Rattle.blocked.proofs.users.joint.Lts as lts
 
 abbrev Inv-loop : tie.InvT-loop
 Inv-loop own found₀ u₀ found u = u ≤ 32

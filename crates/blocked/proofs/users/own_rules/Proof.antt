@@ -11,9 +11,6 @@ use Rattle.blocked.specs.Inner.Users.{coveringRules}
 use borrow.Author.Needs.{needs}
 use Rattle.blocked.proofs.users.own_rules.Statement.{statement}
 use Rattle.blocked.proofs.users.own_rules.Tie as tie
-use Rattle.blocked.proofs.users.own_rules.Reads as reads
-use Rattle.blocked.proofs.users.own_rules.Lts as lts
-use Rattle.blocked.proofs.users.rules_for.Reads as rules-for-reads
 
 abbrev Inv-loop : tie.InvT-loop
 Inv-loop covered r own₀ u₀ own u =

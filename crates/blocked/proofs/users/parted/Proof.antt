@@ -5,8 +5,6 @@ use lib.ListN.{length}
 use borrow.Author.Needs.{needs}
 use Rattle.blocked.proofs.users.parted.Statement.{statement}
 use Rattle.blocked.proofs.users.parted.Tie as tie
-use Rattle.blocked.proofs.users.parted.Reads as reads
-use Rattle.blocked.proofs.users.parted.Lts as lts
 
 abbrev Inv-loop : tie.InvT-loop
 Inv-loop own joined opened next₀ i₀ next i = (i ≤ 1024) × (length next ≡ 33)
@@ -20,6 +18,8 @@ parted-spec =
     (tie.spec
     Inv-loop
     μ-loop
+    (λ c. search needs)
+    (λ c. search needs)
     (λ c. search needs)
     (λ c. search needs)
     (λ c. search needs)

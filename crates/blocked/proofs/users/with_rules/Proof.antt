@@ -8,9 +8,6 @@ use Rattle.blocked.proofs.UserLaws.{sets-set}
 use borrow.Author.Needs.{needs}
 use Rattle.blocked.proofs.users.with_rules.Statement.{statement}
 use Rattle.blocked.proofs.users.with_rules.Tie as tie
-use Rattle.blocked.proofs.users.with_rules.Reads as reads
-use Rattle.blocked.proofs.users.with_rules.Lts as lts
-use Rattle.blocked.proofs.users.open_under.Reads as open-under-reads
 
 abbrev Inv-loop : tie.InvT-loop
 Inv-loop t met all scope l m at rules hint joined sets₀ own d₀ sets d =
