@@ -24,7 +24,7 @@ use Rattle.search.specs.Inner.Table.{meets, takesAt, meetsReference, tak
 use Rattle.search.specs.Inner.Table.{inFour, FittingWord, FittingWords, ReferenceWords, RestrictionWord}
 use Rattle.search.specs.Inner.Table.{RuleWord, RuleWords, LeafSets}
 use Rattle.search.proofs.PlaceLaws.{has-shift}
-use Rattle.search.proofs.Fours.{four-tests}
+use Rattle.search.proofs.Fours.{four-masks, four-tests}
 
 -- Words
 
@@ -45,22 +45,42 @@ spread-bit x k l = leaf-mask (eqb (x % 2) 1) (65535 * (x % 2)) k (go (eqb (x % 2
         let none = eqb-false (x % 2) 1 e in
         omega arith
 
+-- the word that the code makes: four bits, each sixteen times
 pub spread-leaves :
-    (leaves word : ℕ)
-    → ((i : ℕ)
+    (leaves i : ℕ)
     → i < 64
-    → has word i
-    ≡ inFour (65535 * (leaves % 2)) (65535 * (leaves / 2 % 2)) (65535 * (leaves / 4 % 2)) (65535 * (leaves / 8 % 2)) i)
-    → (i : ℕ)
-    → i < 64
-    → has word i ≡ has leaves (i / 16)
-spread-leaves leaves word told i l =
+    → has
+    (65535
+    * (leaves % 2 + 65536 * (leaves / 2 % 2) + 4294967296 * (leaves / 4 % 2) + 281474976710656 * (leaves / 8 % 2)))
+    i
+    ≡ has leaves (i / 16)
+spread-leaves leaves i l =
     let z : 0 + i / 16 ≡ i / 16 = omega arith in
     rw z at
     (four-tests (λ j k. has leaves j) 0 (65535 * (leaves % 2)) (65535 * (leaves / 2 % 2)) (65535 * (leaves / 4 % 2))
-    (65535 * (leaves / 8 % 2)) word (spread-bit leaves) (λ k s. spread-bit (leaves / 2) k s ∙ has-shift leaves 1 0)
+    (65535 * (leaves / 8 % 2))
+    (65535
+    * (leaves % 2 + 65536 * (leaves / 2 % 2) + 4294967296 * (leaves / 4 % 2) + 281474976710656 * (leaves / 8 % 2)))
+    (spread-bit leaves) (λ k s. spread-bit (leaves / 2) k s ∙ has-shift leaves 1 0)
     (λ k s. spread-bit (leaves / 4) k s ∙ has-shift leaves 2 0)
-    (λ k s. spread-bit (leaves / 8) k s ∙ has-shift leaves 3 0) i l (told i l))
+    (λ k s. spread-bit (leaves / 8) k s ∙ has-shift leaves 3 0) i l
+    (ap (λ (w : ℕ). has w i)
+    (same (leaves % 2) (leaves / 2 % 2) (leaves / 4 % 2) (leaves / 8 % 2) (omega arith) (omega arith) (omega arith)
+    (omega arith))
+    ∙ four-masks (65535 * (leaves % 2)) (65535 * (leaves / 2 % 2)) (65535 * (leaves / 4 % 2)) (65535 * (leaves / 8 % 2)) i l))
+  where
+    same :
+        (a b c d : ℕ)
+        → a < 2
+        → b < 2
+        → c < 2
+        → d < 2
+        → 65535 * (a + 65536 * b + 4294967296 * c + 281474976710656 * d)
+        ≡ 65535 * a % 65536
+        + 65536 * (65535 * b % 65536)
+        + 4294967296 * (65535 * c % 65536)
+        + 281474976710656 * (65535 * d % 65536)
+    same a b c d la lb lc ld = omega arith
 
 -- every place meets an absent reference
 pub all-ones : (i : ℕ) → i < 64 → has 18446744073709551615 i ≡ true

@@ -26,12 +26,11 @@ ghost use Rattle.search.specs.Inner.Table.{TableHolds, CoveredWord, Cove
 pub fn spread(leaves: u64) -> u64
     ensures { λ r. ⌜ ((i : ℕ) → i < 64 → has r i ≡ has leaves (i / 16)) ⌝ }
 {
-    four(
-        65535 * (leaves % 2),
-        65535 * (leaves / 2 % 2),
-        65535 * (leaves / 4 % 2),
-        65535 * (leaves / 8 % 2),
-    )
+    let marks = leaves % 2
+        + 65536 * (leaves / 2 % 2)
+        + 4294967296 * (leaves / 4 % 2)
+        + 281474976710656 * (leaves / 8 % 2);
+    65535 * marks
 }
 
 // The words of the places of some leaves under an action, with every operation.

@@ -1,11 +1,11 @@
--- One mask for each of the four leaves (`spread-leaves`). Assumes nothing.
+-- Four bits, each sixteen times (`spread-leaves`). Assumes nothing.
 use Rattle.search.proofs.RuleWords.{spread-leaves}
 use borrow.Author.Needs.{needs}
 use Rattle.search.proofs.tables.spread.Statement.{statement}
 use Rattle.search.proofs.tables.spread.Tie as tie
 
 returns : tie.Need-returns
-returns c = spread-leaves (c .before .args .leaves) (c .four .result) (c .four .ensures)
+returns c i l = spread-leaves (c .args .leaves) i l
 
 pub spread-spec : {M : Type 1} → statement M
 spread-spec =
@@ -15,5 +15,7 @@ spread-spec =
     (λ c. search needs)
     (λ c. search needs)
     (λ c. search needs)
-    (λ c κs. search needs)
+    (λ c. search needs)
+    (λ c. search needs)
+    (λ c. search needs)
     returns)
