@@ -27,6 +27,41 @@ implies : (a c : Bool) → (a ≡ true → c ≡ true) → (not a || c) ≡ true
 implies true c h = h refl
 implies false c h = refl
 
+-- Four words
+
+-- four words as one
+abbrev pub joined : List ℕ → ℕ
+joined rest = bitOr (bitOr (bitOr (getD rest 0 0) (getD rest 1 0)) (getD rest 2 0)) (getD rest 3 0)
+
+-- a member of the four words is in one of them
+from-joined :
+    (rest : List ℕ) (b : ℕ) → has (joined rest) b ≡ true → (w : ℕ) × (w < 4) × (has (getD rest w 0) b ≡ true)
+from-joined rest b h =
+    ⊎-elim
+    (λ left.
+    ⊎-elim
+    (λ low.
+    ⊎-elim (λ e. (0, omega arith, e)) (λ e. (1, omega arith, e))
+    (or-either (has (getD rest 0 0) b) (has (getD rest 1 0) b)
+    (sym (has-or (getD rest 0 0) (getD rest 1 0) b) ∙ low)))
+    (λ e. (2, omega arith, e))
+    (or-either (has two b) (has (getD rest 2 0) b) (sym (has-or two (getD rest 2 0) b) ∙ left)))
+    (λ e. (3, omega arith, e))
+    (or-either (has three b) (has (getD rest 3 0) b) (sym (has-or three (getD rest 3 0) b) ∙ h))
+  where
+    two : ℕ
+    two = bitOr (getD rest 0 0) (getD rest 1 0)
+
+    three : ℕ
+    three = bitOr two (getD rest 2 0)
+
+to-joined : (rest : List ℕ) (b w : ℕ) → w < 4 → has (getD rest w 0) b ≡ true → has (joined rest) b ≡ true
+to-joined rest b zero l h = rw (has-or, has-or, has-or, h)
+to-joined rest b (suc zero) l h = rw (has-or, has-or, has-or, h, or-true)
+to-joined rest b (suc (suc zero)) l h = rw (has-or, has-or, h, or-true)
+to-joined rest b (suc (suc (suc zero))) l h = rw (has-or, h, or-true)
+to-joined rest b (suc (suc (suc (suc w)))) l h = absurd (omega arith)
+
 -- The loop over rules
 
 -- the word of rule q in order v
@@ -187,6 +222,23 @@ module _ (s : List ℕ) (v rules : ℕ) where
           (rw (without j, ne-eqb j q (eqb-false j q e), and-false, and-end) at d)
           (and-left (has (getD rest w 0) b) (has (sliceAt s v q w) b) k)
 
+  -- what every rule of the set accepts is left
+  narrowing-left :
+      (before rest : List ℕ) (waiting w b : ℕ)
+      → w < 4
+      → Narrowing s v rules before rest waiting
+      → (has (getD before w 0) b && all (λ q. not (has rules q) || has (sliceAt s v q w) b) (upTo 32)) ≡ true
+      → has (getD rest w 0) b ≡ true
+  narrowing-left before rest waiting w b l old h =
+      old .stays w b l
+      (and-left (has (getD before w 0) b) (all (λ q. not (has rules q) || has (sliceAt s v q w) b) (upTo 32)) h)
+      (λ q k r d.
+      or-holds (has rules q) (has (sliceAt s v q w) b)
+      (all-at (λ q. not (has rules q) || has (sliceAt s v q w) b) 32
+      (and-right (has (getD before w 0) b) (all (λ q. not (has rules q) || has (sliceAt s v q w) b) (upTo 32)) h) q
+      k)
+      r)
+
   -- none waits any more
   pub narrowing-end :
       (before rest : List ℕ) (waiting : ℕ)
@@ -201,18 +253,22 @@ module _ (s : List ℕ) (v rules : ℕ) where
       (old .within w b l h)
       (at-all (λ q. not (has rules q) || has (sliceAt s v q w) b) 32
       (λ q k. implies (has rules q) (has (sliceAt s v q w) b) (λ r. old .passed w b q l k r (idle q) h))))
-      (λ h.
-      old .stays w b l
-      (and-left (has (getD before w 0) b) (all (λ q. not (has rules q) || has (sliceAt s v q w) b) (upTo 32)) h)
-      (λ q k r d.
-      or-holds (has rules q) (has (sliceAt s v q w) b)
-      (all-at (λ q. not (has rules q) || has (sliceAt s v q w) b) 32
-      (and-right (has (getD before w 0) b) (all (λ q. not (has rules q) || has (sliceAt s v q w) b) (upTo 32)) h) q
-      k)
-      r))
+      (narrowing-left before rest waiting w b l old)
     where
       idle : (q : ℕ) → has waiting q ≡ false
       idle q = rw z (has-zero q)
+
+  -- or nothing is left
+  pub narrowing-empty :
+      (before rest : List ℕ) (waiting : ℕ)
+      → joined rest ≡ 0
+      → Narrowing s v rules before rest waiting
+      → Narrowed s v rules before rest
+  narrowing-empty before rest waiting none old w b l m =
+      same-test (has (getD rest w 0) b)
+      (has (getD before w 0) b && all (λ q. not (has rules q) || has (sliceAt s v q w) b) (upTo 32))
+      (λ h. both (to-joined rest b w l h) (ap (λ (x : ℕ). has x b) none ∙ has-zero b))
+      (narrowing-left before rest waiting w b l old)
 
 -- The loop over orders
 
@@ -357,39 +413,6 @@ same-four x b = go (ltb b 16) (ltb b 32) (ltb b 48)
     go false true r = refl
     go false false true = refl
     go false false false = refl
-
--- four words as one
-abbrev pub joined : List ℕ → ℕ
-joined rest = bitOr (bitOr (bitOr (getD rest 0 0) (getD rest 1 0)) (getD rest 2 0)) (getD rest 3 0)
-
--- a member of the four words is in one of them
-from-joined :
-    (rest : List ℕ) (b : ℕ) → has (joined rest) b ≡ true → (w : ℕ) × (w < 4) × (has (getD rest w 0) b ≡ true)
-from-joined rest b h =
-    ⊎-elim
-    (λ left.
-    ⊎-elim
-    (λ low.
-    ⊎-elim (λ e. (0, omega arith, e)) (λ e. (1, omega arith, e))
-    (or-either (has (getD rest 0 0) b) (has (getD rest 1 0) b)
-    (sym (has-or (getD rest 0 0) (getD rest 1 0) b) ∙ low)))
-    (λ e. (2, omega arith, e))
-    (or-either (has two b) (has (getD rest 2 0) b) (sym (has-or two (getD rest 2 0) b) ∙ left)))
-    (λ e. (3, omega arith, e))
-    (or-either (has three b) (has (getD rest 3 0) b) (sym (has-or three (getD rest 3 0) b) ∙ h))
-  where
-    two : ℕ
-    two = bitOr (getD rest 0 0) (getD rest 1 0)
-
-    three : ℕ
-    three = bitOr two (getD rest 2 0)
-
-to-joined : (rest : List ℕ) (b w : ℕ) → w < 4 → has (getD rest w 0) b ≡ true → has (joined rest) b ≡ true
-to-joined rest b zero l h = rw (has-or, has-or, has-or, h)
-to-joined rest b (suc zero) l h = rw (has-or, has-or, has-or, h, or-true)
-to-joined rest b (suc (suc zero)) l h = rw (has-or, has-or, h, or-true)
-to-joined rest b (suc (suc (suc zero))) l h = rw (has-or, h, or-true)
-to-joined rest b (suc (suc (suc (suc w)))) l h = absurd (omega arith)
 
 module _
     (s met masks pairs rest : List ℕ)

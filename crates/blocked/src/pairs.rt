@@ -122,7 +122,7 @@ pub fn fill_slices(s: &mut [u64], t: &[u64], masks: [u64; 6], a: usize)
     }
 }
 
-// Pairs less what a rule that waits does not accept in order v.
+// Pairs less what a rule that waits does not accept in order v. It ends where none is left.
 fn narrowed(s: &[u64], v: usize, rules: u64, pairs: [u64; 4]) -> [u64; 4]
     ensures { λ r. ⌜ (v < 6 → Narrowed (now (s .entry)) v rules pairs r) ⌝ }
 {
@@ -136,6 +136,9 @@ fn narrowed(s: &[u64], v: usize, rules: u64, pairs: [u64; 4]) -> [u64; 4]
         rest[1] = rest[1] & word_at(s, at + 1);
         rest[2] = rest[2] & word_at(s, at + 2);
         rest[3] = rest[3] & word_at(s, at + 3);
+        if (rest[0] | rest[1] | rest[2] | rest[3]) == 0 {
+            return rest;
+        }
     }
     rest
 }

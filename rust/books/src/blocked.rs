@@ -42,10 +42,10 @@ pub fn hard() -> Vec<(String, Draft, Found)> {
         ("opposed at both ends", opposed_at_both_ends()),
         ("opposed everywhere", opposed_everywhere()),
         ("eight classes", eight_classes()),
+        ("users apart", users_apart()),
     ] {
         all.push((name.to_string(), draft, Found::Open));
     }
-    for (c,p) in [(8,20),(10,20),(12,19),(15,16),(15,10),(15,6)] { all.push((format!("users apart {c} {p}"), users_apart(c,p), Found::Open)); }
     all
 }
 
@@ -198,11 +198,13 @@ fn eight_classes() -> Draft {
     divided(users, pairs.collect(), opposed, 8)
 }
 
-/// So many users have a rule of their own that asks for another operation of the third reference
-/// everywhere, so that no two of them can be tried together. All else are pairs.
-fn users_apart(count: u8, pairs: u16) -> Draft {
-    let opposed = (0..count).map(|i| repeated(third_only(1 + i, vec![], groups(), LAST >> i), 8));
-    let pairs = (0..pairs).map(|i| [LAST >> (i % 15), LAST >> (i / 5)]);
+/// Fifteen users have a rule of their own that asks for another operation of the third reference at every
+/// association, so that no two of them can be tried together. Six pairs, each with a first operation of
+/// its own.
+fn users_apart() -> Draft {
+    let own = |i: u8| third_only(1 + i, vec![], groups(), LAST >> i);
+    let opposed = (0..15).map(|i| repeated(own(i), 8));
+    let pairs = (0..6).map(|i| [LAST >> i, LAST >> (i / 5)]);
     divided(vec![0; 32], pairs.collect(), opposed.collect(), 8)
 }
 
