@@ -5,7 +5,7 @@ use native.Mathlib.Omega.{arith}
 use mathlib.Core.Path.{_≡_, sym, ap, _∙_}
 use mathlib.Core.Bool.{true}
 use mathlib.Core.List.{List, [], _∷_, _++_, append-nil}
-use lib.ListN.{length, getD, take, set, length-append, List·getD-append, drop-of-length-le}
+use lib.ListN.{length, getD, take, set, List·getD-append, drop-of-length-le}
 use lib.Seq.{length-take-le, take-at, getD-at, getD-take, getD-append-add, sets-eq}
 use borrow.Author.Tests.{eq-eqb, ne-eqb}
 use Rattle.book.specs.Blocks.{checkSum, checkHolds}

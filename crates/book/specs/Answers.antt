@@ -1,7 +1,7 @@
 -- What Book check and Seal answer, whole, and a lent block's bytes on leaving. Document 01, "The calls".
 -- Assumes nothing.
-use Prim.Native.Nat.{ℕ, _/_, _%_}
-use mathlib.Core.List.{List, [], _∷_, _++_}
+use Prim.Native.Nat.{_/_, _%_}
+use mathlib.Core.List.{[], _∷_, _++_}
 use lib.ListN.{take}
 use Rattle.book.specs.Blocks.{Book, Block, ruleCount, checkSum}
 use Rattle.book.specs.Tests.{answered}

@@ -21,7 +21,7 @@ use Rattle.verdicts.specs.Inner.Words.{maskTakes}
 use Rattle.verdicts.proofs.Marks.{has-if}
 use Rattle.search.specs.Inner.Places.{accessAt, nowhere}
 use Rattle.search.specs.Inner.Table.{meets, takesAt, meetsReference, takesOperation, TableHolds}
-use Rattle.search.specs.Inner.Table.{inFour, FittingWord, FittingWords, ReferenceWords, RestrictionWord}
+use Rattle.search.specs.Inner.Table.{FittingWord, FittingWords, ReferenceWords, RestrictionWord}
 use Rattle.search.specs.Inner.Table.{RuleWord, RuleWords, LeafSets}
 use Rattle.search.proofs.PlaceLaws.{has-shift}
 use Rattle.search.proofs.Fours.{four-masks, four-tests}

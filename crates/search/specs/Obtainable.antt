@@ -1,7 +1,6 @@
 -- Accesses that can be had. Document 01, "Idle rules", its first sentence. Assumes nothing.
 use Prim.Native.Nat.{ℕ}
 use mathlib.Core.Bool.{Bool, _&&_, _||_}
-use mathlib.Core.List.{List}
 use lib.Dec.{eqb}
 use Rattle.book.specs.Lists.{any, upTo}
 use Rattle.book.specs.Blocks.{Head}

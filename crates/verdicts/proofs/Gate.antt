@@ -9,7 +9,7 @@ use Rattle.book.specs.declared.Tested.{Tested}
 use Rattle.book.specs.declared.Tested.the-variants as tested
 use Rattle.verdicts.specs.Accesses.{accessesOf}
 use Rattle.verdicts.specs.Answers.{judgeTests, judgeAnswer}
-use Rattle.verdicts.specs.Demand.{JudgeAccepted, Demand2, Judges}
+use Rattle.verdicts.specs.Demand.{JudgeAccepted, Demand2}
 use Rattle.verdicts.specs.declared.Judged.the-variants as judged
 use Rattle.verdicts.proofs.JudgeLaws.{judge-accepted, judge-refused}
 use Rattle.verdicts.proofs.DemandLaws.{judge-promises}

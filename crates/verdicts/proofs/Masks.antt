@@ -4,14 +4,14 @@ use Prim.Native.Nat.{ℕ, _+_, _*_, _≤_, _<_}
 use native.Mathlib.Nat.{add-zero}
 use native.Mathlib.Omega.{arith}
 use mathlib.Core.Path.{_≡_, refl, _∙_}
-use mathlib.Core.Bool.{Bool, true, false, _&&_, _||_, cond}
+use mathlib.Core.Bool.{Bool, true, false, _&&_, cond}
 use mathlib.Core.List.{List}
 use lib.ListN.{length, getD, set, replicate}
 use lib.Seq.{getD-set-same, getD-set-other}
 use lib.Dec.{eqb, ltb}
 use lib.Bits.{bitOr}
 use borrow.Author.Tests.{ltb-true, ltb-false, lt-ltb, le-ltb, eqb-true, eqb-false, ne-eqb}
-use Rattle.book.specs.Lists.{any, from, upTo}
+use Rattle.book.specs.Lists.{any, upTo}
 use Rattle.book.specs.Sets.{has}
 use Rattle.book.specs.Rule.{restrictionCount, restrictionMask}
 use Rattle.book.proofs.Lists.{and-end, and-assoc, any-none, any-more, any-from-same, ltb-more, same-test}

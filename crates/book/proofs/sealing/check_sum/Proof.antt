@@ -7,7 +7,7 @@ use lib.ListN.{length, getD, take}
 use borrow.Author.Needs.{needs}
 use Rattle.book.specs.Blocks.{weighted}
 use Rattle.book.proofs.Lists.{part-short}
-use Rattle.book.proofs.Blocks.{weighted-none, weighted-next, weighted-step, weighted-whole}
+use Rattle.book.proofs.Blocks.{weighted-next, weighted-step, weighted-whole}
 use Rattle.book.proofs.sealing.check_sum.Statement.{statement}
 use Rattle.book.proofs.sealing.check_sum.Tie as tie
 

@@ -1,5 +1,4 @@
 -- By cases on the test. Assumes nothing.
-use mathlib.Core.Path.{_∙_}
 use borrow.Author.Needs.{needs}
 use Rattle.book.specs.Tests.{firstFailing}
 use Rattle.book.proofs.testing.test.Statement.{statement}

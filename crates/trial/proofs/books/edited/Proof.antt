@@ -3,9 +3,6 @@ use borrow.Author.Needs.{needs}
 use Prim.Native.Nat.{_-_}
 use Rattle.trial.proofs.books.edited.Statement.{statement}
 use Rattle.trial.proofs.books.edited.Tie as tie
-use Rattle.trial.proofs.books.edited.Reads as reads
-use Rattle.trial.proofs.books.edited.Lts as lts
-use Rattle.trial.proofs.books.change_at.Reads as change-at-reads
 
 abbrev Inv-loop : tie.InvT-loop
 Inv-loop edits space₀ i₀ i-end space i = Unit {0}

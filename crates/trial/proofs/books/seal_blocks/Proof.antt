@@ -5,9 +5,6 @@ use mathlib.Core.Path.{_≡_}
 use lib.ListN.{length}
 use Rattle.trial.proofs.books.seal_blocks.Statement.{statement}
 use Rattle.trial.proofs.books.seal_blocks.Tie as tie
-use Rattle.trial.proofs.books.seal_blocks.Reads as reads
-use Rattle.trial.proofs.books.seal_blocks.Lts as lts
-use Rattle.book.proofs.seal.Reads as seal-reads
 
 abbrev Inv-loop : tie.InvT-loop
 Inv-loop blocks₀ i₀ i-end blocks i = (length blocks ≡ length blocks₀) × (i-end ≤ length blocks / 512)

@@ -5,8 +5,6 @@ use mathlib.Core.Path.{_≡_}
 use lib.ListN.{length}
 use Rattle.trial.proofs.books.with_copies.Statement.{statement}
 use Rattle.trial.proofs.books.with_copies.Tie as tie
-use Rattle.trial.proofs.books.with_copies.Reads as reads
-use Rattle.trial.proofs.books.with_copies.Lts as lts
 
 abbrev Inv-loop : tie.InvT-loop
 Inv-loop book bytes₀ i₀ bytes i = (length bytes ≡ 18944) × (3584 ≤ i) × (i ≤ 18944)

@@ -3,9 +3,6 @@ use borrow.Author.Needs.{needs}
 use Prim.Native.Nat.{_-_}
 use Rattle.trial.proofs.cases.tally_of.Statement.{statement}
 use Rattle.trial.proofs.cases.tally_of.Tie as tie
-use Rattle.trial.proofs.cases.tally_of.Reads as reads
-use Rattle.trial.proofs.cases.tally_of.Lts as lts
-use Rattle.trial.proofs.cases.line_at.Reads as line-at-reads
 
 abbrev Inv-loop : tie.InvT-loop
 Inv-loop call file tally₀ i₀ i-end tally i = Unit {0}

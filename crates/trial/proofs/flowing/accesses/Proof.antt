@@ -3,10 +3,6 @@ use borrow.Author.Needs.{needs}
 use Prim.Native.Nat.{_≤_, _-_}
 use Rattle.trial.proofs.flowing.accesses.Statement.{statement}
 use Rattle.trial.proofs.flowing.accesses.Tie as tie
-use Rattle.trial.proofs.flowing.accesses.Reads as reads
-use Rattle.trial.proofs.flowing.accesses.Lts as lts
-use Rattle.trial.proofs.answers.say.Reads as say-reads
-use Rattle.trial.proofs.flowing.with_access.Reads as with-access-reads
 
 abbrev Inv-loop : tie.InvT-loop
 Inv-loop words answer₀ n₀ answer n = n ≤ 2048

@@ -3,8 +3,6 @@ use borrow.Author.Needs.{needs}
 use Prim.Native.Nat.{_≤_, _-_}
 use Rattle.trial.proofs.flowing.all_ones.Statement.{statement}
 use Rattle.trial.proofs.flowing.all_ones.Tie as tie
-use Rattle.trial.proofs.flowing.all_ones.Reads as reads
-use Rattle.trial.proofs.flowing.all_ones.Lts as lts
 
 abbrev Inv-loop : tie.InvT-loop
 Inv-loop words ok₀ w₀ ok w = w ≤ 40

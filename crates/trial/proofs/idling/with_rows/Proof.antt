@@ -4,10 +4,6 @@ use Prim.Native.Nat.{_≤_, _-_}
 use lib.ListN.{length}
 use Rattle.trial.proofs.idling.with_rows.Statement.{statement}
 use Rattle.trial.proofs.idling.with_rows.Tie as tie
-use Rattle.trial.proofs.idling.with_rows.Reads as reads
-use Rattle.trial.proofs.idling.with_rows.Lts as lts
-use Rattle.trial.proofs.answers.Answer.either.Reads as either-reads
-use Rattle.trial.proofs.answers.Answer.hex.Reads as hex-reads
 
 abbrev Inv-loop : tie.InvT-loop
 Inv-loop plan answer₀ i₀ t6 t7 i-end answer i = i-end ≤ length plan

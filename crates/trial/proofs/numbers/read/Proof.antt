@@ -4,11 +4,6 @@ use Prim.Native.Nat.{_≤_, _-_}
 use lib.ListN.{length}
 use Rattle.trial.proofs.numbers.read.Statement.{statement}
 use Rattle.trial.proofs.numbers.read.Tie as tie
-use Rattle.trial.proofs.numbers.read.Reads as reads
-use Rattle.trial.proofs.numbers.read.Lts as lts
-use Rattle.trial.proofs.numbers.Numbers.closed.Reads as closed-reads
-use Rattle.trial.proofs.numbers.Numbers.with_byte.Reads as with-byte-reads
-use Rattle.trial.proofs.numbers.zeros.Reads as zeros-reads
 
 abbrev Inv-loop : tie.InvT-loop
 Inv-loop s found₀ i₀ i-end found i = i-end ≤ length s

@@ -3,10 +3,6 @@ use borrow.Author.Needs.{needs}
 use Prim.Native.Nat.{_-_}
 use Rattle.trial.proofs.plans.plan_of.Statement.{statement}
 use Rattle.trial.proofs.plans.plan_of.Tie as tie
-use Rattle.trial.proofs.plans.plan_of.Reads as reads
-use Rattle.trial.proofs.plans.plan_of.Lts as lts
-use Rattle.trial.proofs.plans.with_text_at.Reads as with-text-at-reads
-use Rattle.trial.proofs.spaces.zeros.Reads as zeros-reads
 
 abbrev Inv-loop : tie.InvT-loop
 Inv-loop text plan₀ i₀ i-end plan i = Unit {0}

@@ -4,8 +4,6 @@ use Prim.Native.Nat.{_≤_, _-_}
 use lib.ListN.{length}
 use Rattle.trial.proofs.text.find.Statement.{statement}
 use Rattle.trial.proofs.text.find.Tie as tie
-use Rattle.trial.proofs.text.find.Reads as reads
-use Rattle.trial.proofs.text.find.Lts as lts
 
 abbrev Inv-loop : tie.InvT-loop
 Inv-loop s mark i₀ i-end i = i-end ≤ length s

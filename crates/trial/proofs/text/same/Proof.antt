@@ -3,9 +3,6 @@ use borrow.Author.Needs.{needs}
 use Prim.Native.Nat.{_-_}
 use Rattle.trial.proofs.text.same.Statement.{statement}
 use Rattle.trial.proofs.text.same.Tie as tie
-use Rattle.trial.proofs.text.same.Reads as reads
-use Rattle.trial.proofs.text.same.Lts as lts
-use Rattle.book.proofs.bytes.byte_at.Reads as byte-at-reads
 
 abbrev Inv-loop : tie.InvT-loop
 Inv-loop a b ok₀ i₀ i-end ok i = Unit {0}

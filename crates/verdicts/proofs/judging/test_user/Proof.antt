@@ -1,6 +1,4 @@
 -- The code's test is the definition's (`user-test`). Assumes nothing.
-use mathlib.Core.Path.{_≡_}
-use mathlib.Core.Bool.{Bool}
 use borrow.Author.Needs.{needs}
 use Rattle.verdicts.specs.Answers.{userTests}
 use Rattle.verdicts.proofs.Users.{user-test}

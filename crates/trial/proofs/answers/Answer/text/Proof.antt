@@ -4,9 +4,6 @@ use Prim.Native.Nat.{_≤_, _-_}
 use lib.ListN.{length}
 use Rattle.trial.proofs.answers.Answer.text.Statement.{statement}
 use Rattle.trial.proofs.answers.Answer.text.Tie as tie
-use Rattle.trial.proofs.answers.Answer.text.Reads as reads
-use Rattle.trial.proofs.answers.Answer.text.Lts as lts
-use Rattle.trial.proofs.answers.Answer.byte.Reads as byte-reads
 
 abbrev Inv-loop : tie.InvT-loop
 Inv-loop text answer₀ i₀ i-end answer i = i-end ≤ length text

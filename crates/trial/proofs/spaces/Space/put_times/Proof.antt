@@ -3,11 +3,6 @@ use borrow.Author.Needs.{needs}
 use Prim.Native.Nat.{_-_}
 use Rattle.trial.proofs.spaces.Space.put_times.Statement.{statement}
 use Rattle.trial.proofs.spaces.Space.put_times.Tie as tie
-use Rattle.trial.proofs.spaces.Space.put_times.Reads as reads
-use Rattle.trial.proofs.spaces.Space.put_times.Lts as lts
-use Rattle.std.proofs.num.wrapping_add_u32.Reads as wrapping-add-u32-reads
-use Rattle.std.proofs.num.wrapping_add_usize.Reads as wrapping-add-usize-reads
-use Rattle.trial.proofs.spaces.Space.put.Reads as put-reads
 
 abbrev Inv-loop : tie.InvT-loop
 Inv-loop start stride first step times space₀ at₀ value₀ counter₀ space at value counter = Unit {0}
