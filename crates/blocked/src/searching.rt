@@ -20,6 +20,7 @@ pub struct Third {
     pub hint: u8,
 }
 
+// That of the row of first cell l and second cell m, under some rules.
 pub fn closed_third(
     t: &[u64],
     met: &[u64],

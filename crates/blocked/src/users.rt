@@ -12,6 +12,7 @@ use search::users::covers;
 ghost use mathlib.Core.Path.{_≡_};
 ghost use mathlib.Core.Bool.{true, _&&_};
 ghost use Prim.Native.Nat.{ℕ, _+_, _*_, _≤_, _<_};
+ghost use lib.Bits.{bitAnd};
 ghost use lib.Dec.{ltb};
 ghost use lib.ListN.{getD};
 ghost use Rattle.book.specs.Sets.{has};
@@ -19,7 +20,6 @@ ghost use Rattle.search.specs.Inner.Closing.{Within};
 ghost use Rattle.search.specs.Inner.Search.{coversIn};
 ghost use Rattle.blocked.specs.Inner.Cells.{pastCells};
 ghost use Rattle.blocked.specs.Inner.Pairs.{Ready};
-ghost use lib.Bits.{bitAnd};
 ghost use Rattle.blocked.specs.Inner.Rows.{AllOpen, AskedUser, DeniedIn, RowGiven, RowOpen};
 ghost use Rattle.blocked.specs.Inner.Users.{coveringRules, DeniedFirst, Given, OwnRules, RowsUpTo};
 
@@ -144,6 +144,7 @@ fn open_row(opened: [u64; 33], hint: u8) -> Asking
     }
 }
 
+// What is known of a row, and the user that it was asked for.
 fn in_row(user: u8, asking: Asking) -> InRow
     ensures { λ f. ⌜ (f .user ≡ user) × (f .third ≡ asking .third) ⌝ }
 {
