@@ -116,22 +116,6 @@ module _ (t : List ℕ) (s : Scope) (l m : ℕ) where
       let e : u % 32 ≡ u = omega arith in
       rw e at first
 
-  -- one user more
-  pub users-more :
-      (all : ℕ) (own : List ℕ) (u : ℕ)
-      → ((v : ℕ) → v < u → RowOpen t (ownOf all own v) s l m)
-      → RowOpen t (ownOf all own u) s l m
-      → (v : ℕ)
-      → v < u + 1
-      → RowOpen t (ownOf all own v) s l m
-  users-more all own u old new v k = go (eqb v u) refl
-    where
-      go : (b : Bool) → eqb v u ≡ b → RowOpen t (ownOf all own v) s l m
-      go true e = rw (eqb-true v u e) new
-      go false e =
-          let other = eqb-false v u e in
-          old v (omega arith)
-
 -- Rows in their order
 
 module _ (t : List ℕ) (s : Scope) where

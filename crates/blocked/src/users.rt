@@ -20,8 +20,8 @@ ghost use Rattle.search.specs.Inner.Closing.{Within};
 ghost use Rattle.search.specs.Inner.Search.{coversIn};
 ghost use Rattle.blocked.specs.Inner.Cells.{pastCells};
 ghost use Rattle.blocked.specs.Inner.Pairs.{Ready};
-ghost use Rattle.blocked.specs.Inner.Rows.{AllOpen, AskedUser, DeniedIn, RowGiven, RowOpen};
-ghost use Rattle.blocked.specs.Inner.Users.{coveringRules, DeniedFirst, Given, OwnRules, RowsUpTo};
+ghost use Rattle.blocked.specs.Inner.Rows.{AllOpen, AskedUser, DeniedIn, Given, RowGiven, RowOpen};
+ghost use Rattle.blocked.specs.Inner.Users.{coveringRules, DeniedFirst, OwnRules, RowsUpTo};
 
 // Nobody; or the first user, and the three cells of its first association.
 pub enum Denied {

@@ -34,9 +34,13 @@ pub record ThirdOf (t : List ℕ) (rules : ℕ → Bool) (s : Scope) (l m cell :
   pub open-before : (w : ℕ) → w < cell → CellsOf s l m w → OpensOf t rules s l m w
   pub shut : cell < pastCells → Shut t rules (s .firsts) (s .seconds) (s .thirds) l m cell
 
--- what the search in a row is given: the tables, for all rules
+-- what the search is given: the tables, for all rules
+abbrev pub Given : List ℕ → List ℕ → ℕ → Scope → Type 0
+Given t met all s = Prepared t met (has all) (s .seconds) (s .thirds)
+
+-- and in a row
 pub record RowGiven (t met : List ℕ) (all : ℕ) (s : Scope) (l m : ℕ) : Type 0 where
-  pub prepared : Prepared t met (has all) (s .seconds) (s .thirds)
+  pub prepared : Given t met all s
   pub there : RowThere s l m
 
 -- every one of 33 sets of rules leaves a row open

@@ -9,7 +9,6 @@ use lib.Dec.{ltb}
 use Rattle.book.specs.Sets.{has}
 use Rattle.search.specs.Inner.Search.{coversIn, tripleBefore}
 use Rattle.blocked.specs.Inner.Cells.{Cells, Opens, Shut, pastCells}
-use Rattle.blocked.specs.Inner.Pairs.{Prepared}
 use Rattle.blocked.specs.Inner.Rows.{CellsOf, OpensOf, ownOf}
 use Rattle.blocked.specs.declared.searching.Scope.{Scope}
 use Rattle.blocked.specs.declared.users.Asked.{Asked}
@@ -24,10 +23,6 @@ coveringRules covered u q = coversIn covered q u
 abbrev pub OwnRules : ℕ → List ℕ → List ℕ → Type 0
 OwnRules r covered own =
     (u q : ℕ) → u < 32 → has (getD own u 0) q ≡ (coversIn covered r u && (ltb q 32 && coveringRules covered u q))
-
--- what the search over rows is given: the tables, for all rules
-abbrev pub Given : List ℕ → List ℕ → ℕ → Scope → Type 0
-Given t met all s = Prepared t met (has all) (s .seconds) (s .thirds)
 
 -- a set of rules leaves open the cells that pass a test
 abbrev pub OpenWhere : List ℕ → (ℕ → Bool) → Scope → (ℕ → ℕ → ℕ → Bool) → Type 0

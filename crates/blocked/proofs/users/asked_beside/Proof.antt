@@ -4,7 +4,8 @@ use native.Mathlib.Omega.{arith}
 use mathlib.Core.Path.{_≡_, refl, sym, _∙_}
 use borrow.Author.Tests.{not-true, not-false}
 use Rattle.search.proofs.Sieves.{both}
-use Rattle.blocked.specs.Inner.Users.{Given, RowsUpTo}
+use Rattle.blocked.specs.Inner.Rows.{Given}
+use Rattle.blocked.specs.Inner.Users.{RowsUpTo}
 use Rattle.blocked.proofs.UserLaws.{rows-absent, rows-skip}
 use borrow.Author.Needs.{needs}
 use Rattle.blocked.proofs.users.asked_beside.Statement.{statement}

@@ -4,8 +4,9 @@ use native.Mathlib.Omega.{arith}
 use mathlib.Core.Logic.{⊎-elim}
 use lib.Bits.{bitAnd}
 use lib.ListN.{getD, replicate, getD-replicate}
+use borrow.Author.Count.{below-more}
 use Rattle.blocked.specs.Inner.Rows.{AllOpen, RowGiven, RowOpen, ownOf}
-use Rattle.blocked.proofs.UserLaws.{own-user, sets-none, sets-set, third-open, users-more, within-open}
+use Rattle.blocked.proofs.UserLaws.{own-user, sets-none, sets-set, third-open, within-open}
 use borrow.Author.Needs.{needs}
 use Rattle.blocked.proofs.users.denied_in.Statement.{statement}
 use Rattle.blocked.proofs.users.denied_in.Tie as tie
@@ -86,7 +87,7 @@ loop-again c =
           let old = loop .inv .1 given in
           let told = asked .ensures given (old .0) in (
             told .free,
-            users-more (a .t .now) (a .scope) (a .l) (a .m) (a .all) (a .t5) (loop .u) (old .1)
+            below-more (λ v. RowOpen (a .t .now) (ownOf (a .all) (a .t5) v) (a .scope) (a .l) (a .m)) (loop .u) (old .1)
                 (third-open (a .t .now) (a .scope) (a .l) (a .m) (ownOf (a .all) (a .t5) (loop .u))
                 (asked .result .third) (c .if3 .left)
                 (own-user (a .t .now) (a .scope) (a .l) (a .m) (a .all) (a .t5) (loop .u) (asked .result .third) below

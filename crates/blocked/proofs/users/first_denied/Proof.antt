@@ -2,7 +2,8 @@
 use Prim.Native.Nat.{_*_, _-_, _≤_}
 use native.Mathlib.Omega.{arith}
 use mathlib.Core.Path.{refl}
-use Rattle.blocked.specs.Inner.Users.{Given, RowsUpTo}
+use Rattle.blocked.specs.Inner.Rows.{Given}
+use Rattle.blocked.specs.Inner.Users.{RowsUpTo}
 use Rattle.blocked.proofs.UserLaws.{denied-nobody, denied-user, rows-none}
 use borrow.Author.Needs.{needs}
 use Rattle.blocked.proofs.users.first_denied.Statement.{statement}
