@@ -1,22 +1,26 @@
--- Choices as three places, absent references first: each choice has its places, and the places have the choices' order.
+-- Choices as three places, absent references first: each choice has its places, and the places have the choices' order
+-- and their functions.
 -- Assumes nothing.
 use Prim.Native.Nat.{ℕ, zero, suc, _+_, _*_, _/_, _%_, _≤_, _<_}
+use native.Mathlib.Nat.{add-zero, zero-add}
 use native.Mathlib.Omega.{arith}
 use mathlib.Core.Path.{_≡_, refl, sym, ap, _∙_}
 use mathlib.Core.Logic.{⊎-elim}
 use mathlib.Core.Bool.{Bool, true, false, _&&_, _||_, cond, false≢true}
-use mathlib.Core.List.{List, [], _∷_}
+use mathlib.Core.List.{List, [], _∷_, _++_}
 use lib.Dec.{eqb, ltb}
-use borrow.Author.Tests.{eqb-true, eq-eqb, ltb-true, lt-ltb}
+use borrow.Author.Tests.{eqb-true, eq-eqb, ltb-true, ltb-false, lt-ltb}
 use Rattle.book.specs.Head.{dataCount}
 use Rattle.book.proofs.Accepted.{HeadHolds}
-use Rattle.book.proofs.Lists.{and-both, and-false, and-left, and-right, or-either, or-end, or-true}
+use Rattle.book.proofs.Lists.{and-both, and-false, and-left, and-right, and-true, or-either, or-end, or-otherwise}
+use Rattle.book.proofs.Lists.{or-rest, or-true}
 use Rattle.verdicts.specs.Accesses.{Access, fits, same}
 use Rattle.verdicts.proofs.Accesses.{access, fits-bounds, same-equal}
 use Rattle.search.specs.Obtainable.{canBeHad}
-use Rattle.search.specs.Choices.{accessBefore, choiceBefore, isChoiceFrom}
+use Rattle.search.specs.Choices.{accessBefore, choiceBefore, isChoiceFrom, lighter, weight}
 use Rattle.search.specs.Inner.Places.{accessAt, choiceAt, chosenAt, nowhere, placeOf}
 use Rattle.search.specs.Inner.Search.{referenceAt, tripleBefore}
+use Rattle.search.specs.Inner.Weight.{functionsAt, lighterPlaces, weightAt}
 use Rattle.search.proofs.Orders.{had-small}
 
 -- Places
@@ -332,3 +336,68 @@ module _ (head rule : List ℕ) (b z w a y x : ℕ) where
   before-triple (suc (suc (suc zero))) lo hi s u h =
       before-three b z w a y x (rw (choice-three head rule b z w s, choice-three head rule a y x u) at h)
   before-triple (suc (suc (suc (suc n)))) lo hi s u h = absurd (omega arith)
+
+-- Functions
+
+weight-append : (c d : List Access) → weight (c ++ d) ≡ weight c + weight d
+unfolding weight
+weight-append [] d = sym (zero-add (weight d))
+weight-append (x ∷ c) d =
+    let more = weight-append c d in
+    rw more (omega arith)
+
+-- the place of an absent reference has none
+weight-chosen : (p : ℕ) → p ≤ nowhere → weight (chosenAt p) ≡ functionsAt p
+unfolding weight chosenAt accessAt functionsAt
+weight-chosen p most = go (ltb p nowhere) refl
+  where
+    go : (b : Bool) → ltb p nowhere ≡ b → weight (cond b (accessAt p ∷ []) []) ≡ functionsAt p
+    go true e = add-zero (cond (eqb (p % 16) 0) 0 1)
+    go false e =
+        let l = ltb-false p nowhere e in
+        let absent : p ≡ 2048 = omega arith in
+        rw absent
+
+module _ (head rule : List ℕ) where
+  weight-places : (n a y x : ℕ) → Stand head rule n a y x → weight (choiceAt a y x) ≡ weightAt a y x
+  unfolding choiceAt weightAt
+  weight-places n a y x s =
+      let most = stands-most head rule n in
+      rw (
+        weight-append (chosenAt a) (chosenAt y ++ chosenAt x),
+        weight-append (chosenAt y) (chosenAt x),
+        weight-chosen a (most 0 a (s .first)),
+        weight-chosen y (most 1 y (s .second)),
+        weight-chosen x (most 2 x (s .third)),
+      )
+
+  -- a lighter choice has lighter places
+  pub lighter-triple :
+      (b z w a y x n : ℕ)
+      → 1 ≤ n
+      → n ≤ 3
+      → Stand head rule n b z w
+      → Stand head rule n a y x
+      → lighter (choiceAt b z w) (choiceAt a y x) ≡ true
+      → lighterPlaces b z w a y x ≡ true
+  unfolding lighter lighterPlaces
+  lighter-triple b z w a y x n lo hi s u h =
+      go (rw (weight-places n b z w s, weight-places n a y x u) at h)
+    where
+      go :
+          (ltb (weightAt b z w) (weightAt a y x)
+          || (eqb (weightAt b z w) (weightAt a y x) && choiceBefore (choiceAt b z w) (choiceAt a y x)))
+          ≡ true
+          → (ltb (weightAt b z w) (weightAt a y x)
+          || (eqb (weightAt b z w) (weightAt a y x) && tripleBefore b z w a y x))
+          ≡ true
+      go k =
+          or-otherwise (ltb (weightAt b z w) (weightAt a y x))
+          (eqb (weightAt b z w) (weightAt a y x) && tripleBefore b z w a y x)
+          (λ not-less.
+          let p =
+          and-both (eqb (weightAt b z w) (weightAt a y x)) (choiceBefore (choiceAt b z w) (choiceAt a y x))
+          (or-rest (ltb (weightAt b z w) (weightAt a y x))
+          (eqb (weightAt b z w) (weightAt a y x) && choiceBefore (choiceAt b z w) (choiceAt a y x)) k not-less) in
+          and-true (eqb (weightAt b z w) (weightAt a y x)) (tripleBefore b z w a y x) (p .0)
+          (before-triple head rule b z w a y x n lo hi s u (p .1)))

@@ -23,6 +23,7 @@ use Rattle.search.specs.Answers.{ruleTests, bufferTests, idleTests, idle
 use Rattle.search.specs.Inner.Places.{choiceAt, rowsAt}
 use Rattle.search.specs.Inner.Table.{TableHolds, HadHolds, CoversHold}
 use Rattle.search.specs.Inner.Search.{NeedsFirst}
+use Rattle.search.specs.Inner.Weight.{lighterPlaces}
 use Rattle.search.specs.Inner.First.{foundOf, FirstNeeds, answerOf, bufferOf}
 use Rattle.search.specs.declared.Idleness.{Idleness}
 use Rattle.search.specs.declared.Idleness.the-variants as idleness
@@ -53,7 +54,7 @@ pub needs-first :
     → HadHolds head had
     → CoversHold book total covered
     → (found : Needs)
-    → NeedsFirst t r references had covered found
+    → NeedsFirst lighterPlaces t r references had covered found
     → FirstNeeds book r found
 needs-first book accepted bytes r l total te rule head re he references ne t had covered tables hads covers found h =
     let few : ruleCount book ≤ 32 = few-rules book accepted in

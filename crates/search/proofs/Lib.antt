@@ -7,6 +7,7 @@ pub mod SearchSteps
 pub mod Candidates
 pub mod SettlingLaws
 pub mod UserLaws
+pub mod WeightLaws
 pub mod LowestLaws
 pub mod OneRow
 pub mod ShownPlans

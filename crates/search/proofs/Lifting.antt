@@ -24,18 +24,19 @@ use Rattle.verdicts.specs.Breaking.{breaks, someChoiceRefused}
 use Rattle.verdicts.proofs.Accesses.{leaf-set-below, Apart}
 use Rattle.verdicts.proofs.Quantifiers.{any-below}
 use Rattle.verdicts.proofs.Sound.{few-rules, rules-sound}
-use Rattle.search.specs.Choices.{Candidate, candidateBefore, choiceBefore, isChoice}
+use Rattle.search.specs.Choices.{Candidate, candidateBefore, isChoice, lighter}
 use Rattle.search.specs.Alone.{breaksAlone, candidateAlone}
 use Rattle.search.specs.Inner.Places.{choiceAt}
 use Rattle.search.specs.Inner.Table.{CoversHold, HadHolds, TableHolds}
 use Rattle.search.specs.Inner.Search.{NeedsFirst, NeedsUser, candidate, drops, othersFor, refuses, solves, solvesFor}
+use Rattle.search.specs.Inner.Weight.{lighterPlaces}
 use Rattle.search.specs.Inner.First.{FirstNeeds, foundOf}
 use Rattle.search.specs.declared.users.Needs.{Needs}
 use Rattle.search.specs.declared.users.Needs.the-variants.{Nobody, User}
 use Rattle.search.proofs.Orders as orders
 use Rattle.search.proofs.AloneLaws.{candidate-members}
 use Rattle.search.proofs.Placements.{drops-refused}
-use Rattle.search.proofs.ChoicePlaces.{Stand, before-triple, choice-places, places-choice}
+use Rattle.search.proofs.ChoicePlaces.{Stand, choice-places, lighter-triple, places-choice}
 use Rattle.search.proofs.ChoicePlaces.{stands-most}
 use Rattle.search.proofs.ChoiceTables.{candidate-stands, refused-own, refuses-places}
 
@@ -218,7 +219,7 @@ module _ (book : List ℕ) (accepted : BookAccepted book) (bytes : (i : ℕ) →
   -- places before those of a user's choice
   earlier :
       (c : Candidate) (u a y x b z w : ℕ)
-      → NeedsUser t r (referenceCount (ruleAt book r)) had covered u a y x
+      → NeedsUser lighterPlaces t r (referenceCount (ruleAt book r)) had covered u a y x
       → Stand (headOf book) (ruleAt book r) (referenceCount (ruleAt book r)) a y x
       → c .choice ≡ choiceAt b z w
       → Stand (headOf book) (ruleAt book r) (referenceCount (ruleAt book r)) b z w
@@ -227,17 +228,17 @@ module _ (book : List ℕ) (accepted : BookAccepted book) (bytes : (i : ℕ) →
   unfolding candidateBefore
   earlier c u a y x b z w needs s e d before =
       ⊎-elim (λ (v : ltb (c .user) u ≡ true). needs .users (c .user) b z w (ltb-true (c .user) u v))
-      (λ (v : (eqb (c .user) u && choiceBefore (c .choice) (choiceAt a y x)) ≡ true).
-      let p = and-both (eqb (c .user) u) (choiceBefore (c .choice) (choiceAt a y x)) v in
+      (λ (v : (eqb (c .user) u && lighter (c .choice) (choiceAt a y x)) ≡ true).
+      let p = and-both (eqb (c .user) u) (lighter (c .choice) (choiceAt a y x)) v in
       rw (eqb-true (c .user) u (p .0))
       (needs .found .earliest b z w
-      (before-triple (headOf book) (ruleAt book r) b z w a y x (referenceCount (ruleAt book r)) (sound r l .some)
+      (lighter-triple (headOf book) (ruleAt book r) b z w a y x (referenceCount (ruleAt book r)) (sound r l .some)
       (sound r l .few) d s (rw e at (p .1)))))
-      (or-either (ltb (c .user) u) (eqb (c .user) u && choiceBefore (c .choice) (choiceAt a y x)) before)
+      (or-either (ltb (c .user) u) (eqb (c .user) u && lighter (c .choice) (choiceAt a y x)) before)
 
   pub lifted :
       (found : Needs)
-      → NeedsFirst t r (referenceCount (ruleAt book r)) had covered found
+      → NeedsFirst lighterPlaces t r (referenceCount (ruleAt book r)) had covered found
       → FirstNeeds book r found
   unfolding NeedsFirst FirstNeeds foundOf
   lifted Nobody h =

@@ -1,10 +1,10 @@
 -- The order of a rule's candidates: they are listed in rising order, and the first of them that breaks the rule alone.
 -- Assumes nothing.
-use Prim.Native.Nat.{ℕ, zero, suc, _≤_, _<_}
+use Prim.Native.Nat.{ℕ, zero, suc, _+_, _≤_, _<_}
 use native.Mathlib.Omega.{arith}
 use mathlib.Core.Path.{_≡_, refl}
 use mathlib.Core.Logic.{_⊎_}
-use mathlib.Core.Bool.{Bool, true, false, _&&_, _||_, not, false≢true}
+use mathlib.Core.Bool.{Bool, true, false, _&&_, _||_, not, cond, false≢true}
 use mathlib.Core.List.{List, [], _∷_, map, List·Memᴰ, List·Memᴰ·head, Memᴰ·cast, Memᴰ·map}
 use lib.Dec.{eqb, ltb}
 use borrow.Author.Tests.{eqb-true, eq-eqb, ltb-true}
@@ -22,10 +22,11 @@ use Rattle.verdicts.proofs.Accesses.{access, in-fitting, same-equal, same-self}
 use Rattle.verdicts.proofs.Quantifiers.{any-at, flat-all}
 use Rattle.search.specs.Obtainable.{canBeHad, labelled, operated}
 use Rattle.search.specs.Choices.{Candidate, accessBefore, candidateBefore, candidates, choiceBefore, choicesOf}
-use Rattle.search.specs.Choices.{isChoice, isChoiceFrom}
+use Rattle.search.specs.Choices.{choicesByWeight, isChoice, isChoiceFrom, lighter, weight}
 use Rattle.search.specs.Alone.{none, shown, candidateAlone, firstAlone}
 use Rattle.search.proofs.Rising.{all-member, any-member, first-nothing, first-something, flat-every}
-use Rattle.search.proofs.Rising.{flat-member, keep-member, keep-passes, map-every, none-first, rising, rising-flat}
+use Rattle.search.proofs.Rising.{flat-member, keep-member, keep-passes, map-every, none-first}
+use Rattle.search.proofs.Rising.{parted-all, parted-member, parted-rising, rising, rising-flat}
 use Rattle.search.proofs.Rising.{rising-keep, rising-map, shown-first, upTo-member, upTo-rising}
 
 -- The orders
@@ -64,6 +65,15 @@ pub before-rest : (x : Access) (c d : List Access) → choiceBefore c d ≡ true
 unfolding choiceBefore
 before-rest x c d h = rw (same-self x, h) (or-true (accessBefore x x))
 
+module _ (c d : List Access) where
+  pub before-weight : ltb (weight c) (weight d) ≡ true → lighter c d ≡ true
+  unfolding lighter
+  before-weight h = rw h
+
+  pub before-equal : weight c ≡ weight d → choiceBefore c d ≡ true → lighter c d ≡ true
+  unfolding lighter
+  before-equal e h = rw (eq-eqb (weight c) (weight d) e, h) (or-true (ltb (weight c) (weight d)))
+
 -- a candidate by its parts
 abbrev pub candidate : ℕ → List Access → Candidate
 candidate u c = record { user = u; choice = c }
@@ -73,7 +83,7 @@ module _ (c d : List Access) where
   unfolding candidateBefore
   before-user u v h = rw h
 
-  pub before-choice : (u : ℕ) → choiceBefore c d ≡ true → candidateBefore (candidate u c) (candidate u d) ≡ true
+  pub before-choice : (u : ℕ) → lighter c d ≡ true → candidateBefore (candidate u c) (candidate u d) ≡ true
   unfolding candidateBefore
   before-choice u h = rw (eq-eqb u u refl, h) (or-true (ltb u u))
 
@@ -132,20 +142,25 @@ module _ {A : Type 0} (before : A → A → Bool) (later : List A → List A →
       (lists i) (h i)
 
 module _ (head rule : List ℕ) where
-  pub candidates-rising : rising candidateBefore (candidates head rule) ≡ true
-  unfolding candidates choicesOf fitting
-  candidates-rising =
-      rising-flat candidateBefore ltb (λ u. map (candidate u) (choicesOf head rule))
-      (λ u v l.
-      map-every (λ a. all (candidateBefore a) (map (candidate v) (choicesOf head rule))) (candidate u)
-      (λ c. map-every (candidateBefore (candidate u c)) (candidate v) (λ d. before-user c d u v l) (choicesOf head rule))
-      (choicesOf head rule))
-      (λ u.
-      rising-map candidateBefore choiceBefore (candidate u) (λ c d. before-choice c d u) (choicesOf head rule)
+  weights-rising : rising lighter (choicesByWeight head rule) ≡ true
+  unfolding choicesByWeight choicesOf fitting
+  weights-rising =
+      parted-rising weight lighter choiceBefore before-weight before-equal (suc (referenceCount rule))
+      (choicesOf head rule)
       (choices-rising accessBefore choiceBefore before-first before-rest (referenceCount rule) 0
       (fitting head rule (canBeHad head))
       (λ i.
-      rising-keep accessBefore (λ x. canBeHad head x && fits head rule i x) (everyAccess head) (accesses-rising head))))
+      rising-keep accessBefore (λ x. canBeHad head x && fits head rule i x) (everyAccess head) (accesses-rising head)))
+
+  pub candidates-rising : rising candidateBefore (candidates head rule) ≡ true
+  unfolding candidates
+  candidates-rising =
+      let choices = choicesByWeight head rule in
+      rising-flat candidateBefore ltb (λ u. map (candidate u) choices)
+      (λ u v l.
+      map-every (λ a. all (candidateBefore a) (map (candidate v) choices)) (candidate u)
+      (λ c. map-every (candidateBefore (candidate u c)) (candidate v) (λ d. before-user c d u v l) choices) choices)
+      (λ u. rising-map candidateBefore lighter (candidate u) (λ c d. before-choice c d u) choices weights-rising)
       (keep (isUser head) (upTo (userCount head)))
       (rising-keep ltb (isUser head) (upTo (userCount head)) (upTo-rising (userCount head)))
 
@@ -161,6 +176,21 @@ module _ (head rule : List ℕ) where
       let a = and-both (canBeHad head x && fits head rule i x) (isChoiceFrom head rule n (suc i) c) h in
       and-true (canBeHad head x) (all (canBeHad head) c) (and-left (canBeHad head x) (fits head rule i x) (a .0))
       (choice-had n (suc i) c (a .1))
+
+  -- a choice has no more functions than the rule has references
+  pub choice-weight : (n i : ℕ) (c : List Access) → isChoiceFrom head rule n i c ≡ true → weight c ≤ n
+  unfolding isChoiceFrom weight
+  choice-weight zero i [] h = omega arith
+  choice-weight zero i (x ∷ c) h = absurd (false≢true h)
+  choice-weight (suc n) i [] h = absurd (false≢true h)
+  choice-weight (suc n) i (x ∷ c) h =
+      go (eqb (x .operation) 0)
+      (choice-weight n (suc i) c
+      (and-right (canBeHad head x && fits head rule i x) (isChoiceFrom head rule n (suc i) c) h))
+    where
+      go : (b : Bool) → weight c ≤ n → cond b 0 1 + weight c ≤ suc n
+      go true l = omega arith
+      go false l = omega arith
 
   -- what is chosen from accesses that can be had is a choice
   pub choices-pass :
@@ -237,14 +267,17 @@ module _ (head rule : List ℕ) where
   isCandidate c = isUser head (c .user) && isChoice head rule (c .choice)
 
   candidates-pass : all isCandidate (candidates head rule) ≡ true
-  unfolding candidates choicesOf isChoice isCandidate
+  unfolding candidates choicesByWeight choicesOf isChoice isCandidate
   candidates-pass =
-      flat-all isCandidate (λ u. map (candidate u) (choicesOf head rule)) (isUser head)
+      let choices : List Access → Bool = λ c. isChoice head rule c && all (canBeHad head) c in
+      flat-all isCandidate (λ u. map (candidate u) (choicesByWeight head rule)) (isUser head)
       (λ u h.
-      map-all isCandidate (candidate u) (λ c. isChoice head rule c && all (canBeHad head) c)
+      map-all isCandidate (candidate u) choices
       (λ c q.
       and-true (isUser head u) (isChoice head rule c) h (and-left (isChoice head rule c) (all (canBeHad head) c) q))
-      (choicesOf head rule) (choices-pass head rule (canBeHad head) (λ x e. e) (referenceCount rule) 0))
+      (choicesByWeight head rule)
+      (parted-all weight choices (suc (referenceCount rule)) (choicesOf head rule)
+      (choices-pass head rule (canBeHad head) (λ x e. e) (referenceCount rule) 0)))
       (keep (isUser head) (upTo (userCount head))) (keep-passes (isUser head) (upTo (userCount head)))
 
   pub candidate-parts :
@@ -268,14 +301,18 @@ module _ (head rule : List ℕ) (holds : HeadHolds head) where
       → isUser head (c .user) ≡ true
       → isChoice head rule (c .choice) ≡ true
       → List·Memᴰ c (candidates head rule)
-  unfolding candidates choicesOf isChoice
+  unfolding candidates choicesByWeight choicesOf isChoice
   candidate-in c u h =
-      flat-member (λ v. map (candidate v) (choicesOf head rule)) (keep (isUser head) (upTo (userCount head))) (c .user) c
+      let most = choice-weight head rule (referenceCount rule) 0 (c .choice) h in
+      flat-member (λ v. map (candidate v) (choicesByWeight head rule)) (keep (isUser head) (upTo (userCount head)))
+      (c .user) c
       (keep-member (isUser head) (upTo (userCount head)) (c .user)
       (upTo-member (userCount head) (c .user) (user-below head (c .user) u)) u)
       (Memᴰ·map (candidate (c .user))
+      (parted-member weight (suc (referenceCount rule)) (choicesOf head rule) (c .choice)
       (choice-in head rule holds (canBeHad head) (referenceCount rule) 0 (c .choice) h
-      (choice-had head rule (referenceCount rule) 0 (c .choice) h)))
+      (choice-had head rule (referenceCount rule) 0 (c .choice) h))
+      (omega arith)))
 
 -- The first candidate that breaks a rule alone
 

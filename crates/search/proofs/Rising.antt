@@ -240,6 +240,62 @@ module _ {A : Type 0} (before : A → A → Bool) where
           let b = and-both (all (lower x) l) (rising lower l) h in
           rising-append (g x) (flat g l) (each x) (rising-flat each l (b .1)) (across x l (b .0))
 
+-- a list that rises in one order rises in another that agrees with it on what passes a test
+pub rising-among :
+    {A : Type 0} (f : A → Bool) (before lower : A → A → Bool)
+    → ((x y : A) → f x ≡ true → f y ≡ true → lower x y ≡ true → before x y ≡ true)
+    → (l : List A) → all f l ≡ true → rising lower l ≡ true → rising before l ≡ true
+unfolding rising all
+rising-among f before lower h [] p q = refl
+rising-among f before lower h (x ∷ l) p q =
+    let a = and-both (f x) (all f l) p in
+    let b = and-both (all (lower x) l) (rising lower l) q in
+    and-true (all (before x) l) (rising before l)
+    (all-two f (lower x) (before x) (λ y i j. h x y (a .0) i j) l (a .1) (b .0))
+    (rising-among f before lower h l (a .1) (b .1))
+
+-- A list parted by a number of its members, the lowest number first
+
+module _ {A : Type 0} (key : A → ℕ) where
+  abbrev pub parted : ℕ → List A → List A
+  parted n l = flat (λ k. keep (λ x. eqb (key x) k) l) (upTo n)
+
+  pub parted-all : (f : A → Bool) (n : ℕ) (l : List A) → all f l ≡ true → all f (parted n l) ≡ true
+  parted-all f n l h =
+      flat-every f (λ k. keep (λ x. eqb (key x) k) l) (λ k. keep-all f (λ x. eqb (key x) k) l h) (upTo n)
+
+  pub parted-member : (n : ℕ) (l : List A) (x : A) → List·Memᴰ x l → key x < n → List·Memᴰ x (parted n l)
+  parted-member n l x m h =
+      flat-member (λ k. keep (λ y. eqb (key y) k) l) (upTo n) (key x) x (upTo-member n (key x) h)
+      (keep-member (λ y. eqb (key y) (key x)) l x m (eq-eqb (key x) (key x) refl))
+
+  module _ (before lower : A → A → Bool)
+      (less : (x y : A) → ltb (key x) (key y) ≡ true → before x y ≡ true)
+      (equal : (x y : A) → key x ≡ key y → lower x y ≡ true → before x y ≡ true) where
+    pub parted-rising : (n : ℕ) (l : List A) → rising lower l ≡ true → rising before (parted n l) ≡ true
+    parted-rising n l h =
+        rising-flat before ltb (λ k. keep (λ x. eqb (key x) k) l) apart
+        (λ k.
+        rising-among (λ x. eqb (key x) k) before lower
+        (λ x y i j. equal x y (eqb-true (key x) k i ∙ sym (eqb-true (key y) k j)))
+        (keep (λ x. eqb (key x) k) l) (keep-passes (λ x. eqb (key x) k) l)
+        (rising-keep lower (λ x. eqb (key x) k) l h))
+        (upTo n) (upTo-rising n)
+      where
+        apart :
+            (k m : ℕ)
+            → ltb k m ≡ true
+            → all (λ x. all (before x) (keep (λ y. eqb (key y) m) l)) (keep (λ x. eqb (key x) k) l) ≡ true
+        apart k m q =
+            let low = keep-passes (λ x. eqb (key x) k) l in
+            let high = keep-passes (λ y. eqb (key y) m) l in
+            all-two (λ x. eqb (key x) k) (λ x. eqb (key x) k) (λ x. all (before x) (keep (λ y. eqb (key y) m) l))
+            (λ x i j.
+            all-two (λ y. eqb (key y) m) (λ y. eqb (key y) m) (before x)
+            (λ y v w. less x y (rw (eqb-true (key x) k i, eqb-true (key y) m v) q)) (keep (λ y. eqb (key y) m) l)
+            high high)
+            (keep (λ x. eqb (key x) k) l) low low
+
 -- The first that passes
 
 module _ {A : Type 0} (f : A → Bool) where

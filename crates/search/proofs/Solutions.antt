@@ -9,10 +9,10 @@ use mathlib.Core.Bool.{Bool, true, false, _&&_, _||_, not}
 use mathlib.Core.List.{List}
 use lib.ListN.{length, List·getD-eq-default}
 use lib.Dec.{eqb, ltb}
-use borrow.Author.Tests.{not-true, eqb-true, eqb-false, ltb-true, ltb-false}
+use borrow.Author.Tests.{not-true, eqb-true, eqb-false, eq-eqb, ltb-true, ltb-false, lt-ltb}
 use Rattle.book.specs.Lists.{any, upTo}
 use Rattle.book.specs.Sets.{has}
-use Rattle.book.proofs.Lists.{and-true, and-left, and-right, at-none, none-at}
+use Rattle.book.proofs.Lists.{and-true, and-left, and-right, or-true, at-none, none-at}
 use Rattle.book.proofs.Members.{has-zero}
 use Rattle.verdicts.proofs.Quantifiers.{any-at}
 use Rattle.search.specs.Inner.Places.{FirstFrom, inPlaces}
@@ -407,3 +407,65 @@ before-cases {A} b z w a y x h low middle high = go (ltb b a) refl h
     go false l m =
         inner (eqb-true b a (and-left (eqb b a) (ltb z y || (eqb z y && ltb w x)) m)) (ltb z y) refl
         (and-right (eqb b a) (ltb z y || (eqb z y && ltb w x)) m)
+
+-- three places come before three others by the first that differs
+module _ (b z w a y x : ℕ) where
+  triple-low : b < a → tripleBefore b z w a y x ≡ true
+  unfolding tripleBefore
+  triple-low l = rw (lt-ltb b a l)
+
+  triple-middle : b ≡ a → z < y → tripleBefore b z w a y x ≡ true
+  unfolding tripleBefore
+  triple-middle e l = rw (eq-eqb b a e, lt-ltb z y l) (or-true (ltb b a))
+
+  triple-high : b ≡ a → z ≡ y → w < x → tripleBefore b z w a y x ≡ true
+  unfolding tripleBefore
+  triple-high e f l =
+      rw (eq-eqb b a e, eq-eqb z y f, lt-ltb w x l, or-true (ltb z y)) (or-true (ltb b a))
+
+pub triple-after :
+    (b z w a y x c v u : ℕ)
+    → tripleBefore b z w a y x ≡ true
+    → tripleBefore a y x c v u ≡ true
+    → tripleBefore b z w c v u ≡ true
+triple-after b z w a y x c v u h k =
+    before-cases b z w a y x h
+    (λ l.
+    before-cases a y x c v u k (λ m. triple-low b z w c v u (omega arith)) (λ e m. triple-low b z w c v u (omega arith))
+    (λ e f m. triple-low b z w c v u (omega arith)))
+    (λ e l.
+    before-cases a y x c v u k (λ m. triple-low b z w c v u (omega arith))
+    (λ f m. triple-middle b z w c v u (omega arith) (omega arith))
+    (λ f g m. triple-middle b z w c v u (omega arith) (omega arith)))
+    (λ e f l.
+    before-cases a y x c v u k (λ m. triple-low b z w c v u (omega arith))
+    (λ g m. triple-middle b z w c v u (omega arith) (omega arith))
+    (λ g i m. triple-high b z w c v u (omega arith) (omega arith) (omega arith)))
+
+-- what comes before three places comes before three others that do not come before them
+pub triple-until :
+    (b z w a y x c v u : ℕ)
+    → tripleBefore b z w a y x ≡ true
+    → tripleBefore c v u a y x ≡ false
+    → tripleBefore b z w c v u ≡ true
+triple-until b z w a y x c v u h n =
+    either b c (triple-low b z w c v u)
+    (λ e.
+    either z v (triple-middle b z w c v u e)
+    (λ f.
+    either w u (triple-high b z w c v u e f)
+    (λ g. both (rw (e, f, g) at h) n)
+    (λ l. both (triple-after c v u b z w a y x (triple-high c v u b z w (omega arith) (omega arith) l) h) n))
+    (λ l. both (triple-after c v u b z w a y x (triple-middle c v u b z w (omega arith) l) h) n))
+    (λ l. both (triple-after c v u b z w a y x (triple-low c v u b z w l) h) n)
+  where
+    either : {A : Type 0} (i j : ℕ) → (i < j → A) → (i ≡ j → A) → (j < i → A) → A
+    either {A} i j low same high = go (ltb i j) refl (eqb i j) refl
+      where
+        go : (s : Bool) → ltb i j ≡ s → (r : Bool) → eqb i j ≡ r → A
+        go true e r f = low (ltb-true i j e)
+        go false e true f = same (eqb-true i j f)
+        go false e false f =
+            let l = ltb-false i j e in
+            let n = eqb-false i j f in
+            high (omega arith)

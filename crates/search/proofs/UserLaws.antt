@@ -11,12 +11,12 @@ use lib.Dec.{eqb, ltb}
 use lib.Bits.{bitAnd}
 use borrow.Author.Tests.{eqb-true, eqb-false, ltb-true, lt-ltb}
 use Rattle.book.specs.Sets.{has}
-use Rattle.book.proofs.Lists.{and-true, and-left, and-right, and-second}
+use Rattle.book.proofs.Lists.{and-true, and-left, and-right, and-second, same-test}
 use Rattle.book.proofs.Members.{has-zero, has-minus}
 use Rattle.verdicts.proofs.Marks.{Marks}
 use Rattle.search.specs.Inner.Closing.{Within}
 use Rattle.search.specs.Inner.Search.{coversIn, othersFor, solves, solvesFor, Settles, Searched, SearchedFor}
-use Rattle.search.specs.Inner.Search.{AllSettle, NeedsFirst}
+use Rattle.search.specs.Inner.Search.{tripleBefore, AllSettle, NeedsFirst}
 use Rattle.search.specs.declared.searching.Sought.{Sought}
 use Rattle.search.specs.declared.searching.Sought.the-variants.{Found, Nothing}
 use Rattle.search.specs.declared.users.Needs.the-variants.{Nobody, User}
@@ -84,6 +84,17 @@ module _ (t : List ℕ) (r n : ℕ) (had : List ℕ) where
       back a y x =
           solves-fewer t r n (has rules) (othersFor r covered u)
           (λ q l h. and-right (ltb q 32) (othersFor r covered u q) (sym (others q) ∙ h)) a y x had
+
+      -- for a user whom r covers
+      pub solves-for :
+          coversIn covered r u ≡ true
+          → (a y x : ℕ)
+          → solves t r n had (has rules) a y x ≡ solvesFor t r n had covered u a y x
+      unfolding solvesFor
+      solves-for covers a y x =
+          rw covers
+          (same-test (solves t r n had (has rules) a y x) (solves t r n had (othersFor r covered u) a y x) (there a y x)
+          (back a y x))
 
       -- a set of rules within these that leaves no three places
       pub settled-none :
@@ -208,12 +219,12 @@ module _ (t : List ℕ) (r n : ℕ) (had covered : List ℕ) where
               old .none v a y x (omega arith)
 
       pub users-found :
-          (a y x : ℕ) → s ≡ Found a y x → NeedsFirst t r n had covered (User u a y x)
+          (a y x : ℕ) → s ≡ Found a y x → NeedsFirst tripleBefore t r n had covered (User u a y x)
       unfolding SearchedFor NeedsFirst
       users-found a y x e =
           record { below = small; found = rw e at searched; users = λ v b z w l. old .none v b z w l }
 
   pub users-end :
-      (masks : List ℕ) (u : ℕ) → 32 ≤ u → Users t r n had covered masks u → NeedsFirst t r n had covered Nobody
+      (masks : List ℕ) (u : ℕ) → 32 ≤ u → Users t r n had covered masks u → NeedsFirst tripleBefore t r n had covered Nobody
   unfolding NeedsFirst
   users-end masks u past old v a y x l = old .none v a y x (omega arith)

@@ -22,7 +22,7 @@ use Rattle.lineage.specs.Accesses.{reaches, gives, isAccess}
 use Rattle.verdicts.specs.Accesses.{accessesOf, keep, everyAccess, actionFits, fits, fitting}
 use Rattle.verdicts.specs.Breaking.{choicesFrom, operations, accepts, refusesAll, someChoiceRefused, breaks}
 use Rattle.search.specs.Obtainable.{labelled, operated, canBeHad}
-use Rattle.search.specs.Choices.{Candidate, choicesOf, candidates}
+use Rattle.search.specs.Choices.{Candidate, choicesOf, weight, choicesByWeight, candidates}
 use Rattle.search.specs.Shown.{lowest, columnFor, functionFor, columnRow, applyRow, lastRow, rowsOf, accessRows}
 use Rattle.search.specs.Shown.{shownFrom, shownPlan}
 use Rattle.search.specs.Alone.{First, none, shown, breaksAlone, planBreaksAlone, candidateAlone, firstIn, firstAlone}
@@ -42,7 +42,7 @@ unfolding all any upTo from has upwardIn upward under leaf covers ownedBy suppor
     coversUser inLeafSet weighted checkSum withCheck sealBytes answered refusedOr sealTests firstFailing padded block users categories columns functions rule
     rule0 rule1 rule2 shop kindOf kindAt through pathsBy pathsIn paths labels takes firstOperation carries reaches
     gives isAccess accessesOf flat keep everyAccess actionFits fits fitting choicesFrom operations accepts refusesAll
-    someChoiceRefused breaks labelled operated canBeHad choicesOf candidates lowest columnFor functionFor columnRow
+    someChoiceRefused breaks labelled operated canBeHad choicesOf weight choicesByWeight candidates lowest columnFor functionFor columnRow
     applyRow lastRow rowsOf accessRows shownFrom shownPlan breaksAlone planBreaksAlone candidateAlone firstIn
     firstAlone
 shop-first = refl
@@ -99,7 +99,7 @@ unfolding cases all any upTo from has upwardIn upward under leaf covers ownedBy 
     coversUser inLeafSet weighted checkSum withCheck sealBytes answered refusedOr sealTests firstFailing padded block users categories columns functions rule
     rule0 rule1 rule2 shop kindOf kindAt through pathsBy pathsIn paths labels takes firstOperation carries reaches
     gives isAccess accessesOf flat keep everyAccess actionFits fits fitting choicesFrom operations accepts refusesAll
-    someChoiceRefused breaks labelled operated canBeHad choicesOf candidates lowest columnFor functionFor columnRow
+    someChoiceRefused breaks labelled operated canBeHad choicesOf weight choicesByWeight candidates lowest columnFor functionFor columnRow
     applyRow lastRow rowsOf accessRows shownFrom shownPlan breaksAlone planBreaksAlone candidateAlone firstIn
     firstAlone ruleTests bufferTests idlenessOf written outcome
 shop-outcomes = refl

@@ -1,6 +1,6 @@
--- The choices of a rule, and their order. Document 01, "Idle rules". Assumes nothing.
-use Prim.Native.Nat.{ℕ, zero, suc}
-use mathlib.Core.Bool.{Bool, true, false, _&&_, _||_}
+-- The choices of a rule, and their order. Document 01, "Idle rules"; document 02, N2. Assumes nothing.
+use Prim.Native.Nat.{ℕ, zero, suc, _+_}
+use mathlib.Core.Bool.{Bool, true, false, _&&_, _||_, cond}
 use mathlib.Core.List.{List, [], _∷_, map}
 use lib.Dec.{eqb, ltb}
 use Rattle.book.specs.Lists.{flat, upTo}
@@ -23,19 +23,9 @@ isChoiceFrom head rule (suc n) i (x ∷ choice) =
 unfoldable pub isChoice : Head → Rule → List Access → Bool
 isChoice head rule choice = isChoiceFrom head rule (referenceCount rule) 0 choice
 
--- all of them, in order
+-- all of them, in document 01's order
 unfoldable pub choicesOf : Head → Rule → List (List Access)
 choicesOf head rule = choicesFrom (referenceCount rule) 0 (fitting head rule (canBeHad head))
-
--- a user and a choice
-pub record Candidate : Type 0 where
-  pub user : ℕ
-  pub choice : List Access
-
-unfoldable pub candidates : Head → Rule → List Candidate
-candidates head rule =
-    flat (λ u. map (λ c. record { user = u; choice = c }) (choicesOf head rule))
-    (keep (isUser head) (upTo (userCount head)))
 
 -- "by action (projection first), leaf, operation, lower numbers first"
 unfoldable pub accessBefore : Access → Access → Bool
@@ -50,6 +40,33 @@ choiceBefore [] d = false
 choiceBefore (x ∷ c) [] = false
 choiceBefore (x ∷ c) (y ∷ d) = accessBefore x y || (same x y && choiceBefore c d)
 
--- "Choices, and with them their users and shown plans, are ordered by user number, then [..]"
+-- how many "non-zero operations" a choice has
+unfoldable pub weight : List Access → ℕ
+weight [] = 0
+weight (x ∷ choice) = cond (eqb (x .operation) 0) 0 1 + weight choice
+
+-- document 02, N2: "the one with the fewest non-zero operations now comes first. Equal ones fall back to document 01's
+-- order."
+unfoldable pub lighter : List Access → List Access → Bool
+lighter c d = ltb (weight c) (weight d) || (eqb (weight c) (weight d) && choiceBefore c d)
+
+-- all choices in this order: those of weight 0, of weight 1, .. up to one function for each reference
+unfoldable pub choicesByWeight : Head → Rule → List (List Access)
+choicesByWeight head rule =
+    flat (λ w. keep (λ c. eqb (weight c) w) (choicesOf head rule)) (upTo (suc (referenceCount rule)))
+
+-- a user and a choice
+pub record Candidate : Type 0 where
+  pub user : ℕ
+  pub choice : List Access
+
+-- "Choices, and with them their users and shown plans, are ordered by user number, then [..]", and N2: "Among choices
+-- for the same user"
 unfoldable pub candidateBefore : Candidate → Candidate → Bool
-candidateBefore c d = ltb (c .user) (d .user) || (eqb (c .user) (d .user) && choiceBefore (c .choice) (d .choice))
+candidateBefore c d = ltb (c .user) (d .user) || (eqb (c .user) (d .user) && lighter (c .choice) (d .choice))
+
+-- all of them in this order
+unfoldable pub candidates : Head → Rule → List Candidate
+candidates head rule =
+    flat (λ u. map (λ c. record { user = u; choice = c }) (choicesByWeight head rule))
+    (keep (isUser head) (upTo (userCount head)))

@@ -3,4 +3,5 @@ pub mod Places
 pub mod Table
 pub mod Closing
 pub mod Search
+pub mod Weight
 pub mod First

@@ -10,6 +10,7 @@ use crate::tables::covered_by;
 use crate::tables::fill_table;
 use crate::users::Needs;
 use crate::users::first_user;
+use crate::weighing::fewest;
 use book::Tested;
 use book::bytes::saturating_sub;
 use book::checking::test_book;
@@ -56,13 +57,10 @@ fn needs(book: &[u8], head: &[u64], rule: u8) -> Needs
     let mut t = [0u64; 4096];
     fill_table(&mut t, book, head, n);
     let references = reference_count(rule_at(book, rule)) as u8;
-    first_user(
-        &t,
-        rule,
-        references,
-        obtainable(head_of(book)),
-        covered_by(book, head, n),
-    )
+    let had = obtainable(head_of(book));
+    let covered = covered_by(book, head, n);
+    let found = first_user(&t, rule, references, had, covered);
+    fewest(&t, rule, references, had, covered, found)
 }
 
 // The answer for what was found, with the plan in the buffer.

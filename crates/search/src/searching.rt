@@ -50,7 +50,7 @@ pub fn candidates(t: &[u64], r: u8, n: u8, had: [u64; 32], i: u8) -> [u64; 33]
 }
 
 // A set without the places with some operations.
-fn without_operations(set: [u64; 33], operations: u64) -> [u64; 33]
+pub fn without_operations(set: [u64; 33], operations: u64) -> [u64; 33]
     ensures { λ r. ⌜ PlacesOf (λ p. inPlaces set p && not (has operations (p % 64))) r ⌝ }
 {
     let mut rest = set;
@@ -192,7 +192,7 @@ fn beside_first(
 }
 
 // The first three places in three sets.
-fn among(
+pub fn among(
     t: &[u64],
     r: u8,
     n: u8,
@@ -229,7 +229,7 @@ fn among(
 }
 
 // The candidates of the reference that stands i-th, less what breaks a rule by itself.
-fn alone(
+pub fn alone(
     t: &[u64],
     r: u8,
     n: u8,

@@ -12,7 +12,7 @@ ghost use lib.Dec.{ltb};
 ghost use lib.ListN.{getD};
 ghost use Rattle.book.specs.Sets.{has};
 ghost use Rattle.search.specs.Inner.Closing.{Within};
-ghost use Rattle.search.specs.Inner.Search.{coversIn, othersFor, AllSettle, SearchedFor, NeedsFirst};
+ghost use Rattle.search.specs.Inner.Search.{coversIn, othersFor, tripleBefore, AllSettle, SearchedFor, NeedsFirst};
 
 // Nobody; or the first user, and the three places of its first choice.
 pub enum Needs {
@@ -39,7 +39,7 @@ pub fn covers(covered: [u64; 32], q: u8, u: u8) -> bool
 }
 
 // The rules other than r that cover user u.
-fn others(covered: [u64; 32], r: u8, u: u8) -> u64
+pub fn others(covered: [u64; 32], r: u8, u: u8) -> u64
     ensures { λ w. ⌜ ((q : ℕ) → has w q ≡ (ltb q 32 && othersFor r covered u q)) ⌝ }
 {
     let mut found = 0u64;
@@ -92,9 +92,9 @@ fn search_for(
     search(t, r, n, had, rules, last)
 }
 
-// The first user, and the first choice for it, by the tables.
+// The first user, and the first choice for it in document 01's order, by the tables.
 pub fn first_user(t: &[u64], r: u8, n: u8, had: [u64; 32], covered: [u64; 32]) -> Needs
-    ensures { λ s. ⌜ NeedsFirst (now (t .entry)) r n had covered s ⌝ }
+    ensures { λ s. ⌜ NeedsFirst tripleBefore (now (t .entry)) r n had covered s ⌝ }
 {
     let mut masks = [UNSETTLED; 32];
     let mut last = 0u8;

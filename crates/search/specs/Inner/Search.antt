@@ -75,14 +75,18 @@ solvesPair t r n f s thirds rules a y x =
     (eqb a f && (eqb y s && inPlaces thirds x))
     && (refuses t r n a y x && not (any (λ q. rules q && closes t q a y x) (upTo 32)))
 
--- the order of choices
+-- document 01's order of choices
 unfoldable pub tripleBefore : ℕ → ℕ → ℕ → ℕ → ℕ → ℕ → Bool
 tripleBefore a y x b z w = ltb a b || (eqb a b && (ltb y z || (eqb y z && ltb x w)))
 
--- the first three places that pass a test
-pub record Solved (test : ℕ → ℕ → ℕ → Bool) (a y x : ℕ) : Type 0 where
+-- the first three places, in some order, that pass a test
+pub record Earliest (before : ℕ → ℕ → ℕ → ℕ → ℕ → ℕ → Bool) (test : ℕ → ℕ → ℕ → Bool) (a y x : ℕ) : Type 0 where
   pub solution : test a y x ≡ true
-  pub earliest : (b z w : ℕ) → tripleBefore b z w a y x ≡ true → test b z w ≡ false
+  pub earliest : (b z w : ℕ) → before b z w a y x ≡ true → test b z w ≡ false
+
+-- in document 01's order
+abbrev pub Solved : (ℕ → ℕ → ℕ → Bool) → ℕ → ℕ → ℕ → Type 0
+Solved = Earliest tripleBefore
 
 -- a set of rules, marked before or among the ones given, that no three places pass
 pub record Unsolved (test : (ℕ → Bool) → ℕ → ℕ → ℕ → Bool) (rules before marked : ℕ → Bool) : Type 0 where
@@ -228,12 +232,19 @@ SearchedFor t r n had covered u (Found a y x) = Solved (solvesFor t r n had cove
 SearchedFor t r n had covered u (Nothing marked last) =
     ((a y x : ℕ) → solvesFor t r n had covered u a y x ≡ false) × Settles t r n had marked
 
--- the first user, and for it the first three places
-pub record NeedsUser (t : List ℕ) (r n : ℕ) (had covered : List ℕ) (u a y x : ℕ) : Type 0 where
+-- the first user, and for it the first three places in some order
+pub record NeedsUser
+    (before : ℕ → ℕ → ℕ → ℕ → ℕ → ℕ → Bool)
+    (t : List ℕ)
+    (r n : ℕ)
+    (had covered : List ℕ)
+    (u a y x : ℕ)
+    : Type 0 where
   pub below : u < 32
-  pub found : Solved (solvesFor t r n had covered u) a y x
+  pub found : Earliest before (solvesFor t r n had covered u) a y x
   pub users : (v b z w : ℕ) → v < u → solvesFor t r n had covered v b z w ≡ false
 
-unfoldable pub NeedsFirst : List ℕ → ℕ → ℕ → List ℕ → List ℕ → Needs → Type 0
-NeedsFirst t r n had covered Nobody = (u a y x : ℕ) → u < 32 → solvesFor t r n had covered u a y x ≡ false
-NeedsFirst t r n had covered (User u a y x) = NeedsUser t r n had covered u a y x
+unfoldable pub NeedsFirst :
+    (ℕ → ℕ → ℕ → ℕ → ℕ → ℕ → Bool) → List ℕ → ℕ → ℕ → List ℕ → List ℕ → Needs → Type 0
+NeedsFirst before t r n had covered Nobody = (u a y x : ℕ) → u < 32 → solvesFor t r n had covered u a y x ≡ false
+NeedsFirst before t r n had covered (User u a y x) = NeedsUser before t r n had covered u a y x

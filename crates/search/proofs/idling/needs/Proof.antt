@@ -7,19 +7,20 @@ use Rattle.search.proofs.idling.needs.Tie as tie
 
 returns : tie.Need-returns
 returns c held accepted l =
-    let total = c .before .before .before .before .before .before .before .before .before .before .rule-count in
-    let known = c .before .before .before .before .before .before .before .before .before .before .before .before .shared-slice-known in
-    let a = c .before .before .before .before .before .before .before .before .before .before .before .before .before .args in
-    let rule = c .before .before .before .before .before .before .rule-at in
-    let head = c .before .before .before .head-of in
-    let references = c .before .before .before .before .before .reference-count in
-    let filled = c .before .before .before .before .before .before .before .before .fill-table in
+    let a = c .before .before .before .before .before .before .before .before .before .before .before .before .before .before .before .args in
+    let known = c .before .before .before .before .before .before .before .before .before .before .before .before .before .before .shared-slice-known in
+    let total = c .before .before .before .before .before .before .before .before .before .before .before .before .rule-count in
+    let filled = c .before .before .before .before .before .before .before .before .before .before .fill-table in
+    let rule = c .before .before .before .before .before .before .before .before .rule-at in
+    let references = c .before .before .before .before .before .before .before .reference-count in
+    let head = c .before .before .before .before .before .before .head-of in
+    let had = c .before .before .before .before .before .obtainable in
+    let covered = c .before .before .before .before .covered-by in
+    let found = c .before .before .first-user in
     needs-first (a .book .now) accepted (λ i. omega (arith, known .given i)) (a .rule) l (total .result) (total .ensures .0)
     (rule .result .now) (head .result .now) (rule .ensures) (head .ensures) (references .result) (references .ensures .0)
-    (filled .last .0) (c .before .before .obtainable .result)
-    (c .before .covered-by .result) (λ few. filled .ensures held few (search needs))
-    (c .before .before .obtainable .ensures) (c .before .covered-by .ensures held) (c .first-user .result)
-    (c .first-user .ensures)
+    (filled .last .0) (had .result) (covered .result) (λ few. filled .ensures held few (search needs)) (had .ensures)
+    (covered .ensures held) (c .fewest .result) (c .fewest .ensures (found .ensures))
 
 pub needs-spec : {M : Type 1} → statement M
 needs-spec =
@@ -31,9 +32,11 @@ needs-spec =
     (λ c κs. search needs)
     (λ c κs. search needs)
     (λ c. search needs)
+    (λ c κs. search needs)
+    (λ c κs. search needs)
+    (λ c κs. search needs)
     (λ c. search needs)
     (λ c κs. search needs)
-    (λ c κs. search needs)
-    (λ c κs. search needs)
+    (λ c. search needs)
     (λ c κs. search needs)
     returns)
