@@ -14,6 +14,7 @@ pub mod ShownPlans
 pub mod PlanWriting
 pub mod Rising
 pub mod Orders
+pub mod Unaffected
 pub mod AloneLaws
 pub mod DemandLaws
 pub mod Obtained

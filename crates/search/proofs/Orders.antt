@@ -22,9 +22,9 @@ use Rattle.verdicts.proofs.Accesses.{access, in-fitting, same-equal, same-self}
 use Rattle.verdicts.proofs.Quantifiers.{any-at, flat-all}
 use Rattle.search.specs.Obtainable.{canBeHad, labelled, operated}
 use Rattle.search.specs.Choices.{Candidate, accessBefore, candidateBefore, candidates, choiceBefore, choicesOf}
-use Rattle.search.specs.Choices.{choicesByWeight, isChoice, isChoiceFrom, lighter, weight}
+use Rattle.search.specs.Choices.{choicesByWeight, forUsers, isChoice, isChoiceFrom, lighter, weight}
 use Rattle.search.specs.Alone.{none, shown, candidateAlone, firstAlone}
-use Rattle.search.proofs.Rising.{all-member, any-member, first-nothing, first-something, flat-every}
+use Rattle.search.proofs.Rising.{all-member, all-then, any-member, first-nothing, first-something, flat-every}
 use Rattle.search.proofs.Rising.{flat-member, keep-member, keep-passes, map-every, none-first}
 use Rattle.search.proofs.Rising.{parted-all, parted-member, parted-rising, rising, rising-flat}
 use Rattle.search.proofs.Rising.{rising-keep, rising-map, shown-first, upTo-member, upTo-rising}
@@ -153,7 +153,7 @@ module _ (head rule : List ℕ) where
       rising-keep accessBefore (λ x. canBeHad head x && fits head rule i x) (everyAccess head) (accesses-rising head)))
 
   pub candidates-rising : rising candidateBefore (candidates head rule) ≡ true
-  unfolding candidates
+  unfolding candidates forUsers
   candidates-rising =
       let choices = choicesByWeight head rule in
       rising-flat candidateBefore ltb (λ u. map (candidate u) choices)
@@ -266,28 +266,38 @@ module _ (head rule : List ℕ) where
   isCandidate : Candidate → Bool
   isCandidate c = isUser head (c .user) && isChoice head rule (c .choice)
 
-  candidates-pass : all isCandidate (candidates head rule) ≡ true
-  unfolding candidates choicesByWeight choicesOf isChoice isCandidate
-  candidates-pass =
-      let choices : List Access → Bool = λ c. isChoice head rule c && all (canBeHad head) c in
-      flat-all isCandidate (λ u. map (candidate u) (choicesByWeight head rule)) (isUser head)
+  pub users-pass :
+      (choices : List (List Access))
+      → all (isChoice head rule) choices ≡ true
+      → (c : Candidate)
+      → List·Memᴰ c (forUsers head choices)
+      → (isUser head (c .user) ≡ true) × (isChoice head rule (c .choice) ≡ true)
+  unfolding forUsers isCandidate
+  users-pass choices pass c m =
+      and-both (isUser head (c .user)) (isChoice head rule (c .choice))
+      (all-member isCandidate (forUsers head choices)
+      (flat-all isCandidate (λ u. map (candidate u) choices) (isUser head)
       (λ u h.
-      map-all isCandidate (candidate u) choices
-      (λ c q.
-      and-true (isUser head u) (isChoice head rule c) h (and-left (isChoice head rule c) (all (canBeHad head) c) q))
-      (choicesByWeight head rule)
-      (parted-all weight choices (suc (referenceCount rule)) (choicesOf head rule)
-      (choices-pass head rule (canBeHad head) (λ x e. e) (referenceCount rule) 0)))
-      (keep (isUser head) (upTo (userCount head))) (keep-passes (isUser head) (upTo (userCount head)))
+      map-all isCandidate (candidate u) (isChoice head rule) (λ d q. and-true (isUser head u) (isChoice head rule d) h q)
+      choices pass)
+      (keep (isUser head) (upTo (userCount head))) (keep-passes (isUser head) (upTo (userCount head))))
+      c m)
+
+  pub chosen-pass : all (isChoice head rule) (choicesOf head rule) ≡ true
+  unfolding choicesOf isChoice
+  chosen-pass =
+      all-then (λ c. isChoice head rule c && all (canBeHad head) c) (isChoice head rule)
+      (λ c h. and-left (isChoice head rule c) (all (canBeHad head) c) h) (choicesOf head rule)
+      (choices-pass head rule (canBeHad head) (λ x e. e) (referenceCount rule) 0)
 
   pub candidate-parts :
       (c : Candidate)
       → List·Memᴰ c (candidates head rule)
       → (isUser head (c .user) ≡ true) × (isChoice head rule (c .choice) ≡ true)
-  unfolding isCandidate
+  unfolding candidates choicesByWeight
   candidate-parts c m =
-      and-both (isUser head (c .user)) (isChoice head rule (c .choice))
-      (all-member isCandidate (candidates head rule) candidates-pass c m)
+      users-pass (choicesByWeight head rule)
+      (parted-all weight (isChoice head rule) (suc (referenceCount rule)) (choicesOf head rule) chosen-pass) c m
 
 pub user-below : (head : List ℕ) (u : ℕ) → isUser head u ≡ true → u < userCount head
 unfolding isUser leaf
@@ -295,24 +305,36 @@ user-below head u h =
     let others = all (λ j. eqb j u || not (eqb (userParent head j) u)) (upTo (userCount head)) in
     ltb-true u (userCount head) (and-left (ltb u (userCount head)) others h)
 
+pub users-in :
+    (head : List ℕ) (choices : List (List Access)) (c : Candidate)
+    → isUser head (c .user) ≡ true
+    → List·Memᴰ (c .choice) choices
+    → List·Memᴰ c (forUsers head choices)
+unfolding forUsers
+users-in head choices c u m =
+    flat-member (λ v. map (candidate v) choices) (keep (isUser head) (upTo (userCount head))) (c .user) c
+    (keep-member (isUser head) (upTo (userCount head)) (c .user)
+    (upTo-member (userCount head) (c .user) (user-below head (c .user) u)) u)
+    (Memᴰ·map (candidate (c .user)) m)
+
 module _ (head rule : List ℕ) (holds : HeadHolds head) where
+  pub chosen-in : (c : List Access) → isChoice head rule c ≡ true → List·Memᴰ c (choicesOf head rule)
+  unfolding choicesOf isChoice
+  chosen-in c h =
+      choice-in head rule holds (canBeHad head) (referenceCount rule) 0 c h
+      (choice-had head rule (referenceCount rule) 0 c h)
+
   pub candidate-in :
       (c : Candidate)
       → isUser head (c .user) ≡ true
       → isChoice head rule (c .choice) ≡ true
       → List·Memᴰ c (candidates head rule)
-  unfolding candidates choicesByWeight choicesOf isChoice
+  unfolding candidates choicesByWeight isChoice
   candidate-in c u h =
       let most = choice-weight head rule (referenceCount rule) 0 (c .choice) h in
-      flat-member (λ v. map (candidate v) (choicesByWeight head rule)) (keep (isUser head) (upTo (userCount head)))
-      (c .user) c
-      (keep-member (isUser head) (upTo (userCount head)) (c .user)
-      (upTo-member (userCount head) (c .user) (user-below head (c .user) u)) u)
-      (Memᴰ·map (candidate (c .user))
-      (parted-member weight (suc (referenceCount rule)) (choicesOf head rule) (c .choice)
-      (choice-in head rule holds (canBeHad head) (referenceCount rule) 0 (c .choice) h
-      (choice-had head rule (referenceCount rule) 0 (c .choice) h))
-      (omega arith)))
+      users-in head (choicesByWeight head rule) c u
+      (parted-member weight (suc (referenceCount rule)) (choicesOf head rule) (c .choice) (chosen-in (c .choice) h)
+      (omega arith))
 
 -- The first candidate that breaks a rule alone
 

@@ -75,6 +75,13 @@ all-two f g h e (x ∷ l) p q =
     let b = and-both (g x) (all g l) q in
     and-true (h x) (all h l) (e x (a .0) (b .0)) (all-two f g h e l (a .1) (b .1))
 
+-- a test that all pass makes another one pass
+pub all-then :
+    {A : Type 0} (f g : A → Bool)
+    → ((x : A) → f x ≡ true → g x ≡ true)
+    → (l : List A) → all f l ≡ true → all g l ≡ true
+all-then f g e l h = all-two f f g (λ x p q. e x p) l h h
+
 -- Members
 
 module _ {A : Type 0} (f : A → Bool) where
@@ -287,14 +294,12 @@ module _ {A : Type 0} (key : A → ℕ) where
             → ltb k m ≡ true
             → all (λ x. all (before x) (keep (λ y. eqb (key y) m) l)) (keep (λ x. eqb (key x) k) l) ≡ true
         apart k m q =
-            let low = keep-passes (λ x. eqb (key x) k) l in
-            let high = keep-passes (λ y. eqb (key y) m) l in
-            all-two (λ x. eqb (key x) k) (λ x. eqb (key x) k) (λ x. all (before x) (keep (λ y. eqb (key y) m) l))
-            (λ x i j.
-            all-two (λ y. eqb (key y) m) (λ y. eqb (key y) m) (before x)
-            (λ y v w. less x y (rw (eqb-true (key x) k i, eqb-true (key y) m v) q)) (keep (λ y. eqb (key y) m) l)
-            high high)
-            (keep (λ x. eqb (key x) k) l) low low
+            all-then (λ x. eqb (key x) k) (λ x. all (before x) (keep (λ y. eqb (key y) m) l))
+            (λ x i.
+            all-then (λ y. eqb (key y) m) (before x)
+            (λ y j. less x y (rw (eqb-true (key x) k i, eqb-true (key y) m j) q)) (keep (λ y. eqb (key y) m) l)
+            (keep-passes (λ y. eqb (key y) m) l))
+            (keep (λ x. eqb (key x) k) l) (keep-passes (λ x. eqb (key x) k) l)
 
 -- The first that passes
 

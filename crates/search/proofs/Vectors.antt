@@ -1,4 +1,5 @@
--- Theorems about the definitions, by computation: what Idle answers for each rule of the small shop. Assumes nothing.
+-- Theorems about the definitions, by computation: what is shown for rules of the small shop and of two books near it,
+-- and what Idle answers for each rule of the small shop. Assumes nothing.
 use Prim.Native.Nat.{ℕ, _-_}
 use mathlib.Core.Path.{_≡_, refl, _∙_}
 use mathlib.Core.List.{List, [], _∷_, _++_, map}
@@ -19,33 +20,68 @@ use Rattle.book.proofs.Vectors.{shop-passes}
 use Rattle.lineage.specs.Rows.{kindOf, kindAt}
 use Rattle.lineage.specs.Paths.{through, pathsBy, pathsIn, paths, labels, takes, firstOperation, carries}
 use Rattle.lineage.specs.Accesses.{reaches, gives, isAccess}
-use Rattle.verdicts.specs.Accesses.{accessesOf, keep, everyAccess, actionFits, fits, fitting}
+use Rattle.verdicts.specs.Accesses.{Access, accessesOf, keep, everyAccess, actionFits, fits, fitting}
 use Rattle.verdicts.specs.Breaking.{choicesFrom, operations, accepts, refusesAll, someChoiceRefused, breaks}
 use Rattle.search.specs.Obtainable.{labelled, operated, canBeHad}
-use Rattle.search.specs.Choices.{Candidate, choicesOf, weight, choicesByWeight, candidates}
+use Rattle.search.specs.Choices.{Candidate, choicesOf, weight, choicesByWeight, forUsers, candidates}
 use Rattle.search.specs.Shown.{lowest, columnFor, functionFor, columnRow, applyRow, lastRow, rowsOf, accessRows}
 use Rattle.search.specs.Shown.{shownFrom, shownPlan}
 use Rattle.search.specs.Alone.{First, none, shown, breaksAlone, planBreaksAlone, candidateAlone, firstIn, firstAlone}
 use Rattle.search.specs.Answers.{ruleTests, bufferTests, idleTests, idlenessOf, idleAnswer, written, idleBuffer}
 use Rattle.search.specs.declared.Idleness.{Idleness}
+use Rattle.search.proofs.Unaffected.{firstInTurn}
 use Rattle.search.specs.declared.Idleness.the-variants as idleness
 
--- "rule 0 idle", "rule 1 user 1 plan 01020000 04000000", "rule 2 idle"
-pub shop-first :
-    _≡_ {A = List (First Candidate)}
-    (map (firstAlone shop) (0 ∷ 1 ∷ 2 ∷ []))
-    (none
-    ∷ shown (record { user = 1; choice = record { channel = 0; leaf = 4; operation = 0 } ∷ [] })
-    ∷ none
-    ∷ [])
-unfolding all any upTo from has upwardIn upward under leaf covers ownedBy support isUser isDataLeaf supportOf supports
-    coversUser inLeafSet weighted checkSum withCheck sealBytes answered refusedOr sealTests firstFailing padded block users categories columns functions rule
-    rule0 rule1 rule2 shop kindOf kindAt through pathsBy pathsIn paths labels takes firstOperation carries reaches
-    gives isAccess accessesOf flat keep everyAccess actionFits fits fitting choicesFrom operations accepts refusesAll
-    someChoiceRefused breaks labelled operated canBeHad choicesOf weight choicesByWeight candidates lowest columnFor functionFor columnRow
-    applyRow lastRow rowsOf accessRows shownFrom shownPlan breaksAlone planBreaksAlone candidateAlone firstIn
-    firstAlone
-shop-first = refl
+-- Books near the small shop, with two other rules
+
+unfoldable pub two : List ℕ → List ℕ → List ℕ
+two first second = users ++ (categories ++ (columns ++ (functions ++ (first ++ second))))
+
+-- Analyst, projection Address, projection Price, [none, {avg}]; Analyst, projection State, projection Price,
+-- [none, {sum}]
+unfoldable pub averages : List ℕ
+averages =
+    two (rule 2 0 (1 ∷ 1 ∷ []) (4 ∷ 1 ∷ []) [] (0 ∷ 0 ∷ 0 ∷ 2 ∷ []))
+    (rule 2 0 (2 ∷ 1 ∷ []) (4 ∷ 1 ∷ []) [] (0 ∷ 0 ∷ 0 ∷ 4 ∷ []))
+
+-- Analyst, access Price, [{avg}]; Report, access Price, [{sum}]
+unfoldable pub prices : List ℕ
+prices = two rule1 (rule 1 1 (4 ∷ 3 ∷ []) [] [] (0 ∷ 4 ∷ []))
+
+abbrev projected : ℕ → ℕ → Access
+projected d k = record { channel = 0; leaf = d; operation = k }
+
+abbrev user1 : List Access → First Candidate
+user1 choice = shown (record { user = 1; choice = choice })
+
+-- a book, a rule of it, the user and the choice that are shown, and those that document 01's order has first
+unfoldable pub firsts : List (List ℕ × ℕ × First Candidate × First Candidate)
+firsts =
+    -- "rule 0 idle", "rule 1 user 1 plan 01020000 04000000", "rule 2 idle"
+    (shop, 0, none, none)
+    ∷ (shop, 1, user1 (projected 4 0 ∷ []), user1 (projected 4 0 ∷ []))
+    ∷ (shop, 2, none, none)
+    -- City and Price, no longer State and sum(Price)
+    ∷ (averages, 0, user1 (projected 3 0 ∷ projected 4 0 ∷ []), user1 (projected 2 0 ∷ projected 4 2 ∷ []))
+    -- State and avg(Price): nothing lighter breaks it alone
+    ∷ (averages, 1, user1 (projected 2 0 ∷ projected 4 1 ∷ []), user1 (projected 2 0 ∷ projected 4 1 ∷ []))
+    -- sum(Price) of user 1 and not Price of user 2: "Among choices for the same user"
+    ∷ (prices, 0, user1 (projected 4 2 ∷ []), user1 (projected 4 2 ∷ []))
+    ∷ []
+
+pub firsts-shown :
+    _≡_ {A = List (First Candidate × First Candidate)}
+    (map (λ c. (firstAlone (c .0) (c .1), firstInTurn (c .0) (c .1))) firsts)
+    (map (λ c. (c .2, c .3)) firsts)
+unfolding firsts two averages prices all any upTo from has upwardIn upward under leaf covers ownedBy support isUser
+    isDataLeaf supportOf supports coversUser inLeafSet weighted checkSum withCheck sealBytes answered refusedOr
+    sealTests firstFailing padded block users categories columns functions rule rule0 rule1 rule2 shop kindOf kindAt
+    through pathsBy pathsIn paths labels takes firstOperation carries reaches gives isAccess accessesOf flat keep
+    everyAccess actionFits fits fitting choicesFrom operations accepts refusesAll someChoiceRefused breaks labelled
+    operated canBeHad choicesOf weight choicesByWeight forUsers candidates lowest columnFor functionFor columnRow applyRow
+    lastRow rowsOf accessRows shownFrom shownPlan breaksAlone planBreaksAlone candidateAlone firstIn firstAlone
+    firstInTurn
+firsts-shown = refl
 
 -- n bytes to be written over
 abbrev ones : ℕ → List ℕ
@@ -99,7 +135,7 @@ unfolding cases all any upTo from has upwardIn upward under leaf covers ownedBy 
     coversUser inLeafSet weighted checkSum withCheck sealBytes answered refusedOr sealTests firstFailing padded block users categories columns functions rule
     rule0 rule1 rule2 shop kindOf kindAt through pathsBy pathsIn paths labels takes firstOperation carries reaches
     gives isAccess accessesOf flat keep everyAccess actionFits fits fitting choicesFrom operations accepts refusesAll
-    someChoiceRefused breaks labelled operated canBeHad choicesOf weight choicesByWeight candidates lowest columnFor functionFor columnRow
+    someChoiceRefused breaks labelled operated canBeHad choicesOf weight choicesByWeight forUsers candidates lowest columnFor functionFor columnRow
     applyRow lastRow rowsOf accessRows shownFrom shownPlan breaksAlone planBreaksAlone candidateAlone firstIn
     firstAlone ruleTests bufferTests idlenessOf written outcome
 shop-outcomes = refl

@@ -65,8 +65,11 @@ pub record Candidate : Type 0 where
 unfoldable pub candidateBefore : Candidate → Candidate → Bool
 candidateBefore c d = ltb (c .user) (d .user) || (eqb (c .user) (d .user) && lighter (c .choice) (d .choice))
 
+-- each user with each of some choices
+unfoldable pub forUsers : Head → List (List Access) → List Candidate
+forUsers head choices =
+    flat (λ u. map (λ c. record { user = u; choice = c }) choices) (keep (isUser head) (upTo (userCount head)))
+
 -- all of them in this order
 unfoldable pub candidates : Head → Rule → List Candidate
-candidates head rule =
-    flat (λ u. map (λ c. record { user = u; choice = c }) (choicesByWeight head rule))
-    (keep (isUser head) (upTo (userCount head)))
+candidates head rule = forUsers head (choicesByWeight head rule)
