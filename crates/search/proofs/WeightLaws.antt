@@ -421,53 +421,53 @@ unfolding NeedsFirst
 nobody-lighter t r n had covered found e h = rw e (rw e at h)
 
 module _ (t : List ℕ) (r n : ℕ) (had covered : List ℕ) (found : Needs) (u a y x : ℕ) (e : found ≡ User u a y x)
-    (needs : NeedsFirst tripleBefore t r n had covered found) (rules : ℕ)
-    (others : (q : ℕ) → has rules q ≡ (ltb q 32 && othersFor r covered u q)) (sets : Sets)
-    (of : SetsFor t r n had rules sets) (most : ℕ) (count : most ≡ weightAt a y x) where
+    (needs : NeedsFirst tripleBefore t r n had covered found) where
   user-needs : NeedsUser tripleBefore t r n had covered u a y x
   unfolding NeedsFirst
   user-needs = rw e at needs
 
-  same-for : (b z w : ℕ) → solvesAmong t r n rules sets b z w ≡ solvesFor t r n had covered u b z w
-  unfolding solvesFor
-  same-for b z w =
-      let covers =
-      and-left (coversIn covered r u) (solves t r n had (othersFor r covered u) a y x) (user-needs .found .solution) in
-      sym (of b z w) ∙ solves-for t r n had covered u rules others covers b z w
-
   -- none is lighter
   pub fewest-kept :
-      (lighter : FirstPlaces)
-      → lighter ≡ NoPlaces
-      → LightestOf (solvesAmong t r n rules sets) most lighter
+      LightestOf (solvesFor t r n had covered u) (weightAt a y x) NoPlaces
       → NeedsFirst lighterPlaces t r n had covered (User u a y x)
-  unfolding NeedsFirst LightestOf
-  fewest-kept lighter none h =
-      let least = rw none at h in
+  unfolding NeedsFirst
+  fewest-kept none =
       let found = user-needs .found in
       record {
         below = user-needs .below;
         found =
-            light-first (solvesFor t r n had covered u) most a y x (found .solution) (sym count)
-            (λ b z w before equal. found .earliest b z w before)
-            (λ b z w l. sym (same-for b z w) ∙ least b z w l);
+            light-first (solvesFor t r n had covered u) (weightAt a y x) a y x (found .solution) refl
+            (λ b z w before equal. found .earliest b z w before) none;
         users = user-needs .users;
       }
 
-  pub fewest-found :
-      (lighter : FirstPlaces) (b z w : ℕ)
-      → lighter ≡ At b z w
-      → LightestOf (solvesAmong t r n rules sets) most lighter
-      → NeedsFirst lighterPlaces t r n had covered (User u b z w)
-  unfolding NeedsFirst LightestOf
-  fewest-found lighter b z w some h =
-      let light = rw some at h in
-      record {
-        below = user-needs .below;
-        found =
-            record {
-              solution = sym (same-for b z w) ∙ light .solution;
-              earliest = λ c v i before. sym (same-for c v i) ∙ light .earliest c v i before;
-            };
-        users = user-needs .users;
-      }
+  module _ (rules : ℕ) (others : (q : ℕ) → has rules q ≡ (ltb q 32 && othersFor r covered u q)) (sets : Sets)
+      (of : SetsFor t r n had rules sets) (lighter : FirstPlaces)
+      (lightest : LightestOf (solvesAmong t r n rules sets) (weightAt a y x) lighter) where
+    same-for : (b z w : ℕ) → solvesAmong t r n rules sets b z w ≡ solvesFor t r n had covered u b z w
+    unfolding solvesFor
+    same-for b z w =
+        let covers =
+        and-left (coversIn covered r u) (solves t r n had (othersFor r covered u) a y x) (user-needs .found .solution) in
+        sym (of b z w) ∙ solves-for t r n had covered u rules others covers b z w
+
+    pub fewest-none : lighter ≡ NoPlaces → NeedsFirst lighterPlaces t r n had covered (User u a y x)
+    unfolding LightestOf
+    fewest-none none =
+        let least = rw none at lightest in
+        fewest-kept (λ b z w l. sym (same-for b z w) ∙ least b z w l)
+
+    pub fewest-found :
+        (b z w : ℕ) → lighter ≡ At b z w → NeedsFirst lighterPlaces t r n had covered (User u b z w)
+    unfolding NeedsFirst LightestOf
+    fewest-found b z w some =
+        let light = rw some at lightest in
+        record {
+          below = user-needs .below;
+          found =
+              record {
+                solution = sym (same-for b z w) ∙ light .solution;
+                earliest = λ c v i before. sym (same-for c v i) ∙ light .earliest c v i before;
+              };
+          users = user-needs .users;
+        }

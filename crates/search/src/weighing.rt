@@ -9,13 +9,10 @@ use crate::sifting::Remaining;
 use crate::users::Needs;
 use crate::users::others;
 ghost use mathlib.Core.Path.{_≡_};
-ghost use mathlib.Core.Bool.{_&&_};
-ghost use Prim.Native.Nat.{ℕ, _%_, _≤_};
-ghost use lib.Dec.{eqb};
-ghost use Rattle.search.specs.Inner.Places.{inPlaces};
+ghost use Prim.Native.Nat.{_≤_};
 ghost use Rattle.search.specs.Inner.Search.{NeedsFirst, tripleBefore};
-ghost use Rattle.search.specs.Inner.Weight.{functionsAt, weightAt, patternAt, lighterPlaces};
-ghost use Rattle.search.specs.Inner.Weight.{solvesAmong, SetsFor, Earlier, FirstOf, LightestOf};
+ghost use Rattle.search.specs.Inner.Weight.{functionsAt, lighterPlaces, solvesAmong, PartOf, SetsFor, Earlier};
+ghost use Rattle.search.specs.Inner.Weight.{FirstOfPattern, FirstOfWeight, LightestOf};
 
 // The first three places of some kind, or that there are none.
 pub enum FirstPlaces {
@@ -36,8 +33,8 @@ pub struct Sets {
     pub last: u8,
 }
 
-// The bits of a word that stand for operation 0, and for an absent reference.
-const RAW: u64 = 281479271743489;
+// The bits of a word of places with operation 0, that of an absent reference among them.
+const RAW: u64 = 0x0001000100010001;
 
 // The functions of the access at a place.
 fn functions_at(p: usize) -> usize
@@ -49,20 +46,20 @@ fn functions_at(p: usize) -> usize
     1
 }
 
-// The places of a set with a function, or those without.
-fn part(set: [u64; 33], functions: u8) -> [u64; 33]
-    ensures { λ s. ⌜ ((p : ℕ) → inPlaces s p ≡ (inPlaces set p && eqb (functionsAt p) (functions % 2))) ⌝ }
+// The places of a set with a function where a pattern's lowest bit is set, or else those without.
+fn part(set: [u64; 33], pattern: u8) -> [u64; 33]
+    ensures { λ s. ⌜ PartOf set pattern s ⌝ }
 {
-    if functions % 2 == 0 {
+    if pattern % 2 == 0 {
         return without_operations(set, !RAW);
     }
     without_operations(set, RAW)
 }
 
-// The first three places of which those take a function that a pattern says.
+// The first three places with functions as a pattern says: bit 2 for the first, 1 for the second, 0
+// for the third.
 fn of_pattern(t: &[u64], r: u8, n: u8, rules: u64, sets: Sets, pattern: u8) -> FirstPlaces
-    ensures { λ f. ⌜ (pattern ≤ 7 → FirstOf (λ a y x. solvesAmong (now (t .entry)) r n rules sets a y x
-        && eqb (patternAt a y x) pattern) f) ⌝ }
+    ensures { λ f. ⌜ FirstOfPattern (now (t .entry)) r n rules sets pattern f ⌝ }
 {
     let firsts = sets.firsts;
     let seconds = sets.seconds;
@@ -130,8 +127,7 @@ fn earlier(one: FirstPlaces, other: FirstPlaces) -> FirstPlaces
 
 // The first three places with so many functions.
 fn of_weight(t: &[u64], r: u8, n: u8, rules: u64, sets: Sets, weight: usize) -> FirstPlaces
-    ensures { λ f. ⌜ FirstOf (λ a y x. solvesAmong (now (t .entry)) r n rules sets a y x
-        && eqb (weightAt a y x) weight) f ⌝ }
+    ensures { λ f. ⌜ FirstOfWeight (now (t .entry)) r n rules sets weight f ⌝ }
 {
     let mut found = FirstPlaces::NoPlaces;
     for pattern in 0..8u8 {
@@ -150,20 +146,9 @@ fn lightest(t: &[u64], r: u8, n: u8, rules: u64, sets: Sets, most: usize) -> Fir
 {
     for weight in 0..most {
         let found = of_weight(t, r, n, rules, sets, weight);
-        match found {
-            FirstPlaces::NoPlaces => {}
-            FirstPlaces::At {
-                first,
-                second,
-                third,
-            } => {
-                return FirstPlaces::At {
-                    first,
-                    second,
-                    third,
-                };
-            }
-        }
+        let FirstPlaces::NoPlaces = found else {
+            return found;
+        };
     }
     FirstPlaces::NoPlaces
 }
@@ -200,9 +185,12 @@ pub fn fewest(t: &[u64], r: u8, n: u8, had: [u64; 32], covered: [u64; 32], found
     else {
         return found;
     };
+    let functions = functions_at(first) + (functions_at(second) + functions_at(third));
+    if functions == 0 {
+        return found;
+    }
     let rules = others(covered, r, user);
     let sets = candidate_sets(t, r, n, had, rules);
-    let functions = functions_at(first) + (functions_at(second) + functions_at(third));
     let lighter = lightest(t, r, n, rules, sets, functions);
     match lighter {
         FirstPlaces::NoPlaces => found,

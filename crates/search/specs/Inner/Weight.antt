@@ -1,10 +1,11 @@
 -- Choices by the number of their functions, in the tables' terms. No call's promise leans on this file. Assumes nothing.
-use Prim.Native.Nat.{ℕ, _+_, _*_, _/_, _%_, _<_}
+use Prim.Native.Nat.{ℕ, _+_, _*_, _/_, _%_, _≤_, _<_}
 use mathlib.Core.Path.{_≡_}
 use mathlib.Core.Bool.{Bool, true, false, _&&_, _||_, cond}
 use mathlib.Core.List.{List}
 use lib.Dec.{eqb, ltb}
 use Rattle.book.specs.Sets.{has}
+use Rattle.search.specs.Inner.Places.{inPlaces}
 use Rattle.search.specs.Inner.Search.{Earliest, Solved, solves, solvesIn, tripleBefore}
 use Rattle.search.specs.declared.weighing.FirstPlaces.{FirstPlaces}
 use Rattle.search.specs.declared.weighing.FirstPlaces.the-variants.{NoPlaces, At}
@@ -31,11 +32,16 @@ patternAt a y x = 4 * functionsAt a + (2 * functionsAt y + functionsAt x)
 abbrev pub patternWeight : ℕ → ℕ
 patternWeight k = k / 4 % 2 + (k / 2 % 2 + k % 2)
 
--- three places in three sets that break r and no rule
+-- the places of a set with a function where a pattern's lowest bit is set, or else those without
+abbrev pub PartOf : List ℕ → ℕ → List ℕ → Type 0
+PartOf set pattern part =
+    (p : ℕ) → inPlaces part p ≡ (inPlaces set p && eqb (functionsAt p) (pattern % 2))
+
+-- three places in three sets break r and no rule of a set
 unfoldable pub solvesAmong : List ℕ → ℕ → ℕ → ℕ → Sets → ℕ → ℕ → ℕ → Bool
 solvesAmong t r n rules sets = solvesIn t r n (sets .firsts) (sets .seconds) (sets .thirds) (has rules)
 
--- the sets hold the places that can be chosen for each reference, less what breaks a rule by itself
+-- they do so as they do among all candidates
 abbrev pub SetsFor : List ℕ → ℕ → ℕ → List ℕ → ℕ → Sets → Type 0
 SetsFor t r n had rules sets =
     (a y x : ℕ) → solves t r n had (has rules) a y x ≡ solvesAmong t r n rules sets a y x
@@ -44,6 +50,16 @@ SetsFor t r n had rules sets =
 unfoldable pub FirstOf : (ℕ → ℕ → ℕ → Bool) → FirstPlaces → Type 0
 FirstOf test NoPlaces = (a y x : ℕ) → test a y x ≡ false
 FirstOf test (At a y x) = Solved test a y x
+
+-- of those with a pattern
+abbrev pub FirstOfPattern : List ℕ → ℕ → ℕ → ℕ → Sets → ℕ → FirstPlaces → Type 0
+FirstOfPattern t r n rules sets pattern found =
+    pattern ≤ 7 → FirstOf (λ a y x. solvesAmong t r n rules sets a y x && eqb (patternAt a y x) pattern) found
+
+-- of those with so many functions
+abbrev pub FirstOfWeight : List ℕ → ℕ → ℕ → ℕ → Sets → ℕ → FirstPlaces → Type 0
+FirstOfWeight t r n rules sets weight =
+    FirstOf (λ a y x. solvesAmong t r n rules sets a y x && eqb (weightAt a y x) weight)
 
 -- the earlier of two answers to two tests answers both
 abbrev pub Earlier : FirstPlaces → FirstPlaces → FirstPlaces → Type 0

@@ -22,12 +22,13 @@ loop-holds c =
 returns : tie.Need-returns Inv-loop μ-loop
 unfolding LightestOf
 returns c =
-    let a = c .before .before .before .before .before .before .before .args in
-    let loop = c .before .before .before .before .before .loop in
-    let found = c .before .before .before .of-weight in
-    let told = c .before .found .given in
-    lightest-found (solvesAmong (a .t .now) (a .r) (a .n) (a .rules) (a .sets)) (loop .weight) (told .0 .0)
-    (told .0 .1 .0) (told .0 .1 .1 .0) (rw (told .1) at (found .ensures)) (loop .inv)
+    let a = c .before .before .before .before .before .before .args in
+    let loop = c .before .before .before .before .loop in
+    let found = c .before .before .of-weight in
+    let told = c .enum-told2 .given in
+    rw (told .1)
+    (lightest-found (solvesAmong (a .t .now) (a .r) (a .n) (a .rules) (a .sets)) (loop .weight) (told .0 .0)
+    (told .0 .1 .0) (told .0 .1 .1 .0) (rw (told .1) at (found .ensures)) (loop .inv))
 
 loop-again : tie.Need-loop-again Inv-loop μ-loop
 loop-again c =

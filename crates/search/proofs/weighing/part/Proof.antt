@@ -18,7 +18,7 @@ returns-2 : tie.Need-returns-2
 returns-2 c =
     let a = c .before .before .args in
     let other = c .before .if1 .left in
-    let e : a .functions % 2 ≡ 1 = omega arith in
+    let e : a .pattern % 2 ≡ 1 = omega arith in
     rw e
     (parted-by (a .set) (c .without-operations2 .result) 281479271743489 1 (search needs) (search needs) raw-out
     (c .without-operations2 .ensures))
