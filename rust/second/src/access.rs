@@ -25,3 +25,10 @@ pub struct Access {
     /// The operation of the path, 0 for none.
     pub operation: Operation,
 }
+
+impl Access {
+    /// Is its operation 0? A plan for it then needs no function.
+    pub fn is_raw(&self) -> bool {
+        self.operation == 0
+    }
+}

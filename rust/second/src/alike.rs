@@ -2,7 +2,7 @@
 //!
 //! A rule sees of an access which reference it fits and which restrictions take its operation,
 //! nothing else. Two accesses seen alike by every rule can stand for each other in any set, so of
-//! all that are alike the first is enough for a search that wants the first choice.
+//! all that are alike one is enough: that which comes first in the order of the search.
 
 use crate::access::Access;
 use crate::rule::Rule;
