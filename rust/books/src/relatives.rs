@@ -1,7 +1,7 @@
-//! Rules made from a rule: equal to it, stronger, weaker, several that cover it together, or several
-//! that can't all be kept with it.
+//! Rules made from a rule: equal to it, stronger, weaker, several that cover it together, several that
+//! can't all be kept with it, or some that stop a part of its data where they are raw.
 
-use crate::draft::{below, Draft, Reference, Rule};
+use crate::draft::{below, leaves, under, Draft, Reference, Rule};
 use crate::random::Random;
 
 /// One or more relatives of a rule, all sound where the rule is.
@@ -219,6 +219,56 @@ fn deal_out(random: &mut Random, draft: &Draft, rule: &Rule) -> Vec<Rule> {
         }
     };
     shares.into_iter().map(without).collect()
+}
+
+/// The rule with few restrictions and any action, and rules that stop some of its data where they are
+/// raw, mostly what comes first in order. A choice that breaks it alone has functions there, and needs
+/// none where data stay raw.
+pub fn raw_stopped(random: &mut Random, draft: &Draft, rule: &Rule) -> Vec<Rule> {
+    let mut wide = rule.clone();
+    wide.restrictions.truncate(random.below(2));
+    wide.references.iter_mut().for_each(|of| of.action = 3);
+    let belongs = |k: &u16| draft.functions.contains(&(*k as u8));
+    let had: u16 = (1..16).filter(belongs).map(|k| 1 << k).sum();
+    let mut rules = Vec::new();
+    for place in 0..wide.references.len() {
+        let part = early_part(random, draft, &keep(&wide, &[place]));
+        let applied = draft.supported(part.references[0].category) & had;
+        if applied != 0 && random.chance(3, 4) {
+            rules.push(Rule {
+                restrictions: vec![[applied, 0, 0]],
+                ..part
+            });
+        }
+    }
+    rules.push(wide);
+    rules
+}
+
+/// The rule of one reference with its lowest leaf, without its highest, with projections or with some
+/// users alone.
+fn early_part(random: &mut Random, draft: &Draft, rule: &Rule) -> Rule {
+    let mut part = rule.clone();
+    let of = &mut part.references[0];
+    let mut carried = draft.leaves_of(of);
+    carried.retain(|leaf| draft.columns.contains(leaf));
+    match (random.below(5), carried.first(), carried.last()) {
+        (0, Some(&low), Some(&high)) if low < high => {
+            of.category = low;
+            of.excluded.clear();
+        }
+        (1, Some(&low), Some(&high)) if low < high && of.excluded.len() < 8 => {
+            of.excluded.push(high);
+        }
+        (2, ..) => {
+            let mut users = leaves(&draft.users).into_iter();
+            let low = users.find(|&user| under(&draft.users, user, rule.user));
+            part.user = low.unwrap_or(rule.user);
+            part.excluded.clear();
+        }
+        _ => of.action = 1,
+    }
+    part
 }
 
 /// One rule without a lower category, one with it alone.

@@ -25,27 +25,32 @@ fn accesses_by_paths_and_by_rows() {
     assert!(compared > 1_000, "only {compared} accesses compared");
 }
 
-/// Compares two searches for every rule of so many random books that has few choices: how often they
-/// find something, and how often nothing.
+/// Tries every rule of so many random books that has few choices.
+fn each_rule(seed: u64, books: usize, mut try_rule: impl FnMut(&Book, usize)) {
+    let mut random = Random::new(seed);
+    for _ in 0..books {
+        let draft = draft(&mut random, Size::Tiny);
+        let book = reading::read(&draft.bytes()).expect("the draft is sound");
+        let few = |&rule: &usize| idle::choices(&book, rule) <= 2_000;
+        let rules = (0..book.rules.len()).filter(few);
+        rules.for_each(|rule| try_rule(&book, rule));
+    }
+}
+
+/// Compares two searches: how often they find something, and how often nothing.
 fn compared<T: PartialEq + Debug>(
     seed: u64,
     books: usize,
     naive: impl Fn(&Book, usize) -> Option<T>,
     within: impl Fn(&Book, usize, u64) -> Option<Option<T>>,
 ) -> [usize; 2] {
-    let mut random = Random::new(seed);
     let [mut found, mut none] = [0, 0];
-    for _ in 0..books {
-        let draft = draft(&mut random, Size::Tiny);
-        let book = reading::read(&draft.bytes()).expect("the draft is sound");
-        let few = |&rule: &usize| idle::choices(&book, rule) <= 2_000;
-        for rule in (0..book.rules.len()).filter(few) {
-            let naive = naive(&book, rule);
-            found += usize::from(naive.is_some());
-            none += usize::from(naive.is_none());
-            assert_eq!(within(&book, rule, u64::MAX), Some(naive));
-        }
-    }
+    each_rule(seed, books, |book, rule| {
+        let naive = naive(book, rule);
+        found += usize::from(naive.is_some());
+        none += usize::from(naive.is_none());
+        assert_eq!(within(book, rule, u64::MAX), Some(naive));
+    });
     [found, none]
 }
 
@@ -53,6 +58,56 @@ fn compared<T: PartialEq + Debug>(
 fn idle_naive_and_pruned() {
     let [needed, idle] = compared(12, 600, idle::naive, idle::within);
     assert!(needed > 100 && idle > 100, "{needed} needed, {idle} idle");
+}
+
+/// The choices for a user that break a rule alone, in document 01's order.
+fn alone(book: &Book, rule: usize, user: usize) -> Vec<Vec<Access>> {
+    let candidates = choice::fitting(&book.rules[rule], &book.obtainable());
+    let mut found = Vec::new();
+    choice::first(&candidates, &mut |choice: &[Access]| {
+        let accesses = choice.iter().copied().collect();
+        if breaking::breaks_alone(book, user, rule, &accesses) {
+            found.push(choice.to_vec());
+        }
+        false
+    });
+    found
+}
+
+/// What was shown before document 02's N2: the first choice in document 01's order alone.
+fn shown_before(book: &Book, rule: usize) -> idle::Found {
+    let mut users = book.users.leaves().into_iter();
+    users.find_map(|user| {
+        let first = alone(book, rule, user).into_iter().next();
+        first.map(|choice| (user, choice))
+    })
+}
+
+/// "Which rules are idle is unaffected", nor is the user; the plan is another where one with fewer
+/// functions comes later in document 01's order. "Equal ones fall back to document 01's order."
+#[test]
+fn idle_in_both_orders() {
+    let [mut idle, mut needed, mut changed, mut ties] = [0; 4];
+    each_rule(15, 1_500, |book, rule| {
+        let before = shown_before(book, rule);
+        let now = idle::naive(book, rule);
+        assert_eq!(before.is_some(), now.is_some());
+        let (Some((user, first)), Some((same_user, choice))) = (before, now) else {
+            idle += 1;
+            return;
+        };
+        assert_eq!(user, same_user);
+        needed += 1;
+        let fewest = idle::functions(&choice);
+        assert_eq!(fewest < idle::functions(&first), choice != first);
+        changed += usize::from(choice != first);
+        let mut equal = alone(book, rule, user);
+        equal.retain(|other| idle::functions(other) <= fewest);
+        assert_eq!(equal[0], choice);
+        ties += usize::from(choice != first && equal.len() > 1);
+    });
+    println!("{idle} idle, {needed} needed, {changed} with another plan, {ties} one of several");
+    assert!(idle > 100 && changed > 50 && ties > 20);
 }
 
 /// A rule has as many choices of operations here as it has choices for Idle.
