@@ -1,7 +1,7 @@
 //! Tries one engine against another on random books.
 
 use against::engine::{by_name, USUAL};
-use against::run::compare;
+use against::run::{compare, try_case};
 use against::{run, text, Engine, Limit, Tally};
 use std::io::{self, IsTerminal, Write};
 use std::process::ExitCode;
@@ -79,6 +79,8 @@ fn replay(engines: [&dyn Engine; 2], file: &str) -> Result<String, String> {
     let read = std::fs::read_to_string(file).map_err(|e| format!("{file}: {e}"))?;
     let case = text::read(&read)?;
     let answers = compare(engines, &case).map_err(|difference| difference.to_string())?;
+    // Both may say what the documents rule out.
+    try_case(engines, &case, &mut Tally::default()).map_err(|difference| difference.to_string())?;
     let line = |i: usize| format!("{}: {}", engines[i].name(), answers[i]);
     Ok(format!("{}\n{}", line(0), line(1)))
 }

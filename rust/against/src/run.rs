@@ -85,7 +85,7 @@ pub fn run(
 
 /// Compares a case. Then what Idle shows is judged, and what Blocked says is closed; and a rule that a
 /// plan breaks alone is asked for.
-fn try_case(
+pub fn try_case(
     engines: [&dyn Engine; 2],
     case: &Case,
     tally: &mut Tally,

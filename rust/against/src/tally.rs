@@ -4,6 +4,9 @@ use crate::answer::Answer;
 use crate::engine::unpacked;
 use books::draft::BLOCK;
 use books::Case;
+use second::access::Access;
+use second::breaking::breaks_alone;
+use second::{choice, idle, reading, shown};
 use std::collections::BTreeMap;
 use std::fmt;
 
@@ -26,6 +29,8 @@ pub struct Tally {
     pub blocked_refusals: BTreeMap<u32, u64>,
     /// Rules that are not idle.
     pub needed: u64,
+    /// Of these, those whose plan has fewer functions than the first in document 01's order.
+    pub fewer_functions: u64,
     /// Rules that are idle.
     pub idle: u64,
     /// Of the idle ones, those that are idle in a book without other rules.
@@ -63,7 +68,7 @@ impl Tally {
         *self.calls.entry(call(case)).or_default() += 1;
         match answer {
             Answer::Refused(refusal) => self.count_refusal(case, refusal.number),
-            Answer::Needed(..) => self.needed += 1,
+            Answer::Needed(user, rows) => self.count_needed(case, user, rows),
             Answer::Broken(mask) if mask != 0 => self.broken += 1,
             Answer::GaveUp => self.given_up += 1,
             Answer::Idle => self.count_idle(case),
@@ -78,6 +83,15 @@ impl Tally {
         *self.refusals.entry(number).or_default() += 1;
         if let Case::Blocked { .. } = case {
             *self.blocked_refusals.entry(number).or_default() += 1;
+        }
+    }
+
+    fn count_needed(&mut self, case: &Case, user: u32, rows: u32) {
+        self.needed += 1;
+        if let Case::Idle { book, rule, .. } = case {
+            let before = rows_before(book, *rule as usize, user as usize);
+            let fewer = before.is_some_and(|before| (rows as usize) < before);
+            self.fewer_functions += u64::from(fewer);
         }
     }
 
@@ -121,6 +135,24 @@ fn call(case: &Case) -> &'static str {
         Case::Idle { .. } => "idle",
         Case::Blocked { .. } => "blocked",
     }
+}
+
+/// Choices for a user above which document 01's order is not gone through.
+const TRIED: u128 = 20_000;
+
+/// The rows of the plan that comes first in document 01's order alone, without document 02's N2.
+fn rows_before(book: &[u8], rule: usize, user: usize) -> Option<usize> {
+    let book = reading::read(book).ok()?;
+    if idle::choices(&book, rule) > TRIED {
+        return None;
+    }
+    let candidates = choice::fitting(&book.rules[rule], &book.obtainable());
+    let mut alone = |choice: &[Access]| {
+        let accesses = choice.iter().copied().collect();
+        breaks_alone(&book, user, rule, &accesses)
+    };
+    let first = choice::first(&candidates, &mut alone)?;
+    Some(shown::plan(&book, &first).len())
 }
 
 /// Why an idle rule is idle.
@@ -177,8 +209,14 @@ impl fmt::Display for Tally {
         writeln!(f, "\nplans that break a rule: {}", self.broken)?;
         write!(
             f,
-            "rules: {} needed, {} idle ({} on their own, {} by one other, {} only by several others)",
-            self.needed, self.idle, self.idle_alone, self.covered_by_one, self.covered_by_several
+            "rules: {} needed ({} with fewer functions than document 01's order shows), \
+             {} idle ({} on their own, {} by one other, {} only by several others)",
+            self.needed,
+            self.fewer_functions,
+            self.idle,
+            self.idle_alone,
+            self.covered_by_one,
+            self.covered_by_several
         )?;
         let [one, two, three] = self.closed;
         write!(

@@ -21,6 +21,7 @@ fn no_difference_and_everything_reached() {
     assert_eq!(tally.not_reached(), [0; 0], "{tally}");
     let reached = [
         tally.needed,
+        tally.fewer_functions,
         tally.idle_alone,
         tally.covered_by_one,
         tally.covered_by_several,

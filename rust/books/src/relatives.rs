@@ -228,21 +228,38 @@ pub fn raw_stopped(random: &mut Random, draft: &Draft, rule: &Rule) -> Vec<Rule>
     let mut wide = rule.clone();
     wide.restrictions.truncate(random.below(2));
     wide.references.iter_mut().for_each(|of| of.action = 3);
-    let belongs = |k: &u16| draft.functions.contains(&(*k as u8));
-    let had: u16 = (1..16).filter(belongs).map(|k| 1 << k).sum();
     let mut rules = Vec::new();
     for place in 0..wide.references.len() {
         let part = early_part(random, draft, &keep(&wide, &[place]));
-        let applied = draft.supported(part.references[0].category) & had;
-        if applied != 0 && random.chance(3, 4) {
-            rules.push(Rule {
-                restrictions: vec![[applied, 0, 0]],
-                ..part
-            });
+        if random.chance(3, 4) {
+            rules.push(some_applied(draft, &part));
         }
     }
+    if wide.references.len() > 1 && random.chance(1, 2) {
+        let mut two: Vec<usize> = (0..wide.references.len()).collect();
+        random.shuffle(&mut two);
+        rules.push(some_applied(draft, &keep(&wide, &two[..2])));
+    }
+    // Where no operation can be had, such a rule forbids.
+    rules.retain(|rule| !rule.restrictions.is_empty());
     rules.push(wide);
     rules
+}
+
+/// The rule with restrictions that accept when any operation is applied to one of its data.
+fn some_applied(draft: &Draft, rule: &Rule) -> Rule {
+    let belongs = |k: &u16| draft.functions.contains(&(*k as u8));
+    let had: u16 = (1..16).filter(belongs).map(|k| 1 << k).sum();
+    let applied = |place: usize| {
+        let mut masks = [0; 3];
+        masks[place] = draft.supported(rule.references[place].category) & had;
+        masks
+    };
+    let each = (0..rule.references.len()).map(applied);
+    Rule {
+        restrictions: each.filter(|masks| *masks != [0; 3]).collect(),
+        ..rule.clone()
+    }
 }
 
 /// The rule of one reference with its lowest leaf, without its highest, with projections or with some

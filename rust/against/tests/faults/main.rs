@@ -3,9 +3,10 @@
 
 mod base;
 mod blocked;
+mod order;
 
 use against::engine::{Search, Second, STEPS};
-use against::run::compare;
+use against::run::try_case;
 use against::{run, text, Engine, Limit, Tally};
 use std::fmt::Debug;
 
@@ -24,10 +25,8 @@ fn is_found_and_shown_again(fault: impl Engine + Debug) {
     println!("{fault:?} found after {cases} cases");
     let again = text::read(&difference.to_string()).expect("it can be read");
     assert_eq!(again, difference.case);
-    assert!(
-        compare(engines, &again).is_err(),
-        "{fault:?} not seen again"
-    );
+    let seen = try_case(engines, &again, &mut Tally::default());
+    assert!(seen.is_err(), "{fault:?} not seen again");
 }
 
 #[test]
@@ -40,4 +39,9 @@ fn each_fault_of_blocked_is_found_and_shown_again() {
     blocked::FAULTS
         .into_iter()
         .for_each(is_found_and_shown_again);
+}
+
+#[test]
+fn each_fault_of_the_order_is_found_and_shown_again() {
+    order::FAULTS.into_iter().for_each(is_found_and_shown_again);
 }

@@ -1,0 +1,147 @@
+//! Faults of the order in which Idle takes its choices (document 02, N2).
+
+use crate::GOOD;
+use against::engine::{Blocking, Idleness};
+use against::Engine;
+use second::access::Access;
+use second::book::Book;
+use second::idle::functions;
+use second::{breaking, choice, idle, reading, shown, Refusal};
+use std::collections::BTreeSet;
+
+#[derive(Clone, Copy, Debug, PartialEq, Eq)]
+pub enum Fault {
+    /// Document 01's order; the same if each access counts, raw or not.
+    FunctionsDoNotCount,
+    FunctionsBeforeUsers,
+    LastOfTheEqual,
+    RawAccessesCount,
+    OneFunctionCountsAsMany,
+    EachOperationCountsOnce,
+    OperationNumbersAreAdded,
+    RawFirstForEachReference,
+    ProjectionsAloneCount,
+}
+
+pub const FAULTS: [Fault; 9] = [
+    Fault::FunctionsDoNotCount,
+    Fault::FunctionsBeforeUsers,
+    Fault::LastOfTheEqual,
+    Fault::RawAccessesCount,
+    Fault::OneFunctionCountsAsMany,
+    Fault::EachOperationCountsOnce,
+    Fault::OperationNumbersAreAdded,
+    Fault::RawFirstForEachReference,
+    Fault::ProjectionsAloneCount,
+];
+
+/// A user and a choice.
+type One = (usize, Vec<Access>);
+
+impl Engine for Fault {
+    fn name(&self) -> &'static str {
+        "faulty"
+    }
+
+    fn check(&self, book: &[u8]) -> Result<u32, Refusal> {
+        GOOD.check(book)
+    }
+
+    fn seal(&self, block: &mut [u8]) -> Result<(), Refusal> {
+        GOOD.seal(block)
+    }
+
+    fn flows(&self, book: &[u8], plan: &[u8], words: &mut [u64]) -> Result<(), Refusal> {
+        GOOD.flows(book, plan, words)
+    }
+
+    fn judge(&self, book: &[u8], user: u32, plan: &[u8]) -> Result<u32, Refusal> {
+        GOOD.judge(book, user, plan)
+    }
+
+    fn idle(&self, book: &[u8], rule: u32, buffer: &mut [u8]) -> Idleness {
+        let before = buffer.to_vec();
+        let answer = GOOD.idle(book, rule, buffer)?;
+        let Ok(Some(_)) = answer else {
+            return Some(answer);
+        };
+        let book = reading::read(book).expect("it is accepted");
+        let Some((user, choice)) = self.first(alone(&book, rule as usize)) else {
+            return Some(answer);
+        };
+        let rows = shown::plan(&book, &choice);
+        let plan = shown::bytes(&rows);
+        buffer.copy_from_slice(&before);
+        buffer[..plan.len()].copy_from_slice(&plan);
+        Some(Ok(Some((user as u32, rows.len() as u32))))
+    }
+
+    fn blocked(&self, book: &[u8], rule: u32) -> Blocking {
+        GOOD.blocked(book, rule)
+    }
+}
+
+impl Fault {
+    /// What the fault takes for the first, of users and choices in document 01's order. Of equal ones
+    /// `min_by_key` gives the first.
+    fn first(&self, all: Vec<One>) -> Option<One> {
+        let user = all.first()?.0;
+        let of_user = || all.iter().filter(|one| one.0 == user);
+        let first = match self {
+            Fault::FunctionsDoNotCount => of_user().next(),
+            Fault::FunctionsBeforeUsers => all.iter().min_by_key(|one| functions(&one.1)),
+            Fault::LastOfTheEqual => of_user().rev().min_by_key(|one| functions(&one.1)),
+            Fault::RawFirstForEachReference => of_user().min_by_key(|one| raw_first(&one.1)),
+            _ => of_user().min_by_key(|one| self.weight(&one.1)),
+        };
+        first.cloned()
+    }
+
+    /// What the fault counts instead of the functions of a choice.
+    fn weight(&self, choice: &[Access]) -> usize {
+        let all = functions(choice);
+        let operations = choice.iter().map(|access| usize::from(access.operation));
+        match self {
+            Fault::RawAccessesCount => choice.len() - all,
+            Fault::OneFunctionCountsAsMany => all.min(1),
+            Fault::EachOperationCountsOnce => {
+                let applied = operations.filter(|&operation| operation != 0);
+                applied.collect::<BTreeSet<_>>().len()
+            }
+            Fault::OperationNumbersAreAdded => operations.sum(),
+            Fault::ProjectionsAloneCount => {
+                let projection = second::access::Action::Projection;
+                let put_out = choice.iter().filter(|access| access.action == projection);
+                put_out.filter(|access| !access.is_raw()).count()
+            }
+            _ => all,
+        }
+    }
+}
+
+/// The key of an order that goes reference by reference throughout, in each from raw accesses to others.
+fn raw_first(choice: &[Access]) -> Vec<(bool, Access)> {
+    let key = |access: &Access| (!access.is_raw(), *access);
+    choice.iter().map(key).collect()
+}
+
+/// Every user and choice that break a rule alone, in document 01's order; none where there are many to
+/// try.
+fn alone(book: &Book, rule: usize) -> Vec<One> {
+    let mut found = Vec::new();
+    let users = book.users.leaves();
+    if users.len() as u128 * idle::choices(book, rule) > 5_000 {
+        return found;
+    }
+    let candidates = choice::fitting(&book.rules[rule], &book.obtainable());
+    for user in users {
+        choice::first(&candidates, &mut |choice: &[Access]| {
+            let accesses = choice.iter().copied().collect();
+            if breaking::breaks_alone(book, user, rule, &accesses) {
+                found.push((user, choice.to_vec()));
+            }
+            false
+        });
+    }
+    found
+}
