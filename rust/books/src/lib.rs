@@ -16,6 +16,7 @@ pub mod case;
 pub mod change;
 pub mod draft;
 pub mod named;
+pub mod needed;
 pub mod plans;
 pub mod random;
 pub mod relatives;

@@ -4,7 +4,7 @@ use crate::draft::{below, Draft, Reference, Rule};
 use crate::random::Random;
 
 /// Projection, and either action.
-const PROJECTION: u8 = 1;
+pub(crate) const PROJECTION: u8 = 1;
 pub(crate) const ACCESS: u8 = 3;
 
 /// All operations, 1 to 15.

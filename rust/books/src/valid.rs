@@ -134,7 +134,7 @@ fn functions(random: &mut Random, alphabet: &[u8], most: usize) -> Vec<u8> {
 /// others together, many have data that stay closed, and some are broken alone by raw data only late
 /// in the order.
 fn rules(random: &mut Random, draft: &Draft, most: usize) -> Vec<Rule> {
-    let n = up_to(random, 0, most);
+    let mut n = up_to(random, 0, most);
     let mut rules: Vec<Rule> = Vec::new();
     if random.chance(1, 3) {
         let whole = rule(random, draft);
@@ -146,12 +146,12 @@ fn rules(random: &mut Random, draft: &Draft, most: usize) -> Vec<Rule> {
         rules.extend(relatives::opposed(random, draft, &of));
         rules.push(of);
     }
-    if random.chance(1, 3) {
+    if random.chance(1, 4) {
         let of = rule(random, draft);
         rules.extend(relatives::raw_stopped(random, draft, &of));
+        // What belongs together stays together where there is room.
+        n = n.max(rules.len()).min(most);
     }
-    // What belongs together stays together where there is room.
-    let n = n.max(rules.len()).min(most);
     while rules.len() < n {
         if rules.is_empty() || random.chance(1, 2) {
             rules.push(rule(random, draft));

@@ -88,7 +88,7 @@ fn shown_before(book: &Book, rule: usize) -> idle::Found {
 #[test]
 fn idle_in_both_orders() {
     let [mut idle, mut needed, mut changed, mut ties] = [0; 4];
-    each_rule(15, 1_500, |book, rule| {
+    each_rule(15, 3_000, |book, rule| {
         let before = shown_before(book, rule);
         let now = idle::naive(book, rule);
         assert_eq!(before.is_some(), now.is_some());

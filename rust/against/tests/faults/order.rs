@@ -3,7 +3,7 @@
 use crate::GOOD;
 use against::engine::{Blocking, Idleness};
 use against::Engine;
-use second::access::Access;
+use second::access::{Access, Action};
 use second::book::Book;
 use second::idle::functions;
 use second::{breaking, choice, idle, reading, shown, Refusal};
@@ -18,19 +18,17 @@ pub enum Fault {
     RawAccessesCount,
     OneFunctionCountsAsMany,
     EachOperationCountsOnce,
-    OperationNumbersAreAdded,
     RawFirstForEachReference,
     ProjectionsAloneCount,
 }
 
-pub const FAULTS: [Fault; 9] = [
+pub const FAULTS: [Fault; 8] = [
     Fault::FunctionsDoNotCount,
     Fault::FunctionsBeforeUsers,
     Fault::LastOfTheEqual,
     Fault::RawAccessesCount,
     Fault::OneFunctionCountsAsMany,
     Fault::EachOperationCountsOnce,
-    Fault::OperationNumbersAreAdded,
     Fault::RawFirstForEachReference,
     Fault::ProjectionsAloneCount,
 ];
@@ -99,22 +97,19 @@ impl Fault {
 
     /// What the fault counts instead of the functions of a choice.
     fn weight(&self, choice: &[Access]) -> usize {
-        let all = functions(choice);
-        let operations = choice.iter().map(|access| usize::from(access.operation));
+        let applied = choice.iter().filter(|access| !access.is_raw());
         match self {
-            Fault::RawAccessesCount => choice.len() - all,
-            Fault::OneFunctionCountsAsMany => all.min(1),
+            Fault::RawAccessesCount => choice.len() - functions(choice),
+            Fault::OneFunctionCountsAsMany => functions(choice).min(1),
             Fault::EachOperationCountsOnce => {
-                let applied = operations.filter(|&operation| operation != 0);
-                applied.collect::<BTreeSet<_>>().len()
+                let operations: BTreeSet<u8> = applied.map(|access| access.operation).collect();
+                operations.len()
             }
-            Fault::OperationNumbersAreAdded => operations.sum(),
             Fault::ProjectionsAloneCount => {
-                let projection = second::access::Action::Projection;
-                let put_out = choice.iter().filter(|access| access.action == projection);
-                put_out.filter(|access| !access.is_raw()).count()
+                let put_out = applied.filter(|access| access.action == Action::Projection);
+                put_out.count()
             }
-            _ => all,
+            _ => functions(choice),
         }
     }
 }
