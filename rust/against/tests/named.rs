@@ -1,4 +1,5 @@
-//! The named books: both answer alike, the hard rules are idle, and what is hard to open is open.
+//! The named books: both answer alike, the hard rules are idle or needed as they were made to be, and what
+//! is hard to open is open.
 
 use against::answer::Answer;
 use against::engine::packed;
@@ -119,6 +120,26 @@ fn hard_rules_are_idle() {
             assert_eq!(answer, Answer::Idle, "{name}");
             assert_eq!(case, idle(&draft, rule), "{name}");
         }
+    }
+}
+
+/// The engine shows of the needed ones what their books were made for, and leaves the rest of the buffer.
+#[cfg(feature = "engine")]
+#[test]
+fn hard_rules_are_needed() {
+    for needed in books::needed::hard() {
+        let mut case = idle(&needed.draft, 0);
+        let answer = against::answer::of(&against::engine::Proved, &mut case);
+        let rows = needed.plan.len() as u32;
+        assert_eq!(answer, Answer::Needed(needed.user, rows), "{}", needed.name);
+        let mut buffer = needed.plan.concat();
+        buffer.resize(36, 7);
+        let wanted = Case::Idle {
+            book: needed.draft.bytes(),
+            rule: 0,
+            buffer,
+        };
+        assert_eq!(case, wanted, "{}", needed.name);
     }
 }
 

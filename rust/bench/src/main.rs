@@ -46,16 +46,18 @@ fn main() {
 #[derive(Clone, Copy, PartialEq, Eq)]
 enum For {
     All,
+    Searches,
     Idle,
     Blocked,
 }
 
 impl For {
-    /// Is the call of this name made on such a book? A hard book is hard for one call.
+    /// Is the call of this name made on such a book?
     fn has(self, call: &str) -> bool {
         match self {
             For::All => true,
-            For::Idle => call == "idle" || call == "blocked",
+            For::Searches => call == "idle" || call == "blocked",
+            For::Idle => call == "idle",
             For::Blocked => call == "blocked",
         }
     }
@@ -73,12 +75,18 @@ struct Timed {
 fn timed() -> Vec<Timed> {
     let named = named::all().into_iter().map(|(name, draft, rule)| Timed {
         calls: match name.starts_with("hard") {
-            true => For::Idle,
+            true => For::Searches,
             false => For::All,
         },
         name,
         draft,
         rule,
+    });
+    let needed = books::needed::hard().into_iter().map(|book| Timed {
+        name: book.name.to_string(),
+        draft: book.draft,
+        rule: 0,
+        calls: For::Idle,
     });
     let hard = books::blocked::hard().into_iter();
     // In each of them rule 30 speaks of all leaves.
@@ -88,7 +96,7 @@ fn timed() -> Vec<Timed> {
         rule: 30,
         calls: For::Blocked,
     });
-    named.chain(hard).collect()
+    named.chain(needed).chain(hard).collect()
 }
 
 /// The books for timing, and one that is worst for Judge.
@@ -149,7 +157,7 @@ fn times() {
             judge(&input);
         }
         // A book that is hard for Idle is so for one rule.
-        if book.calls != For::Blocked {
+        if book.calls.has("idle") {
             idle(&input);
         }
         input.rules = all;
@@ -157,7 +165,9 @@ fn times() {
             idle(&input);
             idle_naive(&input);
         }
-        blocked(&input);
+        if book.calls.has("blocked") {
+            blocked(&input);
+        }
     }
 }
 
