@@ -67,6 +67,17 @@ fn what_is_to_be_shown_comes_first() {
     }
 }
 
+/// Where the first user is shown, the search comes to an end on the book itself.
+#[test]
+fn lighter_last_on_the_whole_book() {
+    let needed = &hard()[1];
+    let mut buffer = [7; 36];
+    let answer = second::idle_within(&needed.draft.bytes(), 0, &mut buffer, 20_000_000);
+    let rows = needed.plan.len();
+    assert_eq!(answer, Some(Ok(Some((needed.user, rows as u32)))));
+    assert_eq!(buffer[..4 * rows], needed.plan.concat());
+}
+
 /// "hard, needed last" has one choice that breaks rule 0 alone, the last of all that there are.
 #[test]
 fn needed_last() {
