@@ -1,5 +1,5 @@
-//! The named books: both answer alike, the hard rules are idle or needed as they were made to be, and what
-//! is hard to open is open.
+//! The named books: both answer alike, the hard rules are idle or needed as they were made to be,
+//! and what is hard to open is open.
 
 use against::answer::Answer;
 use against::engine::packed;
@@ -123,7 +123,8 @@ fn hard_rules_are_idle() {
     }
 }
 
-/// The engine shows of the needed ones what their books were made for, and leaves the rest of the buffer.
+/// The engine shows of the needed ones what their books were made for, and leaves the rest of the
+/// buffer.
 #[cfg(feature = "engine")]
 #[test]
 fn hard_rules_are_needed() {

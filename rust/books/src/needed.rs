@@ -1,8 +1,9 @@
-//! Books on which a search has much to do before it finds what shows that a rule is needed: 31 users, 60
-//! leaves, 15 operations, everything obtainable, 32 rules of three references. Rule 0 is asked about.
+//! Books on which a search has much to do before it finds what shows that a rule is needed: 31
+//! users, 60 leaves, 15 operations, everything obtainable, 32 rules of three references. Rule 0 is
+//! asked about.
 //!
-//! Rule 0 accepts no choice with operation 0, 1 or 15. Copies of it stop nearly all that breaks it, and
-//! the other rules accept what is left.
+//! Rule 0 accepts no choice with operation 0, 1 or 15. Copies of it stop nearly all that breaks it,
+//! and the other rules accept what is left.
 
 use crate::draft::{Draft, Rule};
 use crate::named::{filler, hard_head, reference, ACCESS, ALL, PROJECTION};
@@ -45,10 +46,10 @@ fn needed_last() -> Needed {
     }
 }
 
-/// Any leaves, each under operation 1, break rule 0 alone, and so the choice with the first leaves put out
-/// does. One with a single function does too, the last of these in document 01's order: the last leaves as
-/// conditions, that of the first reference under operation 15. So it is for every user, or for user 31
-/// only.
+/// Any leaves, each under operation 1, break rule 0 alone, and so the choice with the first leaves
+/// put out does. One with a single function does too, the last of these in document 01's order: the
+/// last leaves as conditions, that of the first reference under operation 15. So it is for every
+/// user, or for user 31 only.
 fn lighter_last(name: &'static str, last_user: bool) -> Needed {
     Needed {
         name,
@@ -58,8 +59,9 @@ fn lighter_last(name: &'static str, last_user: bool) -> Needed {
     }
 }
 
-/// Of the choices that break rule 0 the others let through what a restriction of `anywhere` accepts, and
-/// what that of `at_end` accepts at the last leaves as conditions; for the last user only, if so asked.
+/// Of the choices that break rule 0 the others let through what a restriction of `anywhere`
+/// accepts, and what that of `at_end` accepts at the last leaves as conditions; for the last user
+/// only, if so asked.
 fn beside(anywhere: &[[u16; 3]], at_end: [u16; 3], last_user: bool) -> Draft {
     let mut random = Random::new(31);
     let mut draft = hard_head();
@@ -118,7 +120,8 @@ fn decoy(random: &mut Random) -> [u16; 3] {
     [0; 3].map(|_| random.some_of(ALL & !FIRST & !LAST) | 1 << random.between(2, 14))
 }
 
-/// The plan of the last leaves as conditions, some under operation 15: columns 19, 39 and 59, function 14.
+/// The plan of the last leaves as conditions, some under operation 15: columns 19, 39 and 59,
+/// function 14.
 fn last_leaves(applied: [bool; 3]) -> Vec<[u8; 4]> {
     let mut rows: Vec<[u8; 4]> = Vec::new();
     for (applied, column) in applied.into_iter().zip([19, 39, 59]) {

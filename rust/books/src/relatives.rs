@@ -1,5 +1,5 @@
-//! Rules made from a rule: equal to it, stronger, weaker, several that cover it together, several that
-//! can't all be kept with it, or some that stop a part of its data where they are raw.
+//! Rules made from a rule: equal to it, stronger, weaker, several that cover it together, several
+//! that can't all be kept with it, or some that stop a part of its data where they are raw.
 
 use crate::draft::{below, leaves, under, Draft, Reference, Rule};
 use crate::random::Random;
@@ -221,9 +221,9 @@ fn deal_out(random: &mut Random, draft: &Draft, rule: &Rule) -> Vec<Rule> {
     shares.into_iter().map(without).collect()
 }
 
-/// The rule with few restrictions and any action, and rules that stop some of its data where they are
-/// raw, mostly what comes first in order. A choice that breaks it alone has functions there, and needs
-/// none where data stay raw.
+/// The rule with few restrictions and any action, and rules that stop some of its data where they
+/// are raw, mostly what comes first in order. A choice that breaks it alone has functions there,
+/// and needs none where data stay raw.
 pub fn raw_stopped(random: &mut Random, draft: &Draft, rule: &Rule) -> Vec<Rule> {
     let mut wide = rule.clone();
     wide.restrictions.truncate(random.below(2));
@@ -262,8 +262,8 @@ fn some_applied(draft: &Draft, rule: &Rule) -> Rule {
     }
 }
 
-/// The rule of one reference with its lowest leaf, without its highest, with projections or with some
-/// users alone.
+/// The rule of one reference with its lowest leaf, without its highest, with projections or with
+/// some users alone.
 fn early_part(random: &mut Random, draft: &Draft, rule: &Rule) -> Rule {
     let mut part = rule.clone();
     let of = &mut part.references[0];

@@ -131,8 +131,8 @@ fn functions(random: &mut Random, alphabet: &[u8], most: usize) -> Vec<u8> {
 }
 
 /// Rules of their own, and relatives of rules before: so that many are idle, some only by two
-/// others together, many have data that stay closed, and some are broken alone by raw data only late
-/// in the order.
+/// others together, many have data that stay closed, and some are broken alone by raw data only
+/// late in the order.
 fn rules(random: &mut Random, draft: &Draft, most: usize) -> Vec<Rule> {
     let mut n = up_to(random, 0, most);
     let mut rules: Vec<Rule> = Vec::new();

@@ -90,9 +90,9 @@ impl Book {
         }
     }
 
-    /// Whether a rule could go without letting anything more through; if not, the first user who can
-    /// break this rule and no other, and for that user the plan with the fewest functions that does. Of
-    /// equal ones the first is shown, as [`Idleness::Needed`] says.
+    /// Whether a rule could go without letting anything more through; if not, the first user who
+    /// can break this rule and no other, and for that user the plan with the fewest functions that
+    /// does. Of equal ones the first is shown, as [`Idleness::Needed`] says.
     ///
     /// ```
     /// use pspec::{Book, Idleness, Plan, Refusal};

@@ -12,14 +12,14 @@ pub enum Idleness {
     /// No user and plan break this rule alone.
     Idle,
     /// This user and this plan break this rule and no other. No lower user does with any plan, and
-    /// this user with no plan of the shown form that has fewer functions. Of such plans with as few it
-    /// is the first, reference by reference: output before condition, then by category, then by
+    /// this user with no plan of the shown form that has fewer functions. Of such plans with as few
+    /// it is the first, reference by reference: output before condition, then by leaf, then by
     /// operation.
     Needed {
         /// The user's number.
         user: u32,
-        /// The plan: for each reference of the rule a column, a function or none, and an output or a
-        /// condition.
+        /// The plan: for each reference of the rule a column, a function or none, and an output or
+        /// a condition.
         plan: Plan,
     },
 }

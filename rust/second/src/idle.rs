@@ -18,11 +18,11 @@ pub fn functions(choice: &[Access]) -> usize {
     choice.iter().filter(|access| !access.is_raw()).count()
 }
 
-/// Every user, and for each every choice in order, judged by its shown plan: "Choices, and with them
-/// their users and shown plans, are ordered by user number, then reference by reference by action
-/// (projection first), leaf, operation, lower numbers first; the first that breaks r alone is
-/// shown." And document 02, N2: "Among choices for the same user, the one with the fewest non-zero
-/// operations now comes first. Equal ones fall back to document 01's order."
+/// Every user, and for each every choice in order, judged by its shown plan: "Choices, and with
+/// them their users and shown plans, are ordered by user number, then reference by reference by
+/// action (projection first), leaf, operation, lower numbers first; the first that breaks r alone
+/// is shown." And document 02, N2: "Among choices for the same user, the one with the fewest
+/// non-zero operations now comes first. Equal ones fall back to document 01's order."
 pub fn naive(book: &Book, rule: usize) -> Found {
     let candidates = choice::fitting(&book.rules[rule], &book.obtainable());
     book.users.leaves().into_iter().find_map(|user| {
@@ -106,8 +106,8 @@ impl<'a> Search<'a> {
         fewest.find_map(|functions| self.extend(&mut Vec::new(), functions))
     }
 
-    /// The first way to end a choice that begins with these places among the candidates, with so many
-    /// more functions.
+    /// The first way to end a choice that begins with these places among the candidates, with so
+    /// many more functions.
     fn extend(&mut self, begun: &mut Vec<usize>, functions: usize) -> Option<Vec<Access>> {
         let reference = begun.len();
         if reference == self.candidates.len() {

@@ -1,5 +1,5 @@
-//! The hard books with a needed rule: what is to be shown of rule 0 comes first in the order of documents
-//! 01 and 02.
+//! The hard books with a needed rule: what is to be shown of rule 0 comes first in the order of
+//! documents 01 and 02.
 
 use books::needed::{hard, Needed};
 use books::Draft;
@@ -19,8 +19,8 @@ fn wanted(needed: &Needed) -> BTreeSet<Access> {
     path::accesses(&book, &rows)
 }
 
-/// The same book with columns for the first and the last leaf of each group only, and with functions of
-/// operations 1, 8 and 15.
+/// The same book with columns for the first and the last leaf of each group only, and with
+/// functions of operations 1, 8 and 15.
 fn smaller(needed: &Needed) -> Book {
     book(&Draft {
         columns: vec![4, 23, 24, 43, 44, 63],

@@ -80,8 +80,8 @@ impl Engine for Fault {
 }
 
 impl Fault {
-    /// What the fault takes for the first, of users and choices in document 01's order. Of equal ones
-    /// `min_by_key` gives the first.
+    /// What the fault takes for the first, of users and choices in document 01's order. Of equal
+    /// ones `min_by_key` gives the first.
     fn first(&self, all: Vec<One>) -> Option<One> {
         let user = all.first()?.0;
         let of_user = || all.iter().filter(|one| one.0 == user);
@@ -114,14 +114,15 @@ impl Fault {
     }
 }
 
-/// The key of an order that goes reference by reference throughout, in each from raw accesses to others.
+/// The key of an order that goes reference by reference throughout, in each from raw accesses to
+/// others.
 fn raw_first(choice: &[Access]) -> Vec<(bool, Access)> {
     let key = |access: &Access| (!access.is_raw(), *access);
     choice.iter().map(key).collect()
 }
 
-/// Every user and choice that break a rule alone, in document 01's order; none where there are many to
-/// try.
+/// Every user and choice that break a rule alone, in document 01's order; none where there are many
+/// to try.
 fn alone(book: &Book, rule: usize) -> Vec<One> {
     let mut found = Vec::new();
     let users = book.users.leaves();
