@@ -146,6 +146,19 @@ raw-only p =
     go true = refl
     go false = refl
 
+-- The first of a kind
+
+module _ (p q : ℕ → ℕ → ℕ → Bool) (same : (a y x : ℕ) → p a y x ≡ q a y x) where
+  -- tests that agree have one answer
+  pub first-same : (f : FirstPlaces) → FirstOf p f → FirstOf q f
+  unfolding FirstOf
+  first-same NoPlaces h = λ a y x. sym (same a y x) ∙ h a y x
+  first-same (At a y x) h =
+      record {
+        solution = sym (same a y x) ∙ h .solution;
+        earliest = λ b z w e. sym (same b z w) ∙ h .earliest b z w e;
+      }
+
 -- The same places in sets and in their parts
 
 module _ (t : List ℕ) (r n k : ℕ) (few : k ≤ 7) (sets : Sets) (firsts seconds thirds : List ℕ)
@@ -174,39 +187,31 @@ module _ (t : List ℕ) (r n k : ℕ) (few : k ≤ 7) (sets : Sets) (firsts seco
       (eqb (functionsAt y) (k / 2 % 2)) (inPlaces (sets .thirds) x) (eqb (functionsAt x) (k % 2))
       (refuses t r n a y x && not (any (λ q. has rules q && dropIn t a y x q) (upTo 32))))
 
--- The first of a kind
+  -- what the search in the parts says
+  module _ (rules : ℕ) (s : Sought) (searched : Searched (solvesIn t r n firsts seconds thirds) rules 0 s) where
+    pub pattern-found :
+        (a y x : ℕ)
+        → s ≡ Found a y x
+        → FirstOf (λ b z w. solvesAmong t r n rules sets b z w && eqb (patternAt b z w) k) (At a y x)
+    unfolding FirstOf
+    pattern-found a y x e =
+        first-same (solvesIn t r n firsts seconds thirds (has rules))
+        (λ b z w. solvesAmong t r n rules sets b z w && eqb (patternAt b z w) k) (solves-pattern rules) (At a y x)
+        (found-solved (solvesIn t r n firsts seconds thirds) rules 0 s a y x e searched)
 
-module _ (p q : ℕ → ℕ → ℕ → Bool) (same : (a y x : ℕ) → p a y x ≡ q a y x) where
-  -- tests that agree have one answer
-  pub first-same : (f : FirstPlaces) → FirstOf p f → FirstOf q f
-  unfolding FirstOf
-  first-same NoPlaces h = λ a y x. sym (same a y x) ∙ h a y x
-  first-same (At a y x) h =
-      record {
-        solution = sym (same a y x) ∙ h .solution;
-        earliest = λ b z w e. sym (same b z w) ∙ h .earliest b z w e;
-      }
-
--- what a search in three sets says
-module _ (t : List ℕ) (r n : ℕ) (firsts seconds thirds : List ℕ) (rules : ℕ) (s : Sought)
-    (searched : Searched (solvesIn t r n firsts seconds thirds) rules 0 s) where
-  pub sought-found :
-      (a y x : ℕ) → s ≡ Found a y x → FirstOf (solvesIn t r n firsts seconds thirds (has rules)) (At a y x)
-  unfolding FirstOf
-  sought-found a y x e = found-solved (solvesIn t r n firsts seconds thirds) rules 0 s a y x e searched
-
-  pub sought-nothing :
-      (marked last : ℕ)
-      → s ≡ Nothing marked last
-      → FirstOf (solvesIn t r n firsts seconds thirds (has rules)) NoPlaces
-  unfolding FirstOf
-  sought-nothing marked last e a y x =
-      let none = nothing-unsolved (solvesIn t r n firsts seconds thirds) rules 0 s marked last e searched in
-      fails (solvesIn t r n firsts seconds thirds (has rules) a y x)
-      (λ h.
-      both
-      (in-lessen t r n firsts seconds thirds (has marked) (has rules) (λ q m. none .only q m (has-zero q)) a y x h)
-      (none .none a y x))
+    pub pattern-nothing :
+        (marked last : ℕ)
+        → s ≡ Nothing marked last
+        → FirstOf (λ b z w. solvesAmong t r n rules sets b z w && eqb (patternAt b z w) k) NoPlaces
+    unfolding FirstOf
+    pattern-nothing marked last e a y x =
+        let none = nothing-unsolved (solvesIn t r n firsts seconds thirds) rules 0 s marked last e searched in
+        sym (solves-pattern rules a y x)
+        ∙ fails (solvesIn t r n firsts seconds thirds (has rules) a y x)
+        (λ h.
+        both
+        (in-lessen t r n firsts seconds thirds (has marked) (has rules) (λ q m. none .only q m (has-zero q)) a y x h)
+        (none .none a y x))
 
 -- The earlier of two
 
