@@ -99,9 +99,11 @@ uint64_t pspec_judge(const uint8_t *book, size_t book_length, uint32_t user, con
 
 /*
  * Idle: whether no user and accepted plan break the rule alone. Refuses 1 to 9, 24, 25. Value: 0 when the
- * rule is idle, the buffer then being as it was. Otherwise user x 256 + rows, of the first user and plan
- * that break the rule and no other; the plan's 4 x rows bytes (2 to 9 rows) are at the buffer's front and
- * the rest is as it was.
+ * rule is idle, the buffer then being as it was. Otherwise user x 256 + rows, of the lowest user who can
+ * break the rule and no other, and of a plan that does: for each reference a column, a function or none, and
+ * an output or a condition. It is the one with the fewest functions; of equal ones the first, reference by
+ * reference by action (projection first), leaf and operation. Its 4 x rows bytes (2 to 9 rows) are at the
+ * buffer's front and the rest is as it was.
  */
 uint64_t pspec_idle(const uint8_t *book, size_t book_length, uint32_t rule, uint8_t *buffer,
                     size_t buffer_length);

@@ -8,18 +8,17 @@ use mathlib.Core.Bool.{Bool, true, false, _&&_, _||_, not, cond}
 use mathlib.Core.List.{List}
 use lib.ListN.{length}
 use lib.Dec.{eqb, ltb}
-use borrow.Author.Tests.{eqb-true, eqb-false, eq-eqb, ltb-true, ltb-false, lt-ltb}
+use borrow.Author.Tests.{eqb-true, eqb-false, eq-eqb, ltb-true, lt-ltb}
 use Rattle.book.specs.Lists.{all, any, upTo, from}
 use Rattle.book.specs.Sets.{has}
-use Rattle.book.proofs.Lists.{and-true, and-both, and-end, and-false, and-left, and-right, or-either, or-end, or-left}
+use Rattle.book.proofs.Lists.{and-true, and-both, and-end, and-false, and-left, or-either, or-end, or-left}
 use Rattle.book.proofs.Lists.{or-right, or-true, all-at, ltb-more, same-test}
 use Rattle.book.proofs.Members.{has-not, has-zero}
-use Rattle.search.specs.Inner.Places.{inPlaces, pastPlaces, PlacesOf}
-use Rattle.search.specs.Inner.Closing.{Within}
+use Rattle.search.specs.Inner.Places.{inPlaces, PlacesOf}
 use Rattle.search.specs.Inner.Search.{Earliest, NeedsFirst, NeedsUser, Possible, Searched, Solved, coversIn}
 use Rattle.search.specs.Inner.Search.{othersFor, refuses, solves, solvesFor, solvesIn, tripleBefore}
 use Rattle.search.specs.Inner.Weight.{functionsAt, weightAt, lighterPlaces, patternAt, patternWeight, solvesAmong}
-use Rattle.search.specs.Inner.Weight.{SetsFor, Earlier, FirstOf, LightestOf}
+use Rattle.search.specs.Inner.Weight.{PartOf, SetsFor, FirstOf, LightestOf}
 use Rattle.search.specs.declared.sifting.Remaining.{Remaining}
 use Rattle.search.specs.declared.searching.Sought.{Sought}
 use Rattle.search.specs.declared.searching.Sought.the-variants.{Found, Nothing}
@@ -162,9 +161,9 @@ module _ (p q : ℕ → ℕ → ℕ → Bool) (same : (a y x : ℕ) → p a y x 
 -- The same places in sets and in their parts
 
 module _ (t : List ℕ) (r n k : ℕ) (few : k ≤ 7) (sets : Sets) (firsts seconds thirds : List ℕ)
-    (of-firsts : (p : ℕ) → inPlaces firsts p ≡ (inPlaces (sets .firsts) p && eqb (functionsAt p) (k / 4 % 2)))
-    (of-seconds : (p : ℕ) → inPlaces seconds p ≡ (inPlaces (sets .seconds) p && eqb (functionsAt p) (k / 2 % 2)))
-    (of-thirds : (p : ℕ) → inPlaces thirds p ≡ (inPlaces (sets .thirds) p && eqb (functionsAt p) (k % 2))) where
+    (of-firsts : PartOf (sets .firsts) (k / 4) firsts)
+    (of-seconds : PartOf (sets .seconds) (k / 2) seconds)
+    (of-thirds : PartOf (sets .thirds) k thirds) where
   regroup :
       (f i s j u l rest : Bool)
       → (((f && i) && ((s && j) && (u && l))) && rest) ≡ (((f && (s && u)) && rest) && (i && (j && l)))
