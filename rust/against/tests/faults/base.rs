@@ -1,7 +1,7 @@
 //! Faults of the book check, Seal, Flows, Judge and Idle.
 
-use crate::GOOD;
-use against::engine::{Blocking, Idleness};
+use crate::{Faulty, GOOD};
+use against::engine::Idleness;
 use against::Engine;
 use books::draft::BLOCK;
 use second::access::Access;
@@ -40,11 +40,7 @@ pub const FAULTS: [Fault; 12] = [
     Fault::NeverIdle,
 ];
 
-impl Engine for Fault {
-    fn name(&self) -> &'static str {
-        "faulty"
-    }
-
+impl Faulty for Fault {
     fn check(&self, book: &[u8]) -> Result<u32, Refusal> {
         match self {
             Fault::NoPlaces => GOOD.check(book).map_err(|r| Refusal::of(r.number)),
@@ -98,10 +94,6 @@ impl Engine for Fault {
             _ => {}
         }
         Some(answer)
-    }
-
-    fn blocked(&self, book: &[u8], rule: u32) -> Blocking {
-        GOOD.blocked(book, rule)
     }
 }
 

@@ -1,7 +1,7 @@
 //! Faults of Blocked.
 
-use crate::GOOD;
-use against::engine::{packed, unpacked, Blocking, Idleness, STEPS};
+use crate::{Faulty, GOOD};
+use against::engine::{packed, unpacked, Blocking, STEPS};
 use against::Engine;
 use books::draft::BLOCK;
 use second::access::Action;
@@ -48,31 +48,7 @@ pub const FAULTS: [Fault; 15] = [
     Fault::NeverClosed,
 ];
 
-impl Engine for Fault {
-    fn name(&self) -> &'static str {
-        "faulty"
-    }
-
-    fn check(&self, book: &[u8]) -> Result<u32, Refusal> {
-        GOOD.check(book)
-    }
-
-    fn seal(&self, block: &mut [u8]) -> Result<(), Refusal> {
-        GOOD.seal(block)
-    }
-
-    fn flows(&self, book: &[u8], plan: &[u8], words: &mut [u64]) -> Result<(), Refusal> {
-        GOOD.flows(book, plan, words)
-    }
-
-    fn judge(&self, book: &[u8], user: u32, plan: &[u8]) -> Result<u32, Refusal> {
-        GOOD.judge(book, user, plan)
-    }
-
-    fn idle(&self, book: &[u8], rule: u32, buffer: &mut [u8]) -> Idleness {
-        GOOD.idle(book, rule, buffer)
-    }
-
+impl Faulty for Fault {
     fn blocked(&self, book: &[u8], rule: u32) -> Blocking {
         let rule = match self {
             Fault::CutsRuleToAByte => rule % 256,

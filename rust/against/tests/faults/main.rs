@@ -5,17 +5,78 @@ mod base;
 mod blocked;
 mod order;
 
-use against::engine::{Search, Second, STEPS};
+use against::engine::{Blocking, Idleness, Search, Second, STEPS};
 use against::run::try_case;
 use against::{run, text, Engine, Limit, Tally};
+use second::Refusal;
 use std::fmt::Debug;
 
 const GOOD: Second = Second {
     search: Search::Skipping(STEPS),
 };
 
-fn is_found_and_shown_again(fault: impl Engine + Debug) {
-    let engines: [&dyn Engine; 2] = [&fault, &GOOD];
+/// The six calls of a faulty engine: those that it does not get wrong are the good one's.
+trait Faulty {
+    fn check(&self, book: &[u8]) -> Result<u32, Refusal> {
+        GOOD.check(book)
+    }
+
+    fn seal(&self, block: &mut [u8]) -> Result<(), Refusal> {
+        GOOD.seal(block)
+    }
+
+    fn flows(&self, book: &[u8], plan: &[u8], words: &mut [u64]) -> Result<(), Refusal> {
+        GOOD.flows(book, plan, words)
+    }
+
+    fn judge(&self, book: &[u8], user: u32, plan: &[u8]) -> Result<u32, Refusal> {
+        GOOD.judge(book, user, plan)
+    }
+
+    fn idle(&self, book: &[u8], rule: u32, buffer: &mut [u8]) -> Idleness {
+        GOOD.idle(book, rule, buffer)
+    }
+
+    fn blocked(&self, book: &[u8], rule: u32) -> Blocking {
+        GOOD.blocked(book, rule)
+    }
+}
+
+/// The engine of a fault.
+struct FaultyEngine<F>(F);
+
+impl<F: Faulty> Engine for FaultyEngine<F> {
+    fn name(&self) -> &'static str {
+        "faulty"
+    }
+
+    fn check(&self, book: &[u8]) -> Result<u32, Refusal> {
+        self.0.check(book)
+    }
+
+    fn seal(&self, block: &mut [u8]) -> Result<(), Refusal> {
+        self.0.seal(block)
+    }
+
+    fn flows(&self, book: &[u8], plan: &[u8], words: &mut [u64]) -> Result<(), Refusal> {
+        self.0.flows(book, plan, words)
+    }
+
+    fn judge(&self, book: &[u8], user: u32, plan: &[u8]) -> Result<u32, Refusal> {
+        self.0.judge(book, user, plan)
+    }
+
+    fn idle(&self, book: &[u8], rule: u32, buffer: &mut [u8]) -> Idleness {
+        self.0.idle(book, rule, buffer)
+    }
+
+    fn blocked(&self, book: &[u8], rule: u32) -> Blocking {
+        self.0.blocked(book, rule)
+    }
+}
+
+fn is_found_and_shown_again(fault: impl Faulty + Copy + Debug) {
+    let engines: [&dyn Engine; 2] = [&FaultyEngine(fault), &GOOD];
     let mut cases = 0;
     let mut count = |tally: &Tally| cases = tally.cases;
     let difference = run(engines, 5, Limit::Cases(60_000), &mut count);

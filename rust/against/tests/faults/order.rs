@@ -1,12 +1,12 @@
 //! Faults of the order in which Idle takes its choices (document 02, N2).
 
-use crate::GOOD;
-use against::engine::{Blocking, Idleness};
+use crate::{Faulty, GOOD};
+use against::engine::Idleness;
 use against::Engine;
 use second::access::{Access, Action};
 use second::book::Book;
 use second::idle::functions;
-use second::{breaking, choice, idle, reading, shown, Refusal};
+use second::{breaking, choice, idle, reading, shown};
 use std::collections::BTreeSet;
 
 #[derive(Clone, Copy, Debug, PartialEq, Eq)]
@@ -36,27 +36,7 @@ pub const FAULTS: [Fault; 8] = [
 /// A user and a choice.
 type One = (usize, Vec<Access>);
 
-impl Engine for Fault {
-    fn name(&self) -> &'static str {
-        "faulty"
-    }
-
-    fn check(&self, book: &[u8]) -> Result<u32, Refusal> {
-        GOOD.check(book)
-    }
-
-    fn seal(&self, block: &mut [u8]) -> Result<(), Refusal> {
-        GOOD.seal(block)
-    }
-
-    fn flows(&self, book: &[u8], plan: &[u8], words: &mut [u64]) -> Result<(), Refusal> {
-        GOOD.flows(book, plan, words)
-    }
-
-    fn judge(&self, book: &[u8], user: u32, plan: &[u8]) -> Result<u32, Refusal> {
-        GOOD.judge(book, user, plan)
-    }
-
+impl Faulty for Fault {
     fn idle(&self, book: &[u8], rule: u32, buffer: &mut [u8]) -> Idleness {
         let before = buffer.to_vec();
         let answer = GOOD.idle(book, rule, buffer)?;
@@ -72,10 +52,6 @@ impl Engine for Fault {
         buffer.copy_from_slice(&before);
         buffer[..plan.len()].copy_from_slice(&plan);
         Some(Ok(Some((user as u32, rows.len() as u32))))
-    }
-
-    fn blocked(&self, book: &[u8], rule: u32) -> Blocking {
-        GOOD.blocked(book, rule)
     }
 }
 
