@@ -7,45 +7,10 @@
 //! by rules 0, 1 and 2.
 
 use against::engine::by_name;
-use books::draft::{Draft, Reference, Rule};
+use books::draft::{Draft, Rule, ACCESS, CONDITION, PROJECTION};
 use books::named::{opposed_shop, small_shop};
+use books::shop::{rule, ADDRESS, ANALYST, AVG, CITY, MARKETING, PRICE, REPORT, STATE, SUM};
 use second::Refusal;
-
-const PROJECTION: u8 = 1;
-const CONDITION: u8 = 2;
-const ACCESS: u8 = 3;
-
-const ADDRESS: u8 = 1;
-const STATE: u8 = 2;
-const CITY: u8 = 3;
-const PRICE: u8 = 4;
-
-const ANALYST: u8 = 0;
-const REPORT: u8 = 1;
-const MARKETING: u8 = 2;
-
-const AVG: u16 = 0b10;
-const SUM: u16 = 0b100;
-
-/// A rule with one mask for each reference in each restriction.
-fn rule(user: u8, references: &[(u8, u8)], restrictions: &[&[u16]]) -> Rule {
-    let reference = |&(action, category): &(u8, u8)| Reference {
-        category,
-        action,
-        excluded: vec![],
-    };
-    let restriction = |masks: &&[u16]| {
-        let mut three = [0; 3];
-        three[..masks.len()].copy_from_slice(masks);
-        three
-    };
-    Rule {
-        user,
-        excluded: vec![],
-        references: references.iter().map(reference).collect(),
-        restrictions: restrictions.iter().map(restriction).collect(),
-    }
-}
 
 /// The small shop with these rules after its own.
 fn shop_and(rules: &[Rule]) -> Draft {

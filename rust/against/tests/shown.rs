@@ -6,36 +6,12 @@
 //! supports 1 avg and 2 sum. Columns 0, 1 and 2 carry them. Rule 0 is asked about, and forbids.
 
 use against::engine::by_name;
-use books::draft::{Draft, Reference, Rule};
+use books::draft::{Draft, Rule, ACCESS, PROJECTION};
 use books::named::small_shop;
+use books::shop::{rule, ADDRESS, ANALYST, AVG, CITY, PRICE, REPORT, STATE};
 
-const PROJECTION: u8 = 1;
-const ACCESS: u8 = 3;
-
-const ADDRESS: u8 = 1;
-const STATE: u8 = 2;
-const CITY: u8 = 3;
-const PRICE: u8 = 4;
-
-const ANALYST: u8 = 0;
-const REPORT: u8 = 1;
-
-const AVG: u16 = 0b10;
-const TRUNCATE: u16 = 0b1000;
-
-fn rule(user: u8, references: &[(u8, u8)], restrictions: &[[u16; 3]]) -> Rule {
-    let reference = |&(action, category): &(u8, u8)| Reference {
-        category,
-        action,
-        excluded: vec![],
-    };
-    Rule {
-        user,
-        excluded: vec![],
-        references: references.iter().map(reference).collect(),
-        restrictions: restrictions.to_vec(),
-    }
-}
+/// The mask of operation 3.
+const TRUNCATE: u16 = 1 << 3;
 
 /// Every engine shows this user and this plan for rule 0, and leaves the rest of the buffer.
 fn shows(rules: &[Rule], user: u32, plan: &[[u8; 4]]) {
@@ -65,7 +41,7 @@ fn shows(rules: &[Rule], user: u32, plan: &[[u8; 4]]) {
 fn a_higher_leaf_without_a_function() {
     let rules = [
         rule(ANALYST, &[(ACCESS, ADDRESS)], &[]),
-        rule(ANALYST, &[(ACCESS, STATE)], &[[TRUNCATE, 0, 0]]),
+        rule(ANALYST, &[(ACCESS, STATE)], &[&[TRUNCATE]]),
     ];
     shows(&rules, 1, &[[1, 1, 0, 0], [4, 0, 0, 0]]);
 }
@@ -75,7 +51,7 @@ fn a_higher_leaf_without_a_function() {
 fn a_condition_without_a_function() {
     let rules = [
         rule(ANALYST, &[(ACCESS, PRICE)], &[]),
-        rule(ANALYST, &[(PROJECTION, PRICE)], &[[AVG, 0, 0]]),
+        rule(ANALYST, &[(PROJECTION, PRICE)], &[&[AVG]]),
     ];
     shows(&rules, 1, &[[1, 2, 0, 0], [5, 0, 0, 0]]);
 }
@@ -86,7 +62,7 @@ fn a_condition_without_a_function() {
 fn the_lower_user_with_a_function() {
     let rules = [
         rule(ANALYST, &[(ACCESS, PRICE)], &[]),
-        rule(REPORT, &[(ACCESS, PRICE)], &[[AVG, 0, 0]]),
+        rule(REPORT, &[(ACCESS, PRICE)], &[&[AVG]]),
     ];
     shows(&rules, 1, &[[1, 2, 0, 0], [2, 1, 0, 255], [4, 1, 0, 0]]);
 }
@@ -98,7 +74,7 @@ fn the_first_of_equal_ones() {
     let both = [(ACCESS, ADDRESS), (ACCESS, PRICE)];
     let rules = [
         rule(ANALYST, &both, &[]),
-        rule(ANALYST, &both, &[[TRUNCATE, 0, 0], [0, AVG, 0]]),
+        rule(ANALYST, &both, &[&[TRUNCATE, 0], &[0, AVG]]),
     ];
     let state = [[1, 0, 0, 0], [4, 0, 0, 0]];
     let average = [[1, 2, 0, 0], [2, 1, 2, 255], [4, 3, 0, 0]];
@@ -112,12 +88,8 @@ fn one_function_before_two() {
     let [state, city, price] = [STATE, CITY, PRICE].map(|leaf| (ACCESS, leaf));
     let rules = [
         rule(ANALYST, &[state, city, price], &[]),
-        rule(
-            ANALYST,
-            &[state, city],
-            &[[TRUNCATE, 0, 0], [0, TRUNCATE, 0]],
-        ),
-        rule(ANALYST, &[state, price], &[[TRUNCATE, 0, 0], [0, AVG, 0]]),
+        rule(ANALYST, &[state, city], &[&[TRUNCATE, 0], &[0, TRUNCATE]]),
+        rule(ANALYST, &[state, price], &[&[TRUNCATE, 0], &[0, AVG]]),
     ];
     let truncated = [[1, 0, 0, 0], [2, 3, 0, 255], [4, 1, 0, 0]];
     let raw = [[1, 1, 0, 0], [4, 3, 0, 0], [1, 2, 0, 0], [4, 5, 0, 0]];

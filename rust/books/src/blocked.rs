@@ -1,13 +1,9 @@
 //! Books on which the search for closed data has much to do: 17 to 31 users, 60 leaves, 15 operations,
 //! everything obtainable, 32 rules of three references.
 
-use crate::draft::{leaves, Draft, Reference, Rule};
-use crate::named::{filler, hard_head, reference, ACCESS, ALL};
+use crate::draft::{leaves, reference, Draft, Reference, Rule, ACCESS, CONDITION, PROJECTION};
+use crate::named::{filler, hard_head, ALL};
 use crate::random::Random;
-
-/// Projection and condition.
-const PROJECTION: u8 = 1;
-const CONDITION: u8 = 2;
 
 /// The highest operation.
 const LAST: u16 = 1 << 15;

@@ -5,6 +5,13 @@ use std::collections::BTreeSet;
 /// The size of a block.
 pub const BLOCK: usize = 512;
 
+/// The action projection.
+pub const PROJECTION: u8 = 1;
+/// The action condition.
+pub const CONDITION: u8 = 2;
+/// Either action.
+pub const ACCESS: u8 = 3;
+
 /// What a book is to say, by its numbers.
 #[derive(Clone, Debug, Default, PartialEq, Eq)]
 pub struct Draft {
@@ -38,10 +45,19 @@ pub struct Rule {
 pub struct Reference {
     /// The data category.
     pub category: u8,
-    /// 1 projection, 2 condition, 3 either.
+    /// [`PROJECTION`], [`CONDITION`] or [`ACCESS`].
     pub action: u8,
     /// The excluded categories.
     pub excluded: Vec<u8>,
+}
+
+/// A reference without exclusions.
+pub(crate) fn reference(category: u8, action: u8) -> Reference {
+    Reference {
+        category,
+        action,
+        excluded: vec![],
+    }
 }
 
 impl Draft {

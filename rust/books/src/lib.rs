@@ -20,6 +20,7 @@ pub mod needed;
 pub mod plans;
 pub mod random;
 pub mod relatives;
+pub mod shop;
 pub mod valid;
 
 pub use case::Case;

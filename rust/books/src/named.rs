@@ -1,41 +1,24 @@
 //! Books with a name: document 01's small shop, and books for timing.
 
-use crate::draft::{below, Draft, Reference, Rule};
+use crate::draft::{below, reference, Draft, Reference, Rule, ACCESS, PROJECTION};
 use crate::random::Random;
-
-/// Projection, and either action.
-pub(crate) const PROJECTION: u8 = 1;
-pub(crate) const ACCESS: u8 = 3;
+use crate::shop::{rule, ADDRESS, ANALYST, AVG, CITY, PRICE, REPORT, STATE, SUM};
 
 /// All operations, 1 to 15.
 pub(crate) const ALL: u16 = 0xFFFE;
 
-pub(crate) fn reference(category: u8, action: u8) -> Reference {
-    Reference {
-        category,
-        action,
-        excluded: vec![],
-    }
-}
-
 /// Document 01's small shop.
 pub fn small_shop() -> Draft {
-    let address_and_price = vec![reference(1, PROJECTION), reference(4, PROJECTION)];
-    let rule = |user, references, masks| Rule {
-        user,
-        excluded: vec![],
-        references,
-        restrictions: vec![masks],
-    };
+    let address_and_price = [(PROJECTION, ADDRESS), (PROJECTION, PRICE)];
     Draft {
         users: vec![0, 0, 0],
-        data: vec![(0, 0), (0, 0), (1, 0), (1, 0), (0, 0b110)],
-        columns: vec![2, 3, 4, 255],
+        data: vec![(0, 0), (0, 0), (ADDRESS, 0), (ADDRESS, 0), (0, AVG | SUM)],
+        columns: vec![STATE, CITY, PRICE, 255],
         functions: vec![0, 1, 2],
         rules: vec![
-            rule(0, address_and_price.clone(), [0, 0b110, 0]),
-            rule(0, vec![reference(4, ACCESS)], [0b10, 0, 0]),
-            rule(1, address_and_price, [0, 0b10, 0]),
+            rule(ANALYST, &address_and_price, &[&[0, AVG | SUM]]),
+            rule(ANALYST, &[(ACCESS, PRICE)], &[&[AVG]]),
+            rule(REPORT, &address_and_price, &[&[0, AVG]]),
         ],
     }
 }
@@ -44,12 +27,7 @@ pub fn small_shop() -> Draft {
 /// rule 1 as an average alone.
 pub fn opposed_shop() -> Draft {
     let mut shop = small_shop();
-    shop.rules.push(Rule {
-        user: 1,
-        excluded: vec![],
-        references: vec![reference(4, ACCESS)],
-        restrictions: vec![[0b100, 0, 0]],
-    });
+    shop.rules.push(rule(REPORT, &[(ACCESS, PRICE)], &[&[SUM]]));
     shop
 }
 

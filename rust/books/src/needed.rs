@@ -5,8 +5,8 @@
 //! Rule 0 accepts no choice with operation 0, 1 or 15. Copies of it stop nearly all that breaks it,
 //! and the other rules accept what is left.
 
-use crate::draft::{Draft, Rule};
-use crate::named::{filler, hard_head, reference, ACCESS, ALL, PROJECTION};
+use crate::draft::{reference, Draft, Rule, ACCESS, PROJECTION};
+use crate::named::{filler, hard_head, ALL};
 use crate::random::Random;
 
 /// The first operation, and the last.
