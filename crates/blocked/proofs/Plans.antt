@@ -4,7 +4,6 @@ use Prim.Native.Nat.{ℕ, _<_}
 use mathlib.Core.Path.{_≡_, refl, sym, ap, subst, _∙_}
 use mathlib.Core.Bool.{true, false, false≢true}
 use mathlib.Core.List.{List, [], _∷_, map, List·Memᴰ, List·Memᴰ·head, List·Memᴰ·tail, Memᴰ·of-map}
-use lib.Pow.{pow-pos}
 use borrow.Author.Tests.{lt-ltb}
 use Rattle.book.specs.Lists.{all}
 use Rattle.book.specs.Sets.{has}
@@ -13,18 +12,17 @@ use Rattle.book.specs.Head.{isUser}
 use Rattle.book.specs.Refusals.{BookAccepted}
 use Rattle.book.proofs.Accepted.{accepted-head, accepted-rule}
 use Rattle.book.proofs.Lists.{and-true, none-at}
-use Rattle.book.proofs.Members.{has-zero, same-members}
+use Rattle.book.proofs.Members.{has-zero}
 use Rattle.lineage.specs.Answers.{PlanAccepted}
 use Rattle.lineage.proofs.Accepted.{accepted-plan}
-use Rattle.lineage.proofs.Words.{word-of}
-use Rattle.verdicts.specs.Accesses.{Access, Accesses, accessesOf, members, same}
+use Rattle.verdicts.specs.Accesses.{Access, accessesOf, members, same}
 use Rattle.verdicts.specs.Breaking.{breaks, brokenMask}
 use Rattle.verdicts.specs.Answers.{judgeAnswer}
 use Rattle.verdicts.specs.declared.Judged.the-variants.{Broken}
 use Rattle.verdicts.proofs.Accesses.{same-self}
 use Rattle.verdicts.proofs.JudgeLaws.{judge-answer, judge-passes}
 use Rattle.verdicts.proofs.Monotone.{breaks-monotone, breaks-same}
-use Rattle.verdicts.proofs.Verdict.{mask-bit}
+use Rattle.verdicts.proofs.Verdict.{mask-bit, none-broken}
 use Rattle.search.specs.Obtainable.{canBeHad}
 use Rattle.search.specs.Shown.{shownPlan}
 use Rattle.search.proofs.Rising.{all-member, member-all, member-any}
@@ -96,18 +94,6 @@ module _ (book : List ℕ) (p : Pair) (closed : Closed book p) (plan : List ℕ)
 
 -- Open
 
--- where no rule is broken the mask is 0
-mask-zero :
-    (book : List ℕ) (user : ℕ) (D : Accesses)
-    → ((q : ℕ) → q < ruleCount book → breaks (headOf book) (ruleAt book q) user D ≡ false)
-    → brokenMask book user D ≡ 0
-unfolding brokenMask
-mask-zero book user D h =
-    let n = ruleCount book in
-    same-members n (brokenMask book user D) 0
-    (word-of (λ q. breaks (headOf book) (ruleAt book q) user D) n .0) (pow-pos n)
-    (λ q l. mask-bit book user D q ∙ rw (lt-ltb q n l, has-zero q) (h q l))
-
 -- an open association has a plan with some access to each datum, for which Judge answers that no rule is broken
 open-plan :
     (book : List ℕ)
@@ -147,7 +133,7 @@ open-plan book accepted r l p within h =
           ),
       answer
           ∙ ap Broken
-          (mask-zero book (p .user) (accessesOf head plan)
+          (none-broken book (p .user) (accessesOf head plan)
           (λ q k.
           breaks-same head (ruleAt book q) (p .user) (accessesOf head plan) (members c) same-accesses
           ∙ none-at (λ j. breaks head (ruleAt book j) (p .user) (members c)) (ruleCount book) (found .2) q k)),

@@ -152,7 +152,7 @@ module _ (head plan : List ℕ) where
 
 -- The words of a plan
 
-length-from : (g : ℕ → ℕ) (i n : ℕ) → length (map g (from i n)) ≡ n
+pub length-from : (g : ℕ → ℕ) (i n : ℕ) → length (map g (from i n)) ≡ n
 unfolding from
 length-from g i zero = refl
 length-from g i (suc n) = ap suc (length-from g (suc i) n)

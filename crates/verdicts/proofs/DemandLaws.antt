@@ -1,32 +1,24 @@
 -- Demand 2: the mask of the broken rules tells, rule by rule, what a query does not satisfy in the sense of source
 -- document 000. Assumes nothing.
-use Prim.Native.Nat.{ℕ, _≤_, _<_}
-use native.Mathlib.Omega.{arith}
+use Prim.Native.Nat.{ℕ, _<_}
 use mathlib.Core.Path.{_≡_, refl, sym, _∙_}
-use mathlib.Core.Logic.{⊎-elim}
-use mathlib.Core.Bool.{Bool, true, false, _&&_, false≢true}
+use mathlib.Core.Bool.{Bool, true, false, false≢true}
 use mathlib.Core.List.{List}
-use lib.Pow.{pow-pos}
 use borrow.Author.Tests.{lt-ltb, le-ltb}
 use Rattle.book.specs.Sets.{has}
 use Rattle.book.specs.Blocks.{headOf, ruleAt, ruleCount}
-use Rattle.book.specs.Head.{operation}
-use Rattle.book.proofs.Accepted.{HeadHolds, accepted-head}
-use Rattle.book.proofs.Lists.{and-right}
-use Rattle.book.proofs.Members.{has-zero, same-members}
-use Rattle.lineage.specs.Rows.{kindAt, rowA, rowCount}
-use Rattle.lineage.specs.Accesses.{gives, isAccess, reaches}
-use Rattle.lineage.proofs.Accepted.{PlanHolds, Had, Taken, accepted-plan, reaches-had}
-use Rattle.lineage.proofs.Words.{word-of}
+use Rattle.book.proofs.Accepted.{accepted-head}
+use Rattle.book.proofs.Members.{has-zero}
+use Rattle.lineage.proofs.Accepted.{accepted-plan}
 use Rattle.verdicts.specs.Accesses.{Access, Accesses, accessesOf}
 use Rattle.verdicts.specs.Breaking.{breaks, brokenMask}
 use Rattle.verdicts.specs.Semantics.{SatisfiesRule, SatisfiesPolicy}
 use Rattle.verdicts.specs.Answers.{judgeAnswer}
 use Rattle.verdicts.specs.Demand.{JudgeAccepted, Demand2, Judges}
 use Rattle.verdicts.specs.declared.Judged.{Judged}
-use Rattle.verdicts.proofs.Quantifiers.{any-at}
+use Rattle.verdicts.proofs.Held.{plan-operations}
 use Rattle.verdicts.proofs.Semantic.{satisfies-not-broken, not-broken-satisfies}
-use Rattle.verdicts.proofs.Verdict.{mask-bit}
+use Rattle.verdicts.proofs.Verdict.{mask-bit, none-broken}
 use Rattle.verdicts.proofs.JudgeLaws.{judge-answer, judge-passes}
 
 -- A query whose operations are below 16
@@ -56,11 +48,9 @@ module _ (book : List ℕ) (user : ℕ) (query : Accesses) (low : (x : Access) �
       go false e = absurd (v (clear r l e))
 
   all-satisfied : SatisfiesPolicy book user query → mask ≡ 0
-  unfolding mask brokenMask
+  unfolding mask
   all-satisfied h =
-      let whole = word-of (λ r. breaks (headOf book) (ruleAt book r) user query) (ruleCount book) in
-      same-members (ruleCount book) mask 0 (whole .0) (pow-pos (ruleCount book))
-      (λ r l. satisfied r l (h r l) ∙ sym (has-zero r))
+      none-broken book user query (λ r l. satisfies-not-broken (headOf book) (ruleAt book r) user query (h r l))
 
   pub query-demand : Demand2 book user query (brokenMask book user query)
   unfolding mask
@@ -74,33 +64,6 @@ module _ (book : List ℕ) (user : ℕ) (query : Accesses) (low : (x : Access) �
         zero-satisfies = λ e r l. clear r l (rw (e, has-zero r));
         satisfies-zero = all-satisfied;
       }
-
--- The operations of a plan are below 16
-
-had-small : (head : List ℕ) (d k : ℕ) → HeadHolds head → Had head d k → k < 16
-had-small head d k book h =
-    ⊎-elim
-    (λ (z : k ≡ 0). omega arith)
-    (λ (t : Taken head d k).
-    let m : operation head (t .function) ≤ 15 = book .operations-most (t .function) (t .below) in
-    let e : operation head (t .function) ≡ k = t .operates in
-    omega arith)
-    (h .operated)
-
-plan-operations :
-    (head plan : List ℕ)
-    → HeadHolds head
-    → PlanHolds head plan
-    → (x : Access) → accessesOf head plan x ≡ true → x .operation < 16
-unfolding accessesOf isAccess
-plan-operations head plan book holds x h =
-    let w =
-    any-at (λ i. gives (kindAt plan i) (x .channel) && reaches head plan (rowA plan i) (x .leaf) (x .operation))
-    (rowCount plan) h in
-    had-small head (x .leaf) (x .operation) book
-    (reaches-had head plan holds (rowA plan (w .0)) (x .leaf) (x .operation)
-    (and-right (gives (kindAt plan (w .0)) (x .channel)) (reaches head plan (rowA plan (w .0)) (x .leaf) (x .operation))
-    (w .1)))
 
 -- Judge's answer
 

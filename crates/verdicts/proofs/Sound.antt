@@ -25,7 +25,7 @@ use Rattle.verdicts.specs.Accesses.{Accesses, accessesOf, heldBy}
 use Rattle.verdicts.specs.Inner.Words.{RuleSound}
 use Rattle.verdicts.specs.Breaking.{breaks, brokenMask}
 use Rattle.verdicts.proofs.Marks.{Marks}
-use Rattle.verdicts.proofs.Monotone.{refused-same}
+use Rattle.verdicts.proofs.Verdict.{mask-same}
 use Rattle.verdicts.proofs.Held.{held-plan}
 
 -- A rule
@@ -137,17 +137,6 @@ module _ (book : List ℕ) (accepted : BookAccepted book) (user : ℕ) where
       (plan : List ℕ)
       → brokenMask book user (heldBy (accessWords (headOf book) plan))
       ≡ brokenMask book user (accessesOf (headOf book) plan)
-  unfolding brokenMask breaks
   mask-held plan =
-      let words = heldBy (accessWords (headOf book) plan) in
-      let flows = accessesOf (headOf book) plan in
-      let held = word-of (λ r. breaks (headOf book) (ruleAt book r) user words) (ruleCount book) in
-      let had = word-of (λ r. breaks (headOf book) (ruleAt book r) user flows) (ruleCount book) in
-      same-members (ruleCount book) (brokenMask book user words)
-      (brokenMask book user flows) (held .0) (had .0)
-      (λ r l.
-      held .1 r
-      ∙ rw
-      (refused-same (headOf book) (ruleAt book r) words flows
-      (held-plan (headOf book) plan (accepted-head book accepted .data-most)))
-      (sym (had .1 r)))
+      mask-same book user (heldBy (accessWords (headOf book) plan)) (accessesOf (headOf book) plan)
+      (held-plan (headOf book) plan (accepted-head book accepted .data-most))

@@ -1,6 +1,6 @@
 -- Accesses, and which of them fit a reference of a rule. Document 01, "Breaking a rule". Assumes nothing.
 use Prim.Native.Nat.{ℕ, zero, suc, _+_, _*_}
-use mathlib.Core.Bool.{Bool, true, false, _&&_}
+use mathlib.Core.Bool.{Bool, true, false, _&&_, _||_}
 use mathlib.Core.List.{List, [], _∷_, map}
 use lib.ListN.{getD}
 use lib.Dec.{eqb, ltb}
@@ -38,6 +38,10 @@ unfoldable pub heldBy : (words : List ℕ) → Accesses
 heldBy words x =
     ltb (x .channel) 2
     && (ltb (x .operation) 16 && has (getD words (16 * x .channel + x .operation) 0) (x .leaf))
+
+-- two sets joined
+unfoldable pub union : Accesses → Accesses → Accesses
+union a b x = a x || b x
 
 unfoldable pub keep : {A : Type 0} → (A → Bool) → List A → List A
 keep f [] = []

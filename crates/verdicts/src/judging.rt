@@ -57,7 +57,7 @@ fn test_user(t: &[u64], user: u32) -> Tested
 }
 
 // The tests of the book, of the user, of the plan.
-fn test_judge(book: &[u8], t: &[u64], user: u32, plan: &[u8]) -> Tested
+pub fn test_judge(book: &[u8], t: &[u64], user: u32, plan: &[u8]) -> Tested
     ensures { λ r. ⌜ (HeadWords (headOf (now (book .entry))) (now (t .entry))
         → r ≡ firstFailing (judgeTests (now (book .entry)) user (now (plan .entry)))) ⌝ }
 {

@@ -1,0 +1,278 @@
+-- Laws of Submit: what it has tested when it accepts, and its reply, ledger and tally by the outcome of its tests.
+-- Assumes nothing.
+use Prim.Native.Nat.{ℕ, _+_, _<_}
+use native.Mathlib.Omega.{arith}
+use mathlib.Core.Path.{_≡_, refl, sym, ap, _∙_}
+use mathlib.Core.Bool.{Bool, true, false, _&&_, _||_, cond}
+use mathlib.Core.Logic.{⊎-elim}
+use mathlib.Core.List.{List, _∷_, _++_}
+use lib.ListN.{length}
+use lib.Dec.{eqb, ltb}
+use borrow.Author.Tests.{eq-eqb, ne-eqb, eqb-true, eqb-false, ltb-true, lt-ltb}
+use Rattle.book.specs.Blocks.{headOf}
+use Rattle.book.specs.Tests.{Passes, firstFailing}
+use Rattle.book.specs.Inner.Testing.{orElse}
+use Rattle.book.specs.declared.Refusal.{Refusal}
+use Rattle.book.specs.declared.Tested.{Tested}
+use Rattle.book.specs.declared.Tested.the-variants as tested
+use Rattle.book.proofs.Accepted.{accepted-head}
+use Rattle.book.proofs.Answers.{answered-passed, answered-refused, append-passed, first-append, joined, last-passed}
+use Rattle.book.proofs.Lists.{and-both, and-right, or-either, same-test}
+use Rattle.lineage.specs.Accesses.{accessWords}
+use Rattle.lineage.proofs.Accepted.{accepted-plan}
+use Rattle.verdicts.specs.Accesses.{Access, accessesOf, heldBy, union}
+use Rattle.verdicts.specs.Breaking.{brokenMask}
+use Rattle.verdicts.specs.Answers.{judgeTests}
+use Rattle.verdicts.specs.Demand.{Demand2}
+use Rattle.verdicts.proofs.DemandLaws.{query-demand}
+use Rattle.verdicts.proofs.Held.{held-operations, held-plan, held-union, plan-operations}
+use Rattle.verdicts.proofs.JudgeLaws.{judge-accepted, judge-passes}
+use Rattle.verdicts.proofs.Verdict.{mask-same}
+use Rattle.ledger.specs.Ledger.{heldFor, joinedFor, wordsOf}
+use Rattle.ledger.specs.Answers.{countsHold, ledgerTests, tallyTests, submitTests, joinedAccesses, unionMask}
+use Rattle.ledger.specs.Answers.{submitAnswer, ledgerAfter, submitLedger, tallyAfter, submitTally}
+use Rattle.ledger.specs.Histories.{next, recordsAfter}
+use Rattle.ledger.specs.Demand.{SubmitAccepted, Submits, Continues}
+use Rattle.ledger.specs.Inner.Steps.{joinedWords}
+use Rattle.ledger.specs.declared.Tally.{Tally}
+use Rattle.ledger.specs.declared.Outcome.{Outcome}
+use Rattle.ledger.specs.declared.Submitted.{Submitted}
+use Rattle.ledger.specs.declared.Submitted.the-variants as submitted
+use Rattle.ledger.proofs.WordLaws.{joined-at}
+
+-- The tests
+
+-- each count is at most the sum
+pub counts-sum : (tally : Tally) → ltb (tally .admitted + tally .declined) 1000000 ≡ countsHold tally
+unfolding countsHold
+counts-sum tally =
+    same-test (ltb (tally .admitted + tally .declined) 1000000) (countsHold tally)
+    (λ h.
+    let l : tally .admitted + tally .declined < 1000000 = ltb-true (tally .admitted + tally .declined) 1000000 h in
+    rw (lt-ltb (tally .admitted) 1000000 (omega arith), lt-ltb (tally .declined) 1000000 (omega arith), h))
+    (λ h.
+    and-right (ltb (tally .declined) 1000000) (ltb (tally .admitted + tally .declined) 1000000)
+    (and-right (ltb (tally .admitted) 1000000)
+    (ltb (tally .declined) 1000000 && ltb (tally .admitted + tally .declined) 1000000) h))
+
+module _ (book : List ℕ) (user : ℕ) (plan ledger : List ℕ) (tally : Tally) where
+  -- the outcomes of the parts, joined in document 02's order
+  pub submit-joined :
+      (x y both z r : Tested)
+      → x ≡ firstFailing (judgeTests book user plan)
+      → y ≡ firstFailing (ledgerTests ledger)
+      → both ≡ orElse x y
+      → z ≡ firstFailing (tallyTests tally)
+      → r ≡ orElse both z
+      → r ≡ firstFailing (submitTests book user plan ledger tally)
+  unfolding submitTests
+  submit-joined x y both z r ex ey eb ez er =
+      joined (judgeTests book user plan ++ ledgerTests ledger) (tallyTests tally) both z r
+      (joined (judgeTests book user plan) (ledgerTests ledger) x y both ex ey eb) ez er
+
+  -- what Submit has tested when it accepts, and the other way
+  pub submit-accepted : Passes (submitTests book user plan ledger tally) → SubmitAccepted book user plan ledger tally
+  unfolding submitTests ledgerTests tallyTests
+  submit-accepted h =
+      let last = append-passed (judgeTests book user plan ++ ledgerTests ledger) (tallyTests tally) h in
+      let first = append-passed (judgeTests book user plan) (ledgerTests ledger) (last .0) in
+      record {
+        judge-accepted = judge-accepted book user plan (first .0);
+        ledger-whole = eqb-true (length ledger) 1024 (last-passed 27 0 (eqb (length ledger) 1024) (first .1));
+        counts-below =
+            ltb-true (tally .admitted + tally .declined) 1000000
+            (counts-sum tally ∙ last-passed 28 0 (countsHold tally) (last .1));
+      }
+
+  pub submit-passes : SubmitAccepted book user plan ledger tally → Passes (submitTests book user plan ledger tally)
+  unfolding submitTests ledgerTests tallyTests firstFailing orElse
+  submit-passes given =
+      rw (
+        first-append (judgeTests book user plan ++ ledgerTests ledger) (tallyTests tally),
+        first-append (judgeTests book user plan) (ledgerTests ledger),
+        judge-passes book user plan (given .judge-accepted),
+        eq-eqb (length ledger) 1024 (given .ledger-whole),
+        ← (counts-sum tally),
+        lt-ltb (tally .admitted + tally .declined) 1000000 (given .counts-below),
+      )
+
+  -- The reply
+
+  pub submit-answer :
+      Passes (submitTests book user plan ledger tally)
+      → submitAnswer book user plan ledger tally
+      ≡ cond (eqb (unionMask book user plan ledger) 0) submitted.Admitted
+      (submitted.Declined (unionMask book user plan ledger))
+  unfolding submitAnswer
+  submit-answer h =
+      answered-passed (submitTests book user plan ledger tally) submitted.Refused
+      (cond (eqb (unionMask book user plan ledger) 0) submitted.Admitted
+      (submitted.Declined (unionMask book user plan ledger))) h
+
+  pub refused-answer :
+      (r : Refusal)
+      → firstFailing (submitTests book user plan ledger tally) ≡ tested.Refused r
+      → submitAnswer book user plan ledger tally ≡ submitted.Refused r
+  unfolding submitAnswer
+  refused-answer r h =
+      answered-refused (submitTests book user plan ledger tally) submitted.Refused
+      (cond (eqb (unionMask book user plan ledger) 0) submitted.Admitted
+      (submitted.Declined (unionMask book user plan ledger))) r h
+
+  -- What it means
+
+  -- the operations of the union are below 16
+  union-operations :
+      SubmitAccepted book user plan ledger tally
+      → (x : Access)
+      → joinedAccesses book user plan ledger x ≡ true
+      → x .operation < 16
+  unfolding joinedAccesses union heldFor
+  union-operations given x h =
+      let accepted = given .judge-accepted in
+      ⊎-elim
+      (λ (t : heldBy (wordsOf ledger user) x ≡ true). held-operations (wordsOf ledger user) x t)
+      (λ (t : accessesOf (headOf book) plan x ≡ true).
+      plan-operations (headOf book) plan (accepted-head book (accepted .book-accepted))
+      (accepted-plan (headOf book) plan (accepted .plan-accepted)) x t)
+      (or-either (heldBy (wordsOf ledger user) x) (accessesOf (headOf book) plan x) h)
+
+  pub union-demand :
+      SubmitAccepted book user plan ledger tally
+      → Demand2 book user (joinedAccesses book user plan ledger) (unionMask book user plan ledger)
+  unfolding unionMask
+  union-demand given = query-demand book user (joinedAccesses book user plan ledger) (union-operations given)
+
+  submit-means :
+      SubmitAccepted book user plan ledger tally
+      → Submits book user (joinedAccesses book user plan ledger) (submitAnswer book user plan ledger tally)
+  submit-means given =
+      go (eqb (unionMask book user plan ledger) 0) refl (submit-answer (submit-passes given)) (union-demand given)
+    where
+      go :
+          (b : Bool)
+          → eqb (unionMask book user plan ledger) 0 ≡ b
+          → submitAnswer book user plan ledger tally
+          ≡ cond b submitted.Admitted (submitted.Declined (unionMask book user plan ledger))
+          → Demand2 book user (joinedAccesses book user plan ledger) (unionMask book user plan ledger)
+          → Submits book user (joinedAccesses book user plan ledger) (submitAnswer book user plan ledger tally)
+      go true e a d =
+          record {
+            admitted-satisfies = λ z. d .zero-satisfies (eqb-true (unionMask book user plan ledger) 0 e);
+            satisfies-admitted = λ s. a;
+            otherwise = λ n. absurd (n a);
+          }
+      go false e a d =
+          let some : unionMask book user plan ledger ≡ 0 → ⊥ = eqb-false (unionMask book user plan ledger) 0 e in
+          record {
+            admitted-satisfies =
+                λ z.
+                let b = sym a ∙ z in
+                let n : _≡_ {A = ℕ} 0 1 = cc in
+                absurd (omega arith);
+            satisfies-admitted = λ s. absurd (some (d .satisfies-zero s));
+            otherwise = λ n. (unionMask book user plan ledger, a, omega (arith, some), d);
+          }
+
+  -- a submission to what a list has left makes the list one longer
+  continues :
+      (after : List ℕ) (counted : Tally)
+      → counted ≡ submitTally book user plan ledger tally
+      → after ≡ submitLedger book user plan ledger tally
+      → Continues book user plan ledger after tally counted
+  unfolding recordsAfter next
+  continues after counted et el list left = rw (left, el, et)
+
+  -- what Submit promises of its outcome and of the ledger on leaving
+  abbrev pub Promised : Outcome → List ℕ → Type 0
+  Promised r after =
+      (r .reply ≡ submitAnswer book user plan ledger tally)
+      × (r .tally ≡ submitTally book user plan ledger tally)
+      × (after ≡ submitLedger book user plan ledger tally)
+      × (SubmitAccepted book user plan ledger tally
+      → Submits book user (joinedAccesses book user plan ledger) (r .reply))
+      × Continues book user plan ledger after tally (r .tally)
+
+  promised :
+      (r : Outcome) (after : List ℕ)
+      → r .reply ≡ submitAnswer book user plan ledger tally
+      → r .tally ≡ submitTally book user plan ledger tally
+      → after ≡ submitLedger book user plan ledger tally
+      → Promised r after
+  promised r after er et el =
+      (er, et, el, λ given. rw er (submit-means given), continues after (r .tally) et el)
+
+  -- The outcomes
+
+  pub submit-refused :
+      (r : Refusal)
+      → firstFailing (submitTests book user plan ledger tally) ≡ tested.Refused r
+      → Promised (record { reply = submitted.Refused r; tally = tally }) ledger
+  unfolding submitTally tallyAfter submitLedger ledgerAfter
+  submit-refused r h =
+      let a = refused-answer r h in
+      promised (record { reply = submitted.Refused r; tally = tally }) ledger (sym a) (rw a) (rw a)
+
+  module _
+      (accepted : SubmitAccepted book user plan ledger tally)
+      (words : List ℕ)
+      (mask : ℕ)
+      (r : Outcome)
+      (words-are : words ≡ accessWords (headOf book) plan)
+      (mask-is : mask ≡ brokenMask book user (union (heldFor ledger user) (heldBy words)))
+    where
+      is-union : mask ≡ unionMask book user plan ledger
+      unfolding unionMask joinedAccesses union
+      is-union =
+          mask-is
+          ∙ mask-same book user (union (heldFor ledger user) (heldBy words)) (joinedAccesses book user plan ledger)
+          (λ x k.
+          rw (
+            words-are,
+            held-plan (headOf book) plan (accepted-head book (accepted .judge-accepted .book-accepted) .data-most) x k,
+          ))
+
+      answer-is :
+          (b : Bool)
+          → eqb mask 0 ≡ b
+          → submitAnswer book user plan ledger tally ≡ cond b submitted.Admitted (submitted.Declined mask)
+      answer-is b e =
+          rw (← e, is-union) (submit-answer (submit-passes accepted))
+
+      pub submit-admitted :
+          (after : List ℕ)
+          → mask ≡ 0
+          → r .reply ≡ submitted.Admitted
+          → r .tally .admitted ≡ tally .admitted + 1
+          → r .tally .declined ≡ tally .declined
+          → after ≡ joinedFor ledger user words
+          → Promised r after
+      unfolding submitTally tallyAfter submitLedger ledgerAfter
+      submit-admitted after z er ea ed el =
+          let a = answer-is true (eq-eqb mask 0 z) in
+          promised r after (er ∙ sym a) (rw a (λ i. record { admitted = ea i; declined = ed i }))
+          (rw a (el ∙ ap (joinedFor ledger user) words-are))
+
+      pub submit-declined :
+          (mask ≡ 0 → ⊥)
+          → r .reply ≡ submitted.Declined mask
+          → r .tally .admitted ≡ tally .admitted
+          → r .tally .declined ≡ tally .declined + 1
+          → Promised r ledger
+      unfolding submitTally tallyAfter submitLedger ledgerAfter
+      submit-declined z er ea ed =
+          let a = answer-is false (ne-eqb mask 0 z) in
+          promised r ledger (er ∙ sym a) (rw a (λ i. record { admitted = ea i; declined = ed i })) (rw a)
+
+-- the mask of what a user holds joined with some words
+pub mask-joined :
+    (book : List ℕ) (user : ℕ) (ledger words : List ℕ)
+    → brokenMask book user (heldBy (joinedWords (wordsOf ledger user) words))
+    ≡ brokenMask book user (union (heldFor ledger user) (heldBy words))
+unfolding heldFor
+mask-joined book user ledger words =
+    mask-same book user (heldBy (joinedWords (wordsOf ledger user) words))
+    (union (heldBy (wordsOf ledger user)) (heldBy words))
+    (λ x k.
+    held-union (wordsOf ledger user) words (joinedWords (wordsOf ledger user) words)
+    (joined-at (wordsOf ledger user) words) x)

@@ -1,0 +1,209 @@
+-- Laws of words by their index: a user's words, what is joined to them, and what they hold. Assumes nothing.
+use Prim.Native.Nat.{ℕ, _+_, _*_, _-_, _/_, _%_, _≤_, _<_}
+use native.Mathlib.Nat.{zero-add}
+use native.Mathlib.Omega.{arith}
+use mathlib.Core.Path.{_≡_, refl, sym, ap, _∙_}
+use mathlib.Core.Bool.{Bool, true, false, cond}
+use mathlib.Core.List.{List, map}
+use lib.ListN.{length, getD, set, length-set, List·getD-eq-default}
+use lib.Seq.{ext-getD, getD-set-same, getD-set-other}
+use lib.Bits.{bitOr, or-zero-r}
+use lib.Dec.{eqb, ltb}
+use borrow.Author.Tests.{eq-eqb, ne-eqb, eqb-true, eqb-false, ltb-true, ltb-false}
+use Rattle.book.specs.Lists.{from, upTo}
+use Rattle.book.proofs.Loops.{Filled}
+use Rattle.lineage.proofs.Words.{getD-from, length-from}
+use Rattle.verdicts.specs.Accesses.{Access, heldBy, union}
+use Rattle.verdicts.proofs.Held.{held-same, held-union}
+use Rattle.ledger.specs.Ledger.{heldFor, joinedFor, wordsOf}
+use Rattle.ledger.specs.Inner.Steps.{joinedWords}
+
+-- A list by its elements
+
+module _ (g : ℕ → ℕ) (n : ℕ) where
+  mapped-at : (j : ℕ) → j < n → getD (map g (upTo n)) j 0 ≡ g j
+  unfolding upTo
+  mapped-at j h = getD-from g 0 n j h ∙ ap g (zero-add j)
+
+  pub mapped-length : length (map g (upTo n)) ≡ n
+  unfolding upTo
+  mapped-length = length-from g 0 n
+
+  -- an array that was written to its end
+  pub filled-map : {r : List ℕ} {k : ℕ} → Filled n (λ j v. v ≡ g j) r k → n ≤ k → r ≡ map g (upTo n)
+  filled-map {r = r} {k = k} f past =
+      let size : length r ≡ n = f .size in
+      ext-getD 0 r (map g (upTo n)) (size ∙ sym mapped-length)
+      (λ j l. f .at j (omega (arith, size, l)) ∙ sym (mapped-at j (omega (arith, size, l))))
+
+pub joined-at : (a b : List ℕ) (w : ℕ) → w < 32 → getD (joinedWords a b) w 0 ≡ bitOr (getD a w 0) (getD b w 0)
+unfolding joinedWords
+joined-at a b w l = mapped-at (λ v. bitOr (getD a v 0) (getD b v 0)) 32 w l
+
+-- Words joined to those of a user, one a turn
+
+-- the first k of them, from the word `first` on
+pub record Joined (first : ℕ) (words old new : List ℕ) (k : ℕ) : Type 0 where
+  pub bound : k ≤ 32
+  pub size : length new ≡ length old
+  pub below : (j : ℕ) → j < first → getD new j 0 ≡ getD old j 0
+  pub own :
+      (w : ℕ)
+      → w < k
+      → first + w < length old
+      → getD new (first + w) 0 ≡ bitOr (getD old (first + w) 0) (getD words w 0)
+  pub above : (j : ℕ) → first + k ≤ j → getD new j 0 ≡ getD old j 0
+
+pub join-none : {first : ℕ} {words old : List ℕ} → Joined first words old old 0
+join-none =
+    record {
+      bound = omega arith;
+      size = refl;
+      below = λ j l. refl;
+      own = λ w l m. absurd (omega arith);
+      above = λ j l. refl;
+    }
+
+module _ {first : ℕ} {words old new : List ℕ} {k : ℕ} (so-far : Joined first words old new k) (low : k < 32) where
+  pub join-more :
+      first + k < length new
+      → Joined first words old (set new (first + k) (bitOr (getD new (first + k) 0) (getD words k 0))) (k + 1)
+  join-more room =
+      record {
+        bound = omega arith;
+        size = length-set new (first + k) word ∙ so-far .size;
+        below = λ j l. getD-set-other new (first + k) j word 0 (λ e. omega arith) ∙ so-far .below j l;
+        own = λ w l m. at w l m (eqb w k) refl;
+        above = λ j l. getD-set-other new (first + k) j word 0 (λ e. omega arith) ∙ so-far .above j (omega arith);
+      }
+    where
+      word : ℕ
+      word = bitOr (getD new (first + k) 0) (getD words k 0)
+
+      at :
+          (w : ℕ)
+          → w < k + 1
+          → first + w < length old
+          → (b : Bool)
+          → eqb w k ≡ b
+          → getD (set new (first + k) word) (first + w) 0 ≡ bitOr (getD old (first + w) 0) (getD words w 0)
+      at w l m true e =
+          rw (eqb-true w k e, getD-set-same new (first + k) word 0 room, so-far .above (first + k) (omega arith))
+      at w l m false e =
+          let other : w ≡ k → ⊥ = eqb-false w k e in
+          getD-set-other new (first + k) (first + w) word 0 (λ z. other (omega arith))
+          ∙ so-far .own w (omega (arith, other)) m
+
+  -- past the end nothing is written
+  pub join-past : length new ≤ first + k → Joined first words old new (k + 1)
+  join-past past =
+      let same : length new ≡ length old = so-far .size in
+      record {
+        bound = omega arith;
+        size = same;
+        below = so-far .below;
+        own = λ w l m. so-far .own w (omega arith) m;
+        above = λ j l. so-far .above j (omega arith);
+      }
+
+pub join-end :
+    (user : ℕ) {first : ℕ} {words old new : List ℕ} {k : ℕ}
+    → first ≡ 32 * user
+    → Joined first words old new k
+    → 32 ≤ k
+    → new ≡ joinedFor old user words
+unfolding joinedFor
+join-end user {first} {words} {old} {new} {k} start all past =
+    ext-getD 0 new (map g (upTo (length old))) (all .size ∙ sym (mapped-length g (length old)))
+    (λ j l.
+    let m : j < length old = rw (all .size) at l in
+    at j m (ltb j first) refl (ltb j (first + 32)) refl ∙ sym (mapped-at g (length old) j m))
+  where
+    g : ℕ → ℕ
+    g j = bitOr (getD old j 0) (cond (eqb (j / 32) user) (getD words (j % 32) 0) 0)
+
+    other : (j : ℕ) → (j / 32 ≡ user → ⊥) → getD old j 0 ≡ g j
+    other j n = rw (ne-eqb (j / 32) user n) (sym (or-zero-r (getD old j 0)))
+
+    at : (j : ℕ) → j < length old → (b : Bool) → ltb j first ≡ b → (c : Bool) → ltb j (first + 32) ≡ c → getD new j 0 ≡ g j
+    at j m true e c f =
+        let l : j < first = ltb-true j first e in
+        all .below j l ∙ other j (λ z. omega arith)
+    at j m false e true f =
+        let lo : first ≤ j = ltb-false j first e in
+        let hi : j < first + 32 = ltb-true j (first + 32) f in
+        let w = j - first in
+        let z : j ≡ first + w = omega arith in
+        let q : j / 32 ≡ user = omega arith in
+        let p : j % 32 ≡ w = omega arith in
+        ap (λ (i : ℕ). getD new i 0) z
+        ∙ all .own w (omega arith) (omega arith)
+        ∙ rw (p, eq-eqb (j / 32) user q, ← z)
+    at j m false e false f =
+        let hi : first + 32 ≤ j = ltb-false j (first + 32) f in
+        let most : k ≤ 32 = all .bound in
+        all .above j (omega arith) ∙ other j (λ z. omega arith)
+
+-- What is held
+
+words-at : (ledger : List ℕ) (user w : ℕ) → w < 32 → getD (wordsOf ledger user) w 0 ≡ getD ledger (32 * user + w) 0
+unfolding wordsOf
+words-at ledger user w l = mapped-at (λ v. getD ledger (32 * user + v) 0) 32 w l
+
+module _ (ledger : List ℕ) (user : ℕ) (words : List ℕ) where
+  pub joined-length : length (joinedFor ledger user words) ≡ length ledger
+  unfolding joinedFor
+  joined-length =
+      mapped-length (λ j. bitOr (getD ledger j 0) (cond (eqb (j / 32) user) (getD words (j % 32) 0) 0)) (length ledger)
+
+  joined-word :
+      (j : ℕ)
+      → j < length ledger
+      → getD (joinedFor ledger user words) j 0
+      ≡ bitOr (getD ledger j 0) (cond (eqb (j / 32) user) (getD words (j % 32) 0) 0)
+  unfolding joinedFor
+  joined-word j l =
+      mapped-at (λ j. bitOr (getD ledger j 0) (cond (eqb (j / 32) user) (getD words (j % 32) 0) 0)) (length ledger) j l
+
+  -- the user holds the union
+  pub held-own :
+      32 * user + 32 ≤ length ledger
+      → (x : Access)
+      → heldFor (joinedFor ledger user words) user x ≡ union (heldFor ledger user) (heldBy words) x
+  unfolding heldFor
+  held-own room =
+      held-union (wordsOf ledger user) words (wordsOf (joinedFor ledger user words) user)
+      (λ w l.
+      let q : (32 * user + w) / 32 ≡ user = omega arith in
+      let p : (32 * user + w) % 32 ≡ w = omega arith in
+      words-at (joinedFor ledger user words) user w l
+      ∙ joined-word (32 * user + w) (omega arith)
+      ∙ rw (p, eq-eqb ((32 * user + w) / 32) user q, words-at ledger user w l))
+
+  -- any other user what he held
+  pub held-other :
+      (other : ℕ)
+      → (other ≡ user → ⊥)
+      → (x : Access)
+      → heldFor (joinedFor ledger user words) other x ≡ heldFor ledger other x
+  unfolding heldFor
+  held-other other apart =
+      held-same (wordsOf (joinedFor ledger user words) other) (wordsOf ledger other)
+      (λ w l.
+      words-at (joinedFor ledger user words) other w l
+      ∙ same (32 * other + w) (λ z. apart (omega arith)) (ltb (32 * other + w) (length ledger)) refl
+      ∙ sym (words-at ledger other w l))
+    where
+      same :
+          (j : ℕ)
+          → (j / 32 ≡ user → ⊥)
+          → (b : Bool)
+          → ltb j (length ledger) ≡ b
+          → getD (joinedFor ledger user words) j 0 ≡ getD ledger j 0
+      same j n true e =
+          joined-word j (ltb-true j (length ledger) e)
+          ∙ rw (ne-eqb (j / 32) user n) (or-zero-r (getD ledger j 0))
+      same j n false e =
+          let past : length ledger ≤ j = ltb-false j (length ledger) e in
+          List·getD-eq-default (joinedFor ledger user words) 0 (rw joined-length past)
+          ∙ sym (List·getD-eq-default ledger 0 past)

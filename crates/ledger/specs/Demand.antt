@@ -1,0 +1,81 @@
+-- N3, over the definitions of accesses and rules and not over the ledger's words: what one submission says, and what
+-- holds "for every list of submissions from a fresh ledger and tally with one book". Document 02, N3. Assumes nothing.
+use Prim.Native.Nat.{ℕ, _+_, _<_}
+use mathlib.Core.Path.{_≡_}
+use mathlib.Core.Bool.{Bool, false}
+use mathlib.Core.List.{List, _∷_}
+use lib.ListN.{length}
+use Rattle.book.specs.Lists.{any}
+use Rattle.book.specs.Blocks.{Book, Head, headOf, ruleAt, ruleCount}
+use Rattle.book.specs.Refusals.{BookAccepted}
+use Rattle.lineage.specs.Rows.{Plan}
+use Rattle.verdicts.specs.Accesses.{Access, Accesses, accessesOf, keep}
+use Rattle.verdicts.specs.Breaking.{breaks}
+use Rattle.verdicts.specs.Semantics.{SatisfiesPolicy}
+use Rattle.verdicts.specs.Demand.{JudgeAccepted, Demand2}
+use Rattle.ledger.specs.Ledger.{Ledger, heldFor}
+use Rattle.ledger.specs.Answers.{joinedAccesses}
+use Rattle.ledger.specs.Histories.{Submission, Records, Entry, recordsAfter, log, notRefused, entriesOf}
+use Rattle.ledger.specs.Histories.{admittedPlans}
+use Rattle.ledger.specs.declared.Tally.{Tally}
+use Rattle.ledger.specs.declared.Submitted.{Submitted}
+use Rattle.ledger.specs.declared.Submitted.the-variants.{Admitted, Declined}
+
+-- One submission
+
+-- what Submit has to be given: what Judge has to be given, a whole ledger, and counts below their limit
+pub record SubmitAccepted (book : Book) (user : ℕ) (plan : Plan) (ledger : Ledger) (tally : Tally) : Type 0 where
+  pub judge-accepted : JudgeAccepted book user plan
+  pub ledger-whole : length ledger ≡ 1024
+  -- each count is at most the sum
+  pub counts-below : tally .admitted + tally .declined < 1000000
+
+-- the reply, by the accesses of the plan joined with those held for its user
+pub record Submits (book : Book) (user : ℕ) (query : Accesses) (reply : Submitted) : Type 0 where
+  -- "A plan is declined exactly when [they] break a rule": it is admitted exactly when they satisfy the policy
+  pub admitted-satisfies : reply ≡ Admitted → SatisfiesPolicy book user query
+  pub satisfies-admitted : SatisfiesPolicy book user query → reply ≡ Admitted
+  -- "the mask of that union is the reply", and it is not 0
+  pub otherwise :
+      (reply ≡ Admitted → ⊥) → (mask : ℕ) × (reply ≡ Declined mask) × (0 < mask) × Demand2 book user query mask
+
+-- Every list of submissions
+
+-- the ledger and the tally that a list leaves, with one book, from fresh
+abbrev pub Leaves : Book → List Submission → Ledger → Tally → Type 0
+Leaves book list ledger tally = recordsAfter book list ≡ record { ledger = ledger; tally = tally }
+
+-- a submission to what a list has left makes the list one longer; so what is promised below of every list holds after
+-- every call
+abbrev pub Continues :
+    (book : Book) (user : ℕ) (plan : Plan) (before after : Ledger) (tally counted : Tally) → Type 0
+Continues book user plan before after tally counted =
+    (list : List Submission)
+    → Leaves book list before tally
+    → Leaves book (record { user = user; plan = plan } ∷ list) after counted
+
+-- an access of one of some plans
+unfoldable pub inSome : Head → List Plan → Accesses
+inSome head plans x = any (λ plan. accessesOf head plan x) plans
+
+-- of each user number, over what he holds and the replies to him
+pub record Holds (book : Book) (user : ℕ) (held : Accesses) (own : List Entry) : Type 0 where
+  -- "each user holds exactly the union of his admitted plans"
+  pub union : (x : Access) → held x ≡ inSome (headOf book) (admittedPlans own) x
+  -- "breaks no rule with it": no rule of an accepted book; with any other book every submission is refused
+  pub breaks-none :
+      BookAccepted book
+      → (r : ℕ)
+      → r < ruleCount book
+      → breaks (headOf book) (ruleAt book r) user held ≡ false
+  -- the same in the words of source document 000
+  pub satisfies : BookAccepted book → SatisfiesPolicy book user held
+
+pub record Promise (book : Book) (list : List Submission) : Type 0 where
+  pub each :
+      (user : ℕ)
+      → Holds book user (heldFor (recordsAfter book list .ledger) user) (entriesOf user (log book list))
+  -- "admitted + declined is the number of submissions that were not refused"
+  pub counted :
+      recordsAfter book list .tally .admitted + recordsAfter book list .tally .declined
+      ≡ length (keep (λ e. notRefused (e .reply)) (log book list))
