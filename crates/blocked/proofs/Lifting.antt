@@ -23,13 +23,13 @@ use Rattle.verdicts.specs.Breaking.{breaks, someChoiceRefused}
 use Rattle.verdicts.proofs.Accesses.{leaf-set-below, Apart}
 use Rattle.verdicts.proofs.Quantifiers.{any-below}
 use Rattle.verdicts.proofs.Sound.{few-rules, rules-sound}
+use Rattle.verdicts.proofs.Users.{user-below}
 use Rattle.search.specs.Obtainable.{canBeHad, labelled, operated}
 use Rattle.search.specs.Choices.{isChoice}
 use Rattle.search.specs.Inner.Places.{PlacesOf, accessAt, choiceAt, inPlaces, nowhere}
 use Rattle.search.specs.Inner.Table.{CoversHold, HadHolds, TableHolds, meets, takesOperation}
 use Rattle.search.specs.Inner.Closing.{closes}
 use Rattle.search.specs.Inner.Search.{candidate, coversIn}
-use Rattle.search.proofs.Orders.{user-below}
 use Rattle.search.proofs.Placements.{closes-broken}
 use Rattle.search.proofs.ChoicePlaces.{Stand, choice-places, places-choice, standsAt, stands-most}
 use Rattle.search.proofs.ChoiceTables.{candidate-stands}

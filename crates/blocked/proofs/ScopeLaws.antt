@@ -18,12 +18,13 @@ use Rattle.verdicts.specs.Accesses.{fits, keep}
 use Rattle.verdicts.specs.Breaking.{choicesFrom}
 use Rattle.verdicts.proofs.Accesses.{fits-bounds}
 use Rattle.verdicts.proofs.Quantifiers.{flat-all}
+use Rattle.verdicts.proofs.Users.{user-below}
 use Rattle.search.specs.Obtainable.{labelled}
 use Rattle.search.specs.Alone.{none, shown}
 use Rattle.search.proofs.Rising.{all-member, first-nothing, first-something, flat-member, keep-member, keep-passes}
 use Rattle.search.proofs.Rising.{map-every, none-first, rising, rising-flat, rising-keep, rising-map, shown-first}
 use Rattle.search.proofs.Rising.{upTo-member, upTo-rising}
-use Rattle.search.proofs.Orders.{choices-rising, user-below}
+use Rattle.search.proofs.Orders.{choices-rising}
 use Rattle.blocked.specs.Associations.{Datum, Pair, accessTo, associationBefore, associations, datumBefore}
 use Rattle.blocked.specs.Associations.{everyDatum, inScopeAt, isAssociation, isAssociationFrom, pairBefore}
 use Rattle.blocked.specs.Associations.{sameDatum, scope}

@@ -30,6 +30,7 @@ use Rattle.verdicts.specs.declared.Judged.the-variants as judged
 use Rattle.verdicts.proofs.Gate.{judged-accepted}
 use Rattle.verdicts.proofs.JudgeLaws.{judge-answer, judge-passes}
 use Rattle.verdicts.proofs.Sound.{few-rules}
+use Rattle.verdicts.proofs.Users.{user-below}
 use Rattle.search.specs.Choices.{Candidate, isChoice, isChoiceFrom}
 use Rattle.search.specs.Shown.{shownPlan, shownFrom, accessRows, columnRow, applyRow, lastRow, rowsOf}
 use Rattle.search.specs.Alone.{First, none, shown, firstAlone}
@@ -38,7 +39,7 @@ use Rattle.search.specs.Demand.{IdleAccepted}
 use Rattle.search.specs.declared.Idleness.the-variants as idleness
 use Rattle.search.proofs.DemandLaws.{idle-answer}
 use Rattle.search.proofs.IdleLaws.{idle-told}
-use Rattle.search.proofs.Orders.{shown-alone, user-below}
+use Rattle.search.proofs.Orders.{shown-alone}
 use Rattle.search.proofs.ShownPlans.{shown-few}
 use Rattle.blocked.specs.Associations.{Datum, Pair, inScopeAt, isAssociation, isAssociationFrom}
 use Rattle.blocked.specs.Answers.{datumByte, closedAnswer, blockedAnswer}

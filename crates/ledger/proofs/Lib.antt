@@ -1,2 +1,4 @@
 pub mod WordLaws
 pub mod SubmitLaws
+pub mod Kept
+pub mod Vectors

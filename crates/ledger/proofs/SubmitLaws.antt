@@ -3,9 +3,9 @@
 use Prim.Native.Nat.{ℕ, _+_, _<_}
 use native.Mathlib.Omega.{arith}
 use mathlib.Core.Path.{_≡_, refl, sym, ap, _∙_}
-use mathlib.Core.Bool.{Bool, true, false, _&&_, _||_, cond}
+use mathlib.Core.Bool.{Bool, true, false, _&&_, cond}
 use mathlib.Core.Logic.{⊎-elim}
-use mathlib.Core.List.{List, _∷_, _++_}
+use mathlib.Core.List.{List, _++_}
 use lib.ListN.{length}
 use lib.Dec.{eqb, ltb}
 use borrow.Author.Tests.{eq-eqb, ne-eqb, eqb-true, eqb-false, ltb-true, lt-ltb}
@@ -17,7 +17,7 @@ use Rattle.book.specs.declared.Tested.{Tested}
 use Rattle.book.specs.declared.Tested.the-variants as tested
 use Rattle.book.proofs.Accepted.{accepted-head}
 use Rattle.book.proofs.Answers.{answered-passed, answered-refused, append-passed, first-append, joined, last-passed}
-use Rattle.book.proofs.Lists.{and-both, and-right, or-either, same-test}
+use Rattle.book.proofs.Lists.{and-right, or-either, same-test}
 use Rattle.lineage.specs.Accesses.{accessWords}
 use Rattle.lineage.proofs.Accepted.{accepted-plan}
 use Rattle.verdicts.specs.Accesses.{Access, accessesOf, heldBy, union}
@@ -36,7 +36,6 @@ use Rattle.ledger.specs.Demand.{SubmitAccepted, Submits, Continues}
 use Rattle.ledger.specs.Inner.Steps.{joinedWords}
 use Rattle.ledger.specs.declared.Tally.{Tally}
 use Rattle.ledger.specs.declared.Outcome.{Outcome}
-use Rattle.ledger.specs.declared.Submitted.{Submitted}
 use Rattle.ledger.specs.declared.Submitted.the-variants as submitted
 use Rattle.ledger.proofs.WordLaws.{joined-at}
 

@@ -5,13 +5,14 @@ use native.Mathlib.Omega.{arith}
 use mathlib.Core.Path.{_≡_, refl, sym, ap, _∙_}
 use mathlib.Core.Bool.{Bool, true, false, cond}
 use mathlib.Core.List.{List, map}
-use lib.ListN.{length, getD, set, length-set, List·getD-eq-default}
+use lib.ListN.{length, getD, replicate, set, length-set, List·getD-eq-default}
 use lib.Seq.{ext-getD, getD-set-same, getD-set-other}
 use lib.Bits.{bitOr, or-zero-r}
 use lib.Dec.{eqb, ltb}
 use borrow.Author.Tests.{eq-eqb, ne-eqb, eqb-true, eqb-false, ltb-true, ltb-false}
 use Rattle.book.specs.Lists.{from, upTo}
 use Rattle.book.proofs.Loops.{Filled}
+use Rattle.lineage.proofs.Steps.{getD-zeros}
 use Rattle.lineage.proofs.Words.{getD-from, length-from}
 use Rattle.verdicts.specs.Accesses.{Access, heldBy, union}
 use Rattle.verdicts.proofs.Held.{held-same, held-union}
@@ -149,6 +150,9 @@ join-end user {first} {words} {old} {new} {k} start all past =
 words-at : (ledger : List ℕ) (user w : ℕ) → w < 32 → getD (wordsOf ledger user) w 0 ≡ getD ledger (32 * user + w) 0
 unfolding wordsOf
 words-at ledger user w l = mapped-at (λ v. getD ledger (32 * user + v) 0) 32 w l
+
+pub words-zero : (n user w : ℕ) → w < 32 → _≡_ {A = ℕ} (getD (wordsOf (replicate n 0) user) w 0) 0
+words-zero n user w l = words-at (replicate n 0) user w l ∙ getD-zeros n (32 * user + w)
 
 module _ (ledger : List ℕ) (user : ℕ) (words : List ℕ) where
   pub joined-length : length (joinedFor ledger user words) ≡ length ledger

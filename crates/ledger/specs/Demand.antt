@@ -2,7 +2,7 @@
 -- holds "for every list of submissions from a fresh ledger and tally with one book". Document 02, N3. Assumes nothing.
 use Prim.Native.Nat.{ℕ, _+_, _<_}
 use mathlib.Core.Path.{_≡_}
-use mathlib.Core.Bool.{Bool, false}
+use mathlib.Core.Bool.{false}
 use mathlib.Core.List.{List, _∷_}
 use lib.ListN.{length}
 use Rattle.book.specs.Lists.{any}
@@ -14,8 +14,7 @@ use Rattle.verdicts.specs.Breaking.{breaks}
 use Rattle.verdicts.specs.Semantics.{SatisfiesPolicy}
 use Rattle.verdicts.specs.Demand.{JudgeAccepted, Demand2}
 use Rattle.ledger.specs.Ledger.{Ledger, heldFor}
-use Rattle.ledger.specs.Answers.{joinedAccesses}
-use Rattle.ledger.specs.Histories.{Submission, Records, Entry, recordsAfter, log, notRefused, entriesOf}
+use Rattle.ledger.specs.Histories.{Submission, Entry, recordsAfter, log, notRefused, entriesOf}
 use Rattle.ledger.specs.Histories.{admittedPlans}
 use Rattle.ledger.specs.declared.Tally.{Tally}
 use Rattle.ledger.specs.declared.Submitted.{Submitted}

@@ -21,6 +21,7 @@ use Rattle.book.proofs.Lists.{all-same, and-assoc, and-both, and-left, any-from
 use Rattle.verdicts.specs.Accesses.{Access, members}
 use Rattle.verdicts.specs.Inner.Words.{RuleSound}
 use Rattle.verdicts.specs.Breaking.{breaks, someChoiceRefused}
+use Rattle.verdicts.proofs.Users.{user-below}
 use Rattle.verdicts.proofs.Accesses.{leaf-set-below, Apart}
 use Rattle.verdicts.proofs.Quantifiers.{any-below}
 use Rattle.verdicts.proofs.Sound.{few-rules, rules-sound}
@@ -208,7 +209,7 @@ module _ (book : List ℕ) (accepted : BookAccepted book) (bytes : (i : ℕ) →
   fails c user h none =
       let holds = accepted-head book accepted in
       let most : userCount (headOf book) ≤ 32 = holds .users-most in
-      let below : c .user < 32 = omega (arith, orders.user-below (headOf book) (c .user) user) in
+      let below : c .user < 32 = omega (arith, user-below (headOf book) (c .user) user) in
       let p =
       choice-places (headOf book) (ruleAt book r) holds (referenceCount (ruleAt book r)) (sound r l .some)
       (sound r l .few) (c .choice) h in

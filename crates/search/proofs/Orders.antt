@@ -4,20 +4,21 @@ use Prim.Native.Nat.{ℕ, zero, suc, _+_, _≤_, _<_}
 use native.Mathlib.Omega.{arith}
 use mathlib.Core.Path.{_≡_, refl}
 use mathlib.Core.Logic.{_⊎_}
-use mathlib.Core.Bool.{Bool, true, false, _&&_, _||_, not, cond, false≢true}
+use mathlib.Core.Bool.{Bool, true, false, _&&_, _||_, cond, false≢true}
 use mathlib.Core.List.{List, [], _∷_, map, List·Memᴰ, List·Memᴰ·head, Memᴰ·cast, Memᴰ·map}
 use lib.Dec.{eqb, ltb}
-use borrow.Author.Tests.{eqb-true, eq-eqb, ltb-true}
+use borrow.Author.Tests.{eqb-true, eq-eqb}
 use Rattle.book.specs.Lists.{flat, all, any, upTo}
 use Rattle.book.specs.Blocks.{headOf, ruleAt, ruleCount}
 use Rattle.book.specs.Hierarchies.{leaf}
-use Rattle.book.specs.Head.{dataCount, functionCount, isUser, operation, supports, userCount, userParent}
+use Rattle.book.specs.Head.{dataCount, functionCount, isUser, operation, supports, userCount}
 use Rattle.book.specs.Rule.{referenceCount}
 use Rattle.book.specs.Refusals.{BookAccepted}
 use Rattle.book.proofs.Accepted.{HeadHolds, accepted-head}
 use Rattle.book.proofs.Lists.{and-true, and-left, and-right, and-both, or-true, map-all}
 use Rattle.verdicts.specs.Accesses.{Access, Accesses, everyAccess, fits, fitting, keep, same}
 use Rattle.verdicts.specs.Breaking.{choicesFrom}
+use Rattle.verdicts.proofs.Users.{user-below}
 use Rattle.verdicts.proofs.Accesses.{access, in-fitting, same-equal, same-self}
 use Rattle.verdicts.proofs.Quantifiers.{any-at, flat-all}
 use Rattle.search.specs.Obtainable.{canBeHad, labelled, operated}
@@ -298,12 +299,6 @@ module _ (head rule : List ℕ) where
   candidate-parts c m =
       users-pass (choicesByWeight head rule)
       (parted-all weight (isChoice head rule) (suc (referenceCount rule)) (choicesOf head rule) chosen-pass) c m
-
-pub user-below : (head : List ℕ) (u : ℕ) → isUser head u ≡ true → u < userCount head
-unfolding isUser leaf
-user-below head u h =
-    let others = all (λ j. eqb j u || not (eqb (userParent head j) u)) (upTo (userCount head)) in
-    ltb-true u (userCount head) (and-left (ltb u (userCount head)) others h)
 
 pub users-in :
     (head : List ℕ) (choices : List (List Access)) (c : Candidate)

@@ -1,0 +1,276 @@
+-- What every list of submissions from fresh keeps, in one record, and that a submission keeps it. Assumes nothing.
+use Prim.Native.Nat.{ℕ, _+_, _*_, _≤_}
+use native.Mathlib.Omega.{arith}
+use mathlib.Core.Path.{_≡_, refl, sym, _∙_}
+use mathlib.Core.Bool.{Bool, true, false, _||_, cond}
+use mathlib.Core.List.{List, [], _∷_}
+use lib.ListN.{length, length-replicate}
+use lib.Dec.{eqb}
+use borrow.Author.Tests.{eq-eqb, ne-eqb, eqb-true, eqb-false}
+use Rattle.book.specs.Lists.{any}
+use Rattle.book.specs.Blocks.{headOf}
+use Rattle.book.specs.Tests.{firstFailing}
+use Rattle.book.specs.Refusals.{BookAccepted}
+use Rattle.book.specs.declared.Refusal.{Refusal}
+use Rattle.book.specs.declared.Tested.{Tested}
+use Rattle.book.specs.declared.Tested.the-variants as tested
+use Rattle.book.proofs.Accepted.{accepted-head}
+use Rattle.lineage.specs.Accesses.{accessWords}
+use Rattle.lineage.proofs.Accepted.{accepted-plan}
+use Rattle.verdicts.specs.Accesses.{Access, accessesOf, keep, union}
+use Rattle.verdicts.specs.Breaking.{brokenMask}
+use Rattle.verdicts.proofs.Held.{held-accesses, held-operations, held-zero}
+use Rattle.verdicts.proofs.DemandLaws.{query-demand}
+use Rattle.verdicts.proofs.Quantifiers.{keep-in, keep-out}
+use Rattle.verdicts.proofs.Users.{user-below}
+use Rattle.verdicts.proofs.Verdict.{broken-none, mask-same, nothing-broken}
+use Rattle.ledger.specs.Ledger.{heldFor, wordsOf}
+use Rattle.ledger.specs.Answers.{submitTests, joinedAccesses, unionMask, submitAnswer, ledgerAfter, submitLedger}
+use Rattle.ledger.specs.Answers.{tallyAfter, submitTally}
+use Rattle.ledger.specs.Histories.{Submission, Records, fresh, replyTo, next, Entry, recordsAfter, log}
+use Rattle.ledger.specs.Histories.{isAdmitted, notRefused, entriesOf, admittedPlans}
+use Rattle.ledger.specs.Demand.{SubmitAccepted, inSome, Holds, Promise}
+use Rattle.ledger.specs.declared.Submitted.{Submitted}
+use Rattle.ledger.specs.declared.Submitted.the-variants.{Admitted, Declined, Refused}
+use Rattle.ledger.proofs.WordLaws.{words-zero, held-own, held-other, joined-length}
+use Rattle.ledger.proofs.SubmitLaws.{submit-accepted, submit-answer, refused-answer}
+
+-- the records agree with the replies, and nobody breaks a rule
+pub record Kept (book : List ℕ) (s : Records) (entries : List Entry) : Type 0 where
+  pub long : length (s .ledger) ≡ 1024
+  pub counted : s .tally .admitted + s .tally .declined ≡ length (keep (λ e. notRefused (e .reply)) entries)
+  pub held :
+      (u : ℕ) (x : Access)
+      → heldFor (s .ledger) u x ≡ inSome (headOf book) (admittedPlans (entriesOf u entries)) x
+  pub lawful : BookAccepted book → (u : ℕ) → brokenMask book u (heldFor (s .ledger) u) ≡ 0
+
+-- The replies
+
+-- what holds of each reply that may come holds of the one that does
+module _ (book : List ℕ) (user : ℕ) (plan : List ℕ) (s : Records) (P : Submitted → Type 0) where
+  by-reply :
+      ((r : Refusal) → P (Refused r))
+      → (SubmitAccepted book user plan (s .ledger) (s .tally)
+      → unionMask book user plan (s .ledger) ≡ 0
+      → P Admitted)
+      → ((mask : ℕ) → P (Declined mask))
+      → P (submitAnswer book user plan (s .ledger) (s .tally))
+  by-reply refused admitted declined = go (firstFailing (submitTests book user plan (s .ledger) (s .tally))) refl
+    where
+      mask : ℕ
+      mask = unionMask book user plan (s .ledger)
+
+      by-mask :
+          SubmitAccepted book user plan (s .ledger) (s .tally)
+          → (b : Bool)
+          → eqb mask 0 ≡ b
+          → P (cond b Admitted (Declined mask))
+      by-mask given true e = admitted given (eqb-true mask 0 e)
+      by-mask given false e = declined mask
+
+      go :
+          (f : Tested)
+          → firstFailing (submitTests book user plan (s .ledger) (s .tally)) ≡ f
+          → P (submitAnswer book user plan (s .ledger) (s .tally))
+      go tested.Passed e =
+          rw (submit-answer book user plan (s .ledger) (s .tally) e)
+          (by-mask (submit-accepted book user plan (s .ledger) (s .tally) e) (eqb mask 0) refl)
+      go (tested.Refused r) e = rw (refused-answer book user plan (s .ledger) (s .tally) r e) (refused r)
+
+-- One entry more
+
+module _ (e : Entry) (entries : List Entry) where
+  own-entry : (u : ℕ) → e .submission .user ≡ u → entriesOf u (e ∷ entries) ≡ e ∷ entriesOf u entries
+  unfolding entriesOf
+  own-entry u z = keep-in (λ e. eqb (e .submission .user) u) e entries (eq-eqb (e .submission .user) u z)
+
+  other-entry : (u : ℕ) → (e .submission .user ≡ u → ⊥) → entriesOf u (e ∷ entries) ≡ entriesOf u entries
+  unfolding entriesOf
+  other-entry u n = keep-out (λ e. eqb (e .submission .user) u) e entries (ne-eqb (e .submission .user) u n)
+
+  -- an entry that is not 'admitted' has no plan for anybody
+  plans-same :
+      isAdmitted (e .reply) ≡ false
+      → (u : ℕ)
+      → admittedPlans (entriesOf u (e ∷ entries)) ≡ admittedPlans (entriesOf u entries)
+  unfolding admittedPlans
+  plans-same left-out u = go (eqb (e .submission .user) u) refl
+    where
+      go : (b : Bool) → eqb (e .submission .user) u ≡ b → admittedPlans (entriesOf u (e ∷ entries)) ≡ admittedPlans (entriesOf u entries)
+      go true z =
+          rw (own-entry u (eqb-true (e .submission .user) u z), keep-out (λ e. isAdmitted (e .reply)) e (entriesOf u entries) left-out)
+      go false z = rw (other-entry u (eqb-false (e .submission .user) u z))
+
+-- One submission
+
+module _ (book : List ℕ) (s : Records) (entries : List Entry) (kept : Kept book s entries) (x : Submission) where
+  entry : Submitted → Entry
+  entry reply = record { submission = x; reply = reply }
+
+  after : Submitted → Records
+  after reply =
+      record {
+        ledger = ledgerAfter book (x .user) (x .plan) (s .ledger) reply;
+        tally = tallyAfter reply (s .tally);
+      }
+
+  refused-kept : (r : Refusal) → Kept book (after (Refused r)) (entry (Refused r) ∷ entries)
+  unfolding after entry ledgerAfter tallyAfter notRefused isAdmitted
+  refused-kept r =
+      record {
+        long = kept .long;
+        counted = rw (keep-out (λ e. notRefused (e .reply)) (entry (Refused r)) entries refl) (kept .counted);
+        held = λ u y. rw (plans-same (entry (Refused r)) entries refl u) (kept .held u y);
+        lawful = kept .lawful;
+      }
+
+  declined-kept : (mask : ℕ) → Kept book (after (Declined mask)) (entry (Declined mask) ∷ entries)
+  unfolding after entry ledgerAfter tallyAfter notRefused isAdmitted
+  declined-kept mask =
+      let sum = kept .counted in
+      record {
+        long = kept .long;
+        counted = rw (keep-in (λ e. notRefused (e .reply)) (entry (Declined mask)) entries refl) (omega (arith, sum));
+        held = λ u y. rw (plans-same (entry (Declined mask)) entries refl u) (kept .held u y);
+        lawful = kept .lawful;
+      }
+
+  module _
+      (given : SubmitAccepted book (x .user) (x .plan) (s .ledger) (s .tally))
+      (none : unionMask book (x .user) (x .plan) (s .ledger) ≡ 0)
+    where
+      words : List ℕ
+      words = accessWords (headOf book) (x .plan)
+
+      room : 32 * x .user + 32 ≤ length (s .ledger)
+      room =
+          let head = accepted-head book (given .judge-accepted .book-accepted) in
+          let low = user-below (headOf book) (x .user) (given .judge-accepted .a-user) in
+          omega (arith, kept .long, head .users-most, low)
+
+      -- the user holds the union
+      own-held :
+          (y : Access)
+          → heldFor (after Admitted .ledger) (x .user) y ≡ joinedAccesses book (x .user) (x .plan) (s .ledger) y
+      unfolding after ledgerAfter joinedAccesses union
+      own-held y =
+          held-own (s .ledger) (x .user) (accessWords (headOf book) (x .plan)) room y
+          ∙ rw
+          (held-accesses (headOf book) (x .plan) (accepted-head book (given .judge-accepted .book-accepted))
+          (accepted-plan (headOf book) (x .plan) (given .judge-accepted .plan-accepted)) y)
+
+      -- others what they held
+      other-held : (u : ℕ) → (x .user ≡ u → ⊥) → (y : Access) → heldFor (after Admitted .ledger) u y ≡ heldFor (s .ledger) u y
+      unfolding after ledgerAfter
+      other-held u n = held-other (s .ledger) (x .user) (accessWords (headOf book) (x .plan)) u (λ z. n (sym z))
+
+      own-plans :
+          admittedPlans (entriesOf (x .user) (entry Admitted ∷ entries))
+          ≡ x .plan ∷ admittedPlans (entriesOf (x .user) entries)
+      unfolding admittedPlans entry isAdmitted
+      own-plans =
+          rw (
+            own-entry (entry Admitted) entries (x .user) refl,
+            keep-in (λ e. isAdmitted (e .reply)) (entry Admitted) (entriesOf (x .user) entries) refl,
+          )
+
+      turned : (a b c : Bool) → a ≡ c → (a || b) ≡ (b || c)
+      turned true true c e = refl
+      turned true false c e = e
+      turned false true c e = refl
+      turned false false c e = e
+
+      held-after :
+          (u : ℕ) (b : Bool)
+          → eqb (x .user) u ≡ b
+          → (y : Access)
+          → heldFor (after Admitted .ledger) u y
+          ≡ inSome (headOf book) (admittedPlans (entriesOf u (entry Admitted ∷ entries))) y
+      unfolding inSome any joinedAccesses union entry
+      held-after u true e y =
+          let z : x .user ≡ u = eqb-true (x .user) u e in
+          rw (← z) (own-held y
+          ∙ rw own-plans
+          (turned (heldFor (s .ledger) (x .user) y) (accessesOf (headOf book) (x .plan) y)
+          (any (λ plan. accessesOf (headOf book) plan y) (admittedPlans (entriesOf (x .user) entries)))
+          (kept .held (x .user) y)))
+      held-after u false e y =
+          let n = eqb-false (x .user) u e in
+          other-held u n y ∙ kept .held u y ∙ rw (other-entry (entry Admitted) entries u n)
+
+      lawful-after :
+          BookAccepted book
+          → (u : ℕ) (b : Bool)
+          → eqb (x .user) u ≡ b
+          → brokenMask book u (heldFor (after Admitted .ledger) u) ≡ 0
+      unfolding unionMask
+      lawful-after accepted u true e =
+          let z : x .user ≡ u = eqb-true (x .user) u e in
+          rw (← z)
+          (mask-same book (x .user) (heldFor (after Admitted .ledger) (x .user))
+          (joinedAccesses book (x .user) (x .plan) (s .ledger)) (λ y k. own-held y)
+          ∙ none)
+      lawful-after accepted u false e =
+          mask-same book u (heldFor (after Admitted .ledger) u) (heldFor (s .ledger) u)
+          (λ y k. other-held u (eqb-false (x .user) u e) y)
+          ∙ kept .lawful accepted u
+
+      admitted-kept : Kept book (after Admitted) (entry Admitted ∷ entries)
+      unfolding after entry ledgerAfter tallyAfter notRefused
+      admitted-kept =
+          let sum = kept .counted in
+          record {
+            long = joined-length (s .ledger) (x .user) (accessWords (headOf book) (x .plan)) ∙ kept .long;
+            counted = rw (keep-in (λ e. notRefused (e .reply)) (entry Admitted) entries refl) (omega (arith, sum));
+            held = λ u y. held-after u (eqb (x .user) u) refl y;
+            lawful = λ accepted u. lawful-after accepted u (eqb (x .user) u) refl;
+          }
+
+  kept-after :
+      Kept book (next book s x) (record { submission = x; reply = replyTo book s x } ∷ entries)
+  unfolding next replyTo submitLedger submitTally after entry
+  kept-after =
+      by-reply book (x .user) (x .plan) s (λ reply. Kept book (after reply) (entry reply ∷ entries)) refused-kept
+      admitted-kept declined-kept
+
+-- Fresh records, and every list
+
+nothing-held : (u : ℕ) (x : Access) → heldFor (fresh .ledger) u x ≡ false
+unfolding heldFor
+nothing-held u = held-zero (wordsOf (fresh .ledger) u) (words-zero 1024 u)
+
+kept-fresh : (book : List ℕ) → Kept book fresh []
+unfolding inSome any entriesOf admittedPlans keep
+kept-fresh book =
+    record {
+      long = length-replicate {A = ℕ} 1024 0;
+      counted = refl;
+      held = nothing-held;
+      lawful = λ accepted u. nothing-broken (heldFor (fresh .ledger) u) (nothing-held u) book u accepted;
+    }
+
+pub kept : (book : List ℕ) (list : List Submission) → Kept book (recordsAfter book list) (log book list)
+unfolding recordsAfter log
+kept book [] = kept-fresh book
+kept book (x ∷ earlier) = kept-after book (recordsAfter book earlier) (log book earlier) (kept book earlier) x
+
+-- the promise of document 02, of every list
+pub promise : (book : List ℕ) (list : List Submission) → Promise book list
+unfolding heldFor
+promise book list =
+    record { each = λ user. holds user (kept book list); counted = kept book list .counted }
+  where
+    holds :
+        (user : ℕ)
+        → Kept book (recordsAfter book list) (log book list)
+        → Holds book user (heldFor (recordsAfter book list .ledger) user) (entriesOf user (log book list))
+    holds user k =
+        let mine = heldFor (recordsAfter book list .ledger) user in
+        record {
+          union = k .held user;
+          breaks-none = λ accepted. broken-none book user mine (k .lawful accepted user);
+          satisfies =
+              λ accepted.
+              query-demand book user mine (held-operations (wordsOf (recordsAfter book list .ledger) user))
+              .zero-satisfies (k .lawful accepted user);
+        }
