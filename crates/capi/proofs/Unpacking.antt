@@ -1,14 +1,12 @@
 -- A call's number can be taken apart again: the refusal's number, its place and the value are the answer's own, so two
 -- different answers are never one number. Assumes nothing.
 use Prim.Native.Nat.{ℕ, zero, suc, _+_, _*_, _/_, _%_, _≤_, _<_}
-use native.Mathlib.Nat.{lt-of-lt-of-le}
 use native.Mathlib.Omega.{arith}
 use mathlib.Core.Path.{_≡_, refl, sym, _∙_}
 use mathlib.Core.Bool.{Bool, true, false, cond, false≢true}
 use mathlib.Core.List.{List, [], _∷_, _++_}
 use lib.ListN.{length, length-append}
 use lib.Dec.{eqb}
-use lib.Pow.{pow-mono}
 use Rattle.book.specs.Blocks.{headOf, ruleAt, ruleCount}
 use Rattle.book.specs.Head.{dataCount, userCount}
 use Rattle.book.specs.Rule.{referenceCount}
@@ -22,14 +20,13 @@ use Rattle.book.proofs.Lists.{and-both}
 use Rattle.lineage.specs.Rows.{rowCount}
 use Rattle.lineage.specs.Answers.{flowsAnswer}
 use Rattle.lineage.specs.declared.Flowed.the-variants as flowed
-use Rattle.lineage.proofs.Words.{word-of}
 use Rattle.verdicts.specs.Accesses.{Access, accessesOf}
-use Rattle.verdicts.specs.Breaking.{breaks, brokenMask}
+use Rattle.verdicts.specs.Breaking.{brokenMask}
 use Rattle.verdicts.specs.Answers.{judgeAnswer}
 use Rattle.verdicts.specs.declared.Judged.the-variants as judged
 use Rattle.verdicts.proofs.Gate.{judged-accepted}
 use Rattle.verdicts.proofs.JudgeLaws.{judge-answer, judge-passes}
-use Rattle.verdicts.proofs.Sound.{few-rules}
+use Rattle.verdicts.proofs.Sound.{mask-fits}
 use Rattle.verdicts.proofs.Users.{user-below}
 use Rattle.search.specs.Choices.{Candidate, isChoice, isChoiceFrom}
 use Rattle.search.specs.Shown.{shownPlan, shownFrom, accessRows, columnRow, applyRow, lastRow, rowsOf}
@@ -130,15 +127,12 @@ check-parts book n h =
 
 pub judge-mask :
     (book : List ℕ) (user : ℕ) (plan : List ℕ) (mask : ℕ) → judgeAnswer book user plan ≡ judged.Broken mask → mask < 4294967296
-unfolding brokenMask
 judge-mask book user plan mask h =
     let given = judged-accepted book user plan mask h in
-    let broken : ℕ → Bool = λ r. breaks (headOf book) (ruleAt book r) user (accessesOf (headOf book) plan) in
     let a : judged.Broken mask ≡ judged.Broken (brokenMask book user (accessesOf (headOf book) plan)) =
     sym h ∙ judge-answer book user plan (judge-passes book user plan given) in
     let same : mask ≡ brokenMask book user (accessesOf (headOf book) plan) = cc in
-    rw same
-    (lt-of-lt-of-le (word-of broken (ruleCount book) .0) (pow-mono (few-rules book (given .book-accepted))))
+    rw same (mask-fits book (given .book-accepted) user (accessesOf (headOf book) plan))
 
 pub judge-parts :
     (book : List ℕ) (user : ℕ) (plan : List ℕ) (mask : ℕ)

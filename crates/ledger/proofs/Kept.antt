@@ -1,39 +1,34 @@
 -- What every list of submissions from fresh keeps, in one record, and that a submission keeps it. Assumes nothing.
-use Prim.Native.Nat.{ℕ, _+_, _*_, _≤_}
+use Prim.Native.Nat.{ℕ, _+_}
 use native.Mathlib.Omega.{arith}
 use mathlib.Core.Path.{_≡_, refl, sym, _∙_}
-use mathlib.Core.Bool.{Bool, true, false, _||_, cond}
+use mathlib.Core.Bool.{Bool, true, false, _||_}
 use mathlib.Core.List.{List, [], _∷_}
 use lib.ListN.{length, length-replicate}
 use lib.Dec.{eqb}
 use borrow.Author.Tests.{eq-eqb, ne-eqb, eqb-true, eqb-false}
 use Rattle.book.specs.Lists.{any}
 use Rattle.book.specs.Blocks.{headOf}
-use Rattle.book.specs.Tests.{firstFailing}
 use Rattle.book.specs.Refusals.{BookAccepted}
 use Rattle.book.specs.declared.Refusal.{Refusal}
-use Rattle.book.specs.declared.Tested.{Tested}
 use Rattle.book.specs.declared.Tested.the-variants as tested
-use Rattle.book.proofs.Accepted.{accepted-head}
 use Rattle.lineage.specs.Accesses.{accessWords}
-use Rattle.lineage.proofs.Accepted.{accepted-plan}
 use Rattle.verdicts.specs.Accesses.{Access, accessesOf, keep, union}
 use Rattle.verdicts.specs.Breaking.{brokenMask}
-use Rattle.verdicts.proofs.Held.{held-accesses, held-operations, held-zero}
+use Rattle.verdicts.proofs.Held.{held-operations, held-zero}
 use Rattle.verdicts.proofs.DemandLaws.{query-demand}
 use Rattle.verdicts.proofs.Quantifiers.{keep-in, keep-out}
-use Rattle.verdicts.proofs.Users.{user-below}
 use Rattle.verdicts.proofs.Verdict.{broken-none, mask-same, nothing-broken}
 use Rattle.ledger.specs.Ledger.{heldFor, wordsOf}
-use Rattle.ledger.specs.Answers.{submitTests, joinedAccesses, unionMask, submitAnswer, ledgerAfter, submitLedger}
+use Rattle.ledger.specs.Answers.{joinedAccesses, unionMask, ledgerAfter, submitLedger}
 use Rattle.ledger.specs.Answers.{tallyAfter, submitTally}
 use Rattle.ledger.specs.Histories.{Submission, Records, fresh, replyTo, next, Entry, recordsAfter, log}
 use Rattle.ledger.specs.Histories.{isAdmitted, notRefused, entriesOf, admittedPlans}
 use Rattle.ledger.specs.Demand.{SubmitAccepted, inSome, Holds, Promise}
 use Rattle.ledger.specs.declared.Submitted.{Submitted}
 use Rattle.ledger.specs.declared.Submitted.the-variants.{Admitted, Declined, Refused}
-use Rattle.ledger.proofs.WordLaws.{words-zero, held-own, held-other, joined-length}
-use Rattle.ledger.proofs.SubmitLaws.{submit-accepted, submit-answer, refused-answer}
+use Rattle.ledger.proofs.WordLaws.{words-zero, held-other, joined-length}
+use Rattle.ledger.proofs.SubmitLaws.{admitted-holds, by-reply}
 
 -- the records agree with the replies, and nobody breaks a rule
 pub record Kept (book : List ℕ) (s : Records) (entries : List Entry) : Type 0 where
@@ -43,39 +38,6 @@ pub record Kept (book : List ℕ) (s : Records) (entries : List Entry) : Type 0 
       (u : ℕ) (x : Access)
       → heldFor (s .ledger) u x ≡ inSome (headOf book) (admittedPlans (entriesOf u entries)) x
   pub lawful : BookAccepted book → (u : ℕ) → brokenMask book u (heldFor (s .ledger) u) ≡ 0
-
--- The replies
-
--- what holds of each reply that may come holds of the one that does
-module _ (book : List ℕ) (user : ℕ) (plan : List ℕ) (s : Records) (P : Submitted → Type 0) where
-  by-reply :
-      ((r : Refusal) → P (Refused r))
-      → (SubmitAccepted book user plan (s .ledger) (s .tally)
-      → unionMask book user plan (s .ledger) ≡ 0
-      → P Admitted)
-      → ((mask : ℕ) → P (Declined mask))
-      → P (submitAnswer book user plan (s .ledger) (s .tally))
-  by-reply refused admitted declined = go (firstFailing (submitTests book user plan (s .ledger) (s .tally))) refl
-    where
-      mask : ℕ
-      mask = unionMask book user plan (s .ledger)
-
-      by-mask :
-          SubmitAccepted book user plan (s .ledger) (s .tally)
-          → (b : Bool)
-          → eqb mask 0 ≡ b
-          → P (cond b Admitted (Declined mask))
-      by-mask given true e = admitted given (eqb-true mask 0 e)
-      by-mask given false e = declined mask
-
-      go :
-          (f : Tested)
-          → firstFailing (submitTests book user plan (s .ledger) (s .tally)) ≡ f
-          → P (submitAnswer book user plan (s .ledger) (s .tally))
-      go tested.Passed e =
-          rw (submit-answer book user plan (s .ledger) (s .tally) e)
-          (by-mask (submit-accepted book user plan (s .ledger) (s .tally) e) (eqb mask 0) refl)
-      go (tested.Refused r) e = rw (refused-answer book user plan (s .ledger) (s .tally) r e) (refused r)
 
 -- One entry more
 
@@ -139,25 +101,12 @@ module _ (book : List ℕ) (s : Records) (entries : List Entry) (kept : Kept boo
       (given : SubmitAccepted book (x .user) (x .plan) (s .ledger) (s .tally))
       (none : unionMask book (x .user) (x .plan) (s .ledger) ≡ 0)
     where
-      words : List ℕ
-      words = accessWords (headOf book) (x .plan)
-
-      room : 32 * x .user + 32 ≤ length (s .ledger)
-      room =
-          let head = accepted-head book (given .judge-accepted .book-accepted) in
-          let low = user-below (headOf book) (x .user) (given .judge-accepted .a-user) in
-          omega (arith, kept .long, head .users-most, low)
-
       -- the user holds the union
       own-held :
           (y : Access)
           → heldFor (after Admitted .ledger) (x .user) y ≡ joinedAccesses book (x .user) (x .plan) (s .ledger) y
-      unfolding after ledgerAfter joinedAccesses union
-      own-held y =
-          held-own (s .ledger) (x .user) (accessWords (headOf book) (x .plan)) room y
-          ∙ rw
-          (held-accesses (headOf book) (x .plan) (accepted-head book (given .judge-accepted .book-accepted))
-          (accepted-plan (headOf book) (x .plan) (given .judge-accepted .plan-accepted)) y)
+      unfolding after ledgerAfter
+      own-held = admitted-holds book (x .user) (x .plan) (s .ledger) (s .tally) given
 
       -- others what they held
       other-held : (u : ℕ) → (x .user ≡ u → ⊥) → (y : Access) → heldFor (after Admitted .ledger) u y ≡ heldFor (s .ledger) u y
@@ -230,8 +179,9 @@ module _ (book : List ℕ) (s : Records) (entries : List Entry) (kept : Kept boo
       Kept book (next book s x) (record { submission = x; reply = replyTo book s x } ∷ entries)
   unfolding next replyTo submitLedger submitTally after entry
   kept-after =
-      by-reply book (x .user) (x .plan) s (λ reply. Kept book (after reply) (entry reply ∷ entries)) refused-kept
-      admitted-kept declined-kept
+      by-reply book (x .user) (x .plan) (s .ledger) (s .tally)
+      (λ reply. Kept book (after reply) (entry reply ∷ entries)) (λ r e. refused-kept r) admitted-kept
+      (λ given some. declined-kept (unionMask book (x .user) (x .plan) (s .ledger)))
 
 -- Fresh records, and every list
 

@@ -17,6 +17,7 @@ use Rattle.book.specs.declared.Tested.{Tested}
 use Rattle.book.specs.declared.Tested.the-variants as tested
 use Rattle.book.proofs.Accepted.{accepted-head}
 use Rattle.book.proofs.Answers.{answered-passed, answered-refused, append-passed, first-append, joined, last-passed}
+use Rattle.book.proofs.Answers.{refused-passed}
 use Rattle.book.proofs.Lists.{and-right, or-either, same-test}
 use Rattle.lineage.specs.Accesses.{accessWords}
 use Rattle.lineage.proofs.Accepted.{accepted-plan}
@@ -25,8 +26,9 @@ use Rattle.verdicts.specs.Breaking.{brokenMask}
 use Rattle.verdicts.specs.Answers.{judgeTests}
 use Rattle.verdicts.specs.Demand.{Demand2}
 use Rattle.verdicts.proofs.DemandLaws.{query-demand}
-use Rattle.verdicts.proofs.Held.{held-operations, held-plan, held-union, plan-operations}
+use Rattle.verdicts.proofs.Held.{held-accesses, held-operations, held-plan, held-union, plan-operations}
 use Rattle.verdicts.proofs.JudgeLaws.{judge-accepted, judge-passes}
+use Rattle.verdicts.proofs.Users.{user-below}
 use Rattle.verdicts.proofs.Verdict.{mask-same}
 use Rattle.ledger.specs.Ledger.{heldFor, joinedFor, wordsOf}
 use Rattle.ledger.specs.Answers.{countsHold, ledgerTests, tallyTests, submitTests, joinedAccesses, unionMask}
@@ -36,8 +38,9 @@ use Rattle.ledger.specs.Demand.{SubmitAccepted, Submits, Continues}
 use Rattle.ledger.specs.Inner.Steps.{joinedWords}
 use Rattle.ledger.specs.declared.Tally.{Tally}
 use Rattle.ledger.specs.declared.Outcome.{Outcome}
+use Rattle.ledger.specs.declared.Submitted.{Submitted}
 use Rattle.ledger.specs.declared.Submitted.the-variants as submitted
-use Rattle.ledger.proofs.WordLaws.{joined-at}
+use Rattle.ledger.proofs.WordLaws.{held-own, joined-at}
 
 -- The tests
 
@@ -97,7 +100,7 @@ module _ (book : List ℕ) (user : ℕ) (plan ledger : List ℕ) (tally : Tally)
 
   -- The reply
 
-  pub submit-answer :
+  submit-answer :
       Passes (submitTests book user plan ledger tally)
       → submitAnswer book user plan ledger tally
       ≡ cond (eqb (unionMask book user plan ledger) 0) submitted.Admitted
@@ -108,7 +111,7 @@ module _ (book : List ℕ) (user : ℕ) (plan ledger : List ℕ) (tally : Tally)
       (cond (eqb (unionMask book user plan ledger) 0) submitted.Admitted
       (submitted.Declined (unionMask book user plan ledger))) h
 
-  pub refused-answer :
+  refused-answer :
       (r : Refusal)
       → firstFailing (submitTests book user plan ledger tally) ≡ tested.Refused r
       → submitAnswer book user plan ledger tally ≡ submitted.Refused r
@@ -117,6 +120,35 @@ module _ (book : List ℕ) (user : ℕ) (plan ledger : List ℕ) (tally : Tally)
       answered-refused (submitTests book user plan ledger tally) submitted.Refused
       (cond (eqb (unionMask book user plan ledger) 0) submitted.Admitted
       (submitted.Declined (unionMask book user plan ledger))) r h
+
+  -- what holds of each reply that may come holds of the one that does
+  pub by-reply :
+      (P : Submitted → Type 0)
+      → ((r : Refusal) → firstFailing (submitTests book user plan ledger tally) ≡ tested.Refused r → P (submitted.Refused r))
+      → (SubmitAccepted book user plan ledger tally → unionMask book user plan ledger ≡ 0 → P submitted.Admitted)
+      → (SubmitAccepted book user plan ledger tally
+      → (unionMask book user plan ledger ≡ 0 → ⊥)
+      → P (submitted.Declined (unionMask book user plan ledger)))
+      → P (submitAnswer book user plan ledger tally)
+  by-reply P refused admitted declined = go (firstFailing (submitTests book user plan ledger tally)) refl
+    where
+      mask : ℕ
+      mask = unionMask book user plan ledger
+
+      by-mask :
+          SubmitAccepted book user plan ledger tally
+          → (b : Bool)
+          → eqb mask 0 ≡ b
+          → P (cond b submitted.Admitted (submitted.Declined mask))
+      by-mask given true e = admitted given (eqb-true mask 0 e)
+      by-mask given false e = declined given (eqb-false mask 0 e)
+
+      go :
+          (f : Tested)
+          → firstFailing (submitTests book user plan ledger tally) ≡ f
+          → P (submitAnswer book user plan ledger tally)
+      go tested.Passed e = rw (submit-answer e) (by-mask (submit-accepted e) (eqb mask 0) refl)
+      go (tested.Refused r) e = rw (refused-answer r e) (refused r e)
 
   -- What it means
 
@@ -142,35 +174,48 @@ module _ (book : List ℕ) (user : ℕ) (plan ledger : List ℕ) (tally : Tally)
   unfolding unionMask
   union-demand given = query-demand book user (joinedAccesses book user plan ledger) (union-operations given)
 
+  -- with an admitted plan its user holds the union
+  pub admitted-holds :
+      SubmitAccepted book user plan ledger tally
+      → (x : Access)
+      → heldFor (joinedFor ledger user (accessWords (headOf book) plan)) user x
+      ≡ joinedAccesses book user plan ledger x
+  unfolding joinedAccesses union
+  admitted-holds given x =
+      let accepted = given .judge-accepted in
+      let head = accepted-head book (accepted .book-accepted) in
+      let low = user-below (headOf book) user (accepted .a-user) in
+      held-own ledger user (accessWords (headOf book) plan) (omega (arith, given .ledger-whole, head .users-most, low)) x
+      ∙ rw (held-accesses (headOf book) plan head (accepted-plan (headOf book) plan (accepted .plan-accepted)) x)
+
   submit-means :
       SubmitAccepted book user plan ledger tally
       → Submits book user (joinedAccesses book user plan ledger) (submitAnswer book user plan ledger tally)
   submit-means given =
-      go (eqb (unionMask book user plan ledger) 0) refl (submit-answer (submit-passes given)) (union-demand given)
+      by-reply (Submits book user (joinedAccesses book user plan ledger))
+      (λ r e. refused-passed r (sym e ∙ submit-passes given)) admitted declined
     where
-      go :
-          (b : Bool)
-          → eqb (unionMask book user plan ledger) 0 ≡ b
-          → submitAnswer book user plan ledger tally
-          ≡ cond b submitted.Admitted (submitted.Declined (unionMask book user plan ledger))
-          → Demand2 book user (joinedAccesses book user plan ledger) (unionMask book user plan ledger)
-          → Submits book user (joinedAccesses book user plan ledger) (submitAnswer book user plan ledger tally)
-      go true e a d =
+      admitted :
+          SubmitAccepted book user plan ledger tally
+          → unionMask book user plan ledger ≡ 0
+          → Submits book user (joinedAccesses book user plan ledger) submitted.Admitted
+      admitted given zero =
           record {
-            admitted-satisfies = λ z. d .zero-satisfies (eqb-true (unionMask book user plan ledger) 0 e);
-            satisfies-admitted = λ s. a;
-            otherwise = λ n. absurd (n a);
+            admitted-satisfies = λ e. union-demand given .zero-satisfies zero;
+            satisfies-admitted = λ s. refl;
+            otherwise = λ n. absurd (n refl);
           }
-      go false e a d =
-          let some : unionMask book user plan ledger ≡ 0 → ⊥ = eqb-false (unionMask book user plan ledger) 0 e in
+
+      declined :
+          SubmitAccepted book user plan ledger tally
+          → (unionMask book user plan ledger ≡ 0 → ⊥)
+          → Submits book user (joinedAccesses book user plan ledger)
+          (submitted.Declined (unionMask book user plan ledger))
+      declined given some =
           record {
-            admitted-satisfies =
-                λ z.
-                let b = sym a ∙ z in
-                let n : _≡_ {A = ℕ} 0 1 = cc in
-                absurd (omega arith);
-            satisfies-admitted = λ s. absurd (some (d .satisfies-zero s));
-            otherwise = λ n. (unionMask book user plan ledger, a, omega (arith, some), d);
+            admitted-satisfies = λ e. let z : _≡_ {A = ℕ} 0 1 = cc in absurd (omega arith);
+            satisfies-admitted = λ s. absurd (some (union-demand given .satisfies-zero s));
+            otherwise = λ n. (unionMask book user plan ledger, refl, omega (arith, some), union-demand given);
           }
 
   -- a submission to what a list has left makes the list one longer

@@ -169,6 +169,19 @@ module _ (ledger : List ℕ) (user : ℕ) (words : List ℕ) where
   joined-word j l =
       mapped-at (λ j. bitOr (getD ledger j 0) (cond (eqb (j / 32) user) (getD words (j % 32) 0) 0)) (length ledger) j l
 
+  -- no other word changes
+  pub other-word : (j : ℕ) → (j / 32 ≡ user → ⊥) → getD (joinedFor ledger user words) j 0 ≡ getD ledger j 0
+  other-word j n = go (ltb j (length ledger)) refl
+    where
+      go : (b : Bool) → ltb j (length ledger) ≡ b → getD (joinedFor ledger user words) j 0 ≡ getD ledger j 0
+      go true e =
+          joined-word j (ltb-true j (length ledger) e)
+          ∙ rw (ne-eqb (j / 32) user n) (or-zero-r (getD ledger j 0))
+      go false e =
+          let past : length ledger ≤ j = ltb-false j (length ledger) e in
+          List·getD-eq-default (joinedFor ledger user words) 0 (rw joined-length past)
+          ∙ sym (List·getD-eq-default ledger 0 past)
+
   -- the user holds the union
   pub held-own :
       32 * user + 32 ≤ length ledger
@@ -195,19 +208,5 @@ module _ (ledger : List ℕ) (user : ℕ) (words : List ℕ) where
       held-same (wordsOf (joinedFor ledger user words) other) (wordsOf ledger other)
       (λ w l.
       words-at (joinedFor ledger user words) other w l
-      ∙ same (32 * other + w) (λ z. apart (omega arith)) (ltb (32 * other + w) (length ledger)) refl
+      ∙ other-word (32 * other + w) (λ z. apart (omega arith))
       ∙ sym (words-at ledger other w l))
-    where
-      same :
-          (j : ℕ)
-          → (j / 32 ≡ user → ⊥)
-          → (b : Bool)
-          → ltb j (length ledger) ≡ b
-          → getD (joinedFor ledger user words) j 0 ≡ getD ledger j 0
-      same j n true e =
-          joined-word j (ltb-true j (length ledger) e)
-          ∙ rw (ne-eqb (j / 32) user n) (or-zero-r (getD ledger j 0))
-      same j n false e =
-          let past : length ledger ≤ j = ltb-false j (length ledger) e in
-          List·getD-eq-default (joinedFor ledger user words) 0 (rw joined-length past)
-          ∙ sym (List·getD-eq-default ledger 0 past)

@@ -25,7 +25,7 @@ use Rattle.verdicts.specs.Accesses.{Accesses, accessesOf, heldBy}
 use Rattle.verdicts.specs.Inner.Words.{RuleSound}
 use Rattle.verdicts.specs.Breaking.{breaks, brokenMask}
 use Rattle.verdicts.proofs.Marks.{Marks}
-use Rattle.verdicts.proofs.Verdict.{mask-same}
+use Rattle.verdicts.proofs.Verdict.{mask-same, mask-small}
 use Rattle.verdicts.proofs.Held.{held-plan}
 
 -- A rule
@@ -116,6 +116,10 @@ cut-bit word r =
     ∙ ap (λ (b : Bool). has word r && b) (has-below 32 r)
 
 module _ (book : List ℕ) (accepted : BookAccepted book) (user : ℕ) where
+  -- it has 32 bits
+  pub mask-fits : (accesses : Accesses) → brokenMask book user accesses < 4294967296
+  mask-fits accesses = lt-of-lt-of-le (mask-small book user accesses) (pow-mono (few-rules book accepted))
+
   -- the code's word of the broken rules
   pub mask-whole :
       (accesses : Accesses) (total word : ℕ)
@@ -126,7 +130,7 @@ module _ (book : List ℕ) (accepted : BookAccepted book) (user : ℕ) where
   mask-whole accesses total word t marked =
       let whole = word-of (λ r. breaks (headOf book) (ruleAt book r) user accesses) (ruleCount book) in
       same-members 32 (word % 4294967296) (brokenMask book user accesses) (omega arith)
-      (lt-of-lt-of-le (whole .0) (pow-mono (few-rules book accepted)))
+      (mask-fits accesses)
       (λ r l.
       cut-bit word r
       ∙ rw (marked r, lt-ltb r 64 (omega arith), lt-ltb r 32 l, t, and-end)

@@ -33,7 +33,7 @@ module _ (book : List ℕ) (user : ℕ) where
   unfolding brokenMask
   mask-bit query r = word-of (λ i. breaks (headOf book) (ruleAt book i) user query) (ruleCount book) .1 r
 
-  mask-small : (query : Accesses) → brokenMask book user query < 2 ^ ruleCount book
+  pub mask-small : (query : Accesses) → brokenMask book user query < 2 ^ ruleCount book
   unfolding brokenMask
   mask-small query = word-of (λ i. breaks (headOf book) (ruleAt book i) user query) (ruleCount book) .0
 
