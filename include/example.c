@@ -1,6 +1,6 @@
 /*
- * Reads a book, checks it, judges three plans and asks of each rule whether it is idle and whether it is
- * blocked.
+ * Reads a book, checks it, judges three plans, submits some from Monday to Friday, and asks of each rule
+ * whether it is idle and whether it is blocked.
  *
  *   rt staticlib capi
  *   cc -Iinclude include/example.c target/staticlib/libcapi.a -o target/example
@@ -36,6 +36,24 @@ static void judge(const uint8_t *book, size_t length, uint32_t user, const char 
         if (pspec_mask(answer) >> rule & 1)
             printf(" %d", rule);
     printf("\n");
+}
+
+/* What is kept between submissions; at first all zero. */
+static uint64_t ledger[PSPEC_LEDGER_WORDS];
+static struct pspec_tally tally;
+
+static void submit(const uint8_t *book, size_t length, uint32_t user, const char *name, const uint8_t *plan,
+                   size_t plan_length)
+{
+    uint64_t answer = pspec_submit(book, length, user, plan, plan_length, ledger, PSPEC_LEDGER_WORDS, &tally);
+    printf("%s, user %u: ", name, user);
+    if (pspec_number(answer) != PSPEC_NOT_REFUSED)
+        printf("refused %u place %u", pspec_number(answer), pspec_place(answer));
+    else if (pspec_is_admitted(answer))
+        printf("admitted");
+    else
+        printf("declined, mask %u", pspec_mask(answer));
+    printf("; %u admitted, %u declined\n", tally.admitted, tally.declined);
 }
 
 static void idle(const uint8_t *book, size_t length, uint32_t rule)
@@ -122,6 +140,16 @@ int main(int count, char **arguments)
     judge(book, length, 2, "by function 2", by_2, sizeof by_2);
     judge(book, length, 0, "plain", plain, sizeof plain);
     judge(book, length, 1, "cut off", plain, sizeof plain - 1);
+
+    /* Column 0 on Monday and column 2 on Tuesday; on Wednesday column 2 through function 1. */
+    static const uint8_t state[] = {1, 0, 0, 0, 4, 0, 0, 0};
+    static const uint8_t price[] = {1, 2, 0, 0, 4, 0, 0, 0};
+    static const uint8_t average[] = {1, 2, 0, 0, 2, 1, 0, 255, 4, 1, 0, 0};
+    submit(book, length, 1, "Monday", state, sizeof state);
+    submit(book, length, 1, "Tuesday", price, sizeof price);
+    submit(book, length, 1, "Wednesday", average, sizeof average);
+    submit(book, length, 2, "Thursday", price, sizeof price);
+    submit(book, length, 0, "Friday", state, sizeof state);
 
     for (uint32_t rule = 0; rule < pspec_value(checked); rule++)
         idle(book, length, rule);

@@ -1,20 +1,21 @@
 /*
- * The PSpec policy engine for C: six calls. Link with libcapi.a (rt staticlib capi; x86-64 Linux).
+ * The PSpec policy engine for C: seven calls. Link with libcapi.a (rt staticlib capi; x86-64 Linux).
  *
  * Parameters. A slice is a pointer and a length in elements: bytes for a book, a block, a plan and a
- * buffer, 64-bit words for `words`. The caller owes only this: each pointer is not null, fits its
- * type's alignment and points to that many elements; a slice that is written overlaps no other; and
- * nothing else writes a slice while the call runs.
+ * buffer, 64-bit words for `words` and `ledger`. A record, `tally`, is a pointer to one struct. The
+ * caller owes only this: each pointer is not null, fits its type's alignment and points to that many
+ * elements, or to one record; a slice or record that is written overlaps no other; and nothing else
+ * writes one, or reads one that is written, while the call runs.
  *
  * Promises, for any bytes, any length and any number:
  *  - no call asks anything of what it is given: there is no input that it may not have;
- *  - it returns, reads and writes nothing outside its slices, and keeps no state, so calls may run at
- *    the same time;
+ *  - it returns, reads and writes nothing outside its slices and record, and keeps no state, so calls
+ *    that write different ones may run at the same time;
  *  - its answer is the one that crates/capi/specs/Packing.antt says, over specs/Answers.antt of the
- *    crates below, and so are the slice's elements on leaving;
- *  - what the numbers of pspec_judge, pspec_idle and pspec_blocked mean for a policy is one page,
- *    crates/capi/specs/Demands.antt, and is proved of them;
- *  - a refusal leaves `block`, `words` and `buffer` as they were.
+ *    crates below, and so are the elements of a slice and the counts of a record on leaving;
+ *  - what the numbers of pspec_judge, pspec_idle, pspec_blocked and pspec_submit mean for a policy is one
+ *    page, crates/capi/specs/Demands.antt, and is proved of them;
+ *  - a refusal leaves `block`, `words`, `buffer`, `ledger` and `tally` as they were.
  *
  * Answers. Each is one 64-bit number: refusal number x 2^40 + place x 2^32 + value. The refusal number
  * is 0 where nothing is refused; number and place are below 256. The value is below 2^32, and 0 where
@@ -45,6 +46,9 @@ extern "C" {
 #define PSPEC_WORDS 32
 #define PSPEC_ROWS_MOST 64
 #define PSPEC_BUFFER_LEAST 36
+/* Words of a ledger, of which user u has those from 32 x u on; a tally's sum is below this limit. */
+#define PSPEC_LEDGER_WORDS 1024
+#define PSPEC_COUNTS_LIMIT 1000000
 
 /*
  * Refusal numbers. Where several apply, the first in this order is given: 1; 2 over all blocks; 3 over
@@ -69,7 +73,9 @@ enum pspec_refusal {
     PSPEC_WORD_COUNT = 23,        /* not 32 words */
     PSPEC_NO_RULE = 24,           /* no such rule */
     PSPEC_BUFFER_LENGTH = 25,     /* buffer under 36 bytes */
-    PSPEC_RULE_FORBIDS = 26       /* the rule has no restriction */
+    PSPEC_RULE_FORBIDS = 26,      /* the rule has no restriction */
+    PSPEC_LEDGER_LENGTH = 27,     /* not 1,024 words */
+    PSPEC_COUNTS_FULL = 28        /* a count of the tally, or their sum, is 1,000,000 or more */
 };
 
 /*
@@ -120,6 +126,30 @@ uint64_t pspec_idle(const uint8_t *book, size_t book_length, uint32_t rule, uint
  */
 uint64_t pspec_blocked(const uint8_t *book, size_t book_length, uint32_t rule);
 
+/*
+ * How many plans were admitted and how many declined, of all users together. Any counts may be given; fresh
+ * is {0, 0}.
+ */
+struct pspec_tally {
+    uint32_t admitted;
+    uint32_t declined;
+};
+
+/*
+ * Submit: admits a plan or declines it, by what its user has already seen. The ledger holds 32 words for each
+ * user number: bit d of word 32 x user + 16 x s + k is set when he holds access to the leaf d by operation k,
+ * s being 0 for projection and 1 for condition. Fresh, all its words are 0; any other words are joined and
+ * judged as they are. Refuses 1 to 9, 20, 21, 22, 27, 28. Value: the mask of the rules that the user breaks
+ * with the plan's accesses and those that he holds, bit r for rule r.
+ * 0: the plan is admitted; its accesses are joined to the user's words, and `admitted` is one more.
+ * Otherwise the plan is declined; the ledger is as it was, and `declined` is one more.
+ * For every list of calls with one book, from a fresh ledger and tally, each user holds exactly the accesses
+ * of his admitted plans and breaks no rule with them, and admitted + declined is the number of calls that
+ * were not refused (proved: crates/ledger/specs/Demand.antt). So one ledger and tally belong to one book.
+ */
+uint64_t pspec_submit(const uint8_t *book, size_t book_length, uint32_t user, const uint8_t *plan,
+                      size_t plan_length, uint64_t *ledger, size_t ledger_length, struct pspec_tally *tally);
+
 /* The parts of an answer. */
 
 /* 0 where nothing is refused, else one of enum pspec_refusal. */
@@ -131,8 +161,11 @@ static inline uint32_t pspec_place(uint64_t answer) { return (uint32_t)(answer >
 /* pspec_check: the number of rules. */
 static inline uint32_t pspec_value(uint64_t answer) { return (uint32_t)answer; }
 
-/* pspec_judge: bit r for rule r. */
+/* pspec_judge and pspec_submit: bit r for rule r. */
 static inline uint32_t pspec_mask(uint64_t answer) { return pspec_value(answer); }
+
+/* pspec_submit: not refused, and the plan may be run. */
+static inline int pspec_is_admitted(uint64_t answer) { return answer == 0; }
 
 /* pspec_idle: not refused, and nobody breaks the rule alone. */
 static inline int pspec_is_idle(uint64_t answer) { return answer == 0; }

@@ -27,6 +27,9 @@ use Rattle.lineage.specs.declared.Flowed.the-variants as flowed
 use Rattle.lineage.proofs.PlanLaws.{plan-length}
 use Rattle.verdicts.specs.Answers.{userTests, judgeTests, judgeAnswer}
 use Rattle.verdicts.specs.declared.Judged.the-variants as judged
+use Rattle.ledger.specs.Answers.{ledgerTests, tallyTests, submitTests, unionMask, submitAnswer}
+use Rattle.ledger.specs.declared.Tally.{Tally}
+use Rattle.ledger.specs.declared.Submitted.the-variants as submitted
 use Rattle.search.specs.Answers.{ruleTests, bufferTests, idleTests, idlenessOf, idleAnswer}
 use Rattle.search.specs.Alone.{First, none, shown, firstAlone}
 use Rattle.search.specs.Choices.{Candidate}
@@ -179,7 +182,7 @@ plan-bounded head plan =
     flat-bounded (rowTests head plan) (rowCount plan)
     (λ i l. last-bounded _ _ _ (omega arith) (omega arith) (omega (arith, short .1))))
 
--- The six calls
+-- The seven calls
 
 -- an answer is a refusal only where a test refuses
 refused-small :
@@ -232,15 +235,39 @@ module _ (book : List ℕ) where
       (λ e. plan-bounded (headOf book) plan))
       (λ e. last-bounded _ _ _ (omega arith) (omega arith) (omega arith)))
 
-  pub judge-small : (user : ℕ) (plan : List ℕ) (x : Refusal) → judgeAnswer book user plan ≡ judged.Refused x → Small x
-  unfolding judgeAnswer judgeTests userTests
-  judge-small user plan =
-      refused-small (judgeTests book user plan) judged.Refused _ (λ x y e. cc)
-      (λ x e. let z : _≡_ {A = ℕ} 0 1 = cc in omega arith)
-      (append-bounded (bookTests book ++ userTests (headOf book) user) (planTests (headOf book) plan)
+  judge-bounded : (user : ℕ) (plan : List ℕ) → Bounded (judgeTests book user plan)
+  unfolding judgeTests userTests
+  judge-bounded user plan =
+      append-bounded (bookTests book ++ userTests (headOf book) user) (planTests (headOf book) plan)
       (append-bounded (bookTests book) (userTests (headOf book) user) (book-bounded book)
       (λ e. last-bounded _ _ _ (omega arith) (omega arith) (omega arith)))
-      (λ e. plan-bounded (headOf book) plan))
+      (λ e. plan-bounded (headOf book) plan)
+
+  pub judge-small : (user : ℕ) (plan : List ℕ) (x : Refusal) → judgeAnswer book user plan ≡ judged.Refused x → Small x
+  unfolding judgeAnswer
+  judge-small user plan =
+      refused-small (judgeTests book user plan) judged.Refused _ (λ x y e. cc)
+      (λ x e. let z : _≡_ {A = ℕ} 0 1 = cc in omega arith) (judge-bounded user plan)
+
+  pub submit-small :
+      (user : ℕ) (plan ledger : List ℕ) (tally : Tally) (x : Refusal)
+      → submitAnswer book user plan ledger tally ≡ submitted.Refused x
+      → Small x
+  unfolding submitAnswer submitTests ledgerTests tallyTests
+  submit-small user plan ledger tally =
+      refused-small (submitTests book user plan ledger tally) submitted.Refused _ (λ x y e. cc)
+      (unlike (eqb (unionMask book user plan ledger) 0))
+      (append-bounded (judgeTests book user plan ++ ledgerTests ledger) (tallyTests tally)
+      (append-bounded (judgeTests book user plan) (ledgerTests ledger) (judge-bounded user plan)
+      (λ e. last-bounded _ _ _ (omega arith) (omega arith) (omega arith)))
+      (λ e. last-bounded _ _ _ (omega arith) (omega arith) (omega arith)))
+    where
+      unlike :
+          (b : Bool) (x : Refusal)
+          → cond b submitted.Admitted (submitted.Declined (unionMask book user plan ledger)) ≡ submitted.Refused x
+          → ⊥
+      unlike true x e = let z : _≡_ {A = ℕ} 0 1 = cc in omega arith
+      unlike false x e = let z : _≡_ {A = ℕ} 0 1 = cc in omega arith
 
   pub idle-small : (r : ℕ) (buffer : List ℕ) (x : Refusal) → idleAnswer book r buffer ≡ idleness.Refused x → Small x
   unfolding idleAnswer idleTests ruleTests bufferTests

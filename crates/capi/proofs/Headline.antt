@@ -1,5 +1,5 @@
--- What the numbers of pspec_judge, pspec_idle and pspec_blocked say: the demands, over the packed answer. Assumes
--- nothing.
+-- What the numbers of pspec_judge, pspec_idle, pspec_blocked and pspec_submit say: the demands, over the packed answer.
+-- Assumes nothing.
 use Prim.Native.Nat.{ℕ, _+_, _*_, _/_, _%_, _≤_}
 use native.Mathlib.Omega.{arith}
 use mathlib.Core.Path.{_≡_, refl, sym, subst, _∙_}
@@ -9,6 +9,8 @@ use Rattle.book.specs.Tests.{firstFailing}
 use Rattle.book.specs.declared.Refusal.{Refusal}
 use Rattle.book.specs.declared.Tested.{Tested}
 use Rattle.book.specs.declared.Tested.the-variants as tested
+use Rattle.book.proofs.Answers.{refused-passed}
+use Rattle.lineage.specs.Accesses.{accessWords}
 use Rattle.verdicts.specs.Accesses.{accessesOf}
 use Rattle.verdicts.specs.Answers.{judgeAnswer}
 use Rattle.verdicts.specs.Demand.{JudgeAccepted, Demand2}
@@ -16,6 +18,15 @@ use Rattle.verdicts.specs.declared.Judged.{Judged}
 use Rattle.verdicts.specs.declared.Judged.the-variants as judged
 use Rattle.verdicts.proofs.Gate.{judged-accepted, judged-demand}
 use Rattle.verdicts.proofs.JudgeLaws.{judge-answer, judge-passes}
+use Rattle.verdicts.proofs.Sound.{mask-fits}
+use Rattle.ledger.specs.Answers.{submitTests, joinedAccesses, unionMask, submitAnswer, ledgerAfter, submitLedger}
+use Rattle.ledger.specs.Answers.{tallyAfter, submitTally}
+use Rattle.ledger.specs.Demand.{Continues, SubmitAccepted}
+use Rattle.ledger.specs.declared.Tally.{Tally}
+use Rattle.ledger.specs.declared.Submitted.{Submitted}
+use Rattle.ledger.specs.declared.Submitted.the-variants as submitted
+use Rattle.ledger.proofs.WordLaws.{other-word}
+use Rattle.ledger.proofs.SubmitLaws.{admitted-holds, by-reply, continues, refused-answer, submit-passes, union-demand}
 use Rattle.search.specs.Answers.{idleTests, idleAnswer, idleBuffer}
 use Rattle.search.specs.Alone.{firstAlone}
 use Rattle.search.specs.Demand.{IdleAccepted}
@@ -31,8 +42,10 @@ use Rattle.blocked.specs.declared.Blocking.{Blocking}
 use Rattle.blocked.specs.declared.Blocking.the-variants as blocking
 use Rattle.blocked.proofs.DemandLaws as blocked
 use Rattle.capi.specs.Packing.{packed, refusalPacked, judgePacked, idlePacked, blockedPacked}
-use Rattle.capi.specs.Demands.{JudgeSays, IdleSays, BlockedParts, BlockedSays}
-use Rattle.capi.proofs.Bounds.{Small, judge-small, idle-small, blocked-small, no-refusal, never-refused}
+use Rattle.capi.specs.Packing.{submitPacked}
+use Rattle.capi.specs.Demands.{JudgeSays, IdleSays, BlockedParts, BlockedSays, SubmitSays}
+use Rattle.capi.proofs.Bounds.{Small, judge-small, idle-small, blocked-small, submit-small}
+use Rattle.capi.proofs.Bounds.{no-refusal, never-refused}
 use Rattle.capi.proofs.Unpacking.{Bytes, judge-mask, idle-parts, blocked-bytes}
 
 -- a refusal's number is past every value
@@ -235,3 +248,106 @@ module _ (book : List ℕ) (r : ℕ) where
             shows = λ some low. absurd (omega arith);
             named = λ p within parts some low. absurd (omega arith);
           }
+
+-- Submit
+
+module _ (book : List ℕ) (user : ℕ) (plan ledger : List ℕ) (tally : Tally) (answer : ℕ) where
+  -- what is said where this is the reply
+  abbrev Says : Submitted → Type 0
+  Says reply =
+      answer ≡ submitPacked reply
+      → Continues book user plan ledger (ledgerAfter book user plan ledger reply) tally (tallyAfter reply tally)
+      → SubmitSays book user plan ledger (ledgerAfter book user plan ledger reply) tally (tallyAfter reply tally) answer
+
+  says-refused :
+      (x : Refusal) → firstFailing (submitTests book user plan ledger tally) ≡ tested.Refused x → Says (submitted.Refused x)
+  unfolding submitPacked ledgerAfter tallyAfter
+  says-refused x f same continued =
+      let past = refusal-past x (submit-small book user plan ledger tally x (refused-answer book user plan ledger tally x f)) in
+      let never : SubmitAccepted book user plan ledger tally → ⊥ =
+      λ given. refused-passed x (sym f ∙ submit-passes book user plan ledger tally given) in
+      record {
+        accepted = λ l. absurd (omega arith);
+        accepts = λ g. absurd (never g);
+        zero-satisfies = λ z. absurd (omega arith);
+        satisfies-zero = λ g s. absurd (never g);
+        demand = λ l. absurd (omega arith);
+        zero-holds = λ z. absurd (omega arith);
+        zero-counts = λ z. absurd (omega arith);
+        some-keeps = λ some. refl;
+        declined-counts = λ some l. absurd (omega arith);
+        refused-keeps = λ l. refl;
+        others-keep = λ w n. refl;
+        continues = continued;
+      }
+
+  module _ (given : SubmitAccepted book user plan ledger tally) where
+    says-admitted : unionMask book user plan ledger ≡ 0 → Says submitted.Admitted
+    unfolding submitPacked packed ledgerAfter tallyAfter
+    says-admitted zero same continued =
+        let e : answer ≡ 0 = same ∙ omega arith in
+        let holds : Demand2 book user (joinedAccesses book user plan ledger) answer =
+        subst (Demand2 book user (joinedAccesses book user plan ledger)) (zero ∙ sym e)
+        (union-demand book user plan ledger tally given) in
+        record {
+          accepted = λ l. given;
+          accepts = λ g. omega arith;
+          zero-satisfies = holds .zero-satisfies;
+          satisfies-zero = λ g s. e;
+          demand = λ l. holds;
+          zero-holds = λ z. admitted-holds book user plan ledger tally given;
+          zero-counts = λ z. refl;
+          some-keeps = λ some. absurd (omega arith);
+          declined-counts = λ some l. absurd (omega arith);
+          refused-keeps = λ l. absurd (omega arith);
+          others-keep = other-word ledger user (accessWords (headOf book) plan);
+          continues = continued;
+        }
+
+    says-declined :
+        (unionMask book user plan ledger ≡ 0 → ⊥) → Says (submitted.Declined (unionMask book user plan ledger))
+    unfolding submitPacked packed ledgerAfter tallyAfter unionMask
+    says-declined some same continued =
+        let union = unionMask book user plan ledger in
+        let e : answer ≡ union = same ∙ omega arith in
+        let low = mask-fits book (given .judge-accepted .book-accepted) user (joinedAccesses book user plan ledger) in
+        let holds : Demand2 book user (joinedAccesses book user plan ledger) answer =
+        subst (Demand2 book user (joinedAccesses book user plan ledger)) (sym e)
+        (union-demand book user plan ledger tally given) in
+        record {
+          accepted = λ l. given;
+          accepts = λ g. omega (arith, e, low);
+          zero-satisfies = holds .zero-satisfies;
+          satisfies-zero = λ g s. holds .satisfies-zero s;
+          demand = λ l. holds;
+          zero-holds = λ z. absurd (some (sym e ∙ z));
+          zero-counts = λ z. absurd (some (sym e ∙ z));
+          some-keeps = λ l. refl;
+          declined-counts = λ l m. refl;
+          refused-keeps = λ l. absurd (omega (arith, e, low));
+          others-keep = λ w n. refl;
+          continues = continued;
+        }
+
+-- the whole promise of the call
+pub submit-promised :
+    (book : List ℕ) (user : ℕ) (plan ledger : List ℕ) (tally : Tally) (answer : ℕ) (counted : Tally) (after : List ℕ)
+    → answer ≡ submitPacked (submitAnswer book user plan ledger tally)
+    → counted ≡ submitTally book user plan ledger tally
+    → after ≡ submitLedger book user plan ledger tally
+    → (answer ≡ submitPacked (submitAnswer book user plan ledger tally))
+    × (counted ≡ submitTally book user plan ledger tally)
+    × (after ≡ submitLedger book user plan ledger tally)
+    × SubmitSays book user plan ledger after tally counted answer
+unfolding submitLedger submitTally
+submit-promised book user plan ledger tally answer counted after e et el = (
+  e,
+  et,
+  el,
+  rw (et, el)
+      (by-reply book user plan ledger tally (Says book user plan ledger tally answer)
+      (says-refused book user plan ledger tally answer) (says-admitted book user plan ledger tally answer)
+      (says-declined book user plan ledger tally answer) e
+      (continues book user plan ledger tally (submitLedger book user plan ledger tally)
+      (submitTally book user plan ledger tally) refl refl)),
+)

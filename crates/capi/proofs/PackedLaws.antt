@@ -16,6 +16,10 @@ use Rattle.lineage.specs.declared.Flowed.the-variants as flowed
 use Rattle.verdicts.specs.Answers.{judgeAnswer}
 use Rattle.verdicts.specs.declared.Judged.{Judged}
 use Rattle.verdicts.specs.declared.Judged.the-variants as judged
+use Rattle.ledger.specs.Answers.{submitAnswer}
+use Rattle.ledger.specs.declared.Tally.{Tally}
+use Rattle.ledger.specs.declared.Submitted.{Submitted}
+use Rattle.ledger.specs.declared.Submitted.the-variants as submitted
 use Rattle.search.specs.Answers.{idleAnswer}
 use Rattle.search.specs.declared.Idleness.{Idleness}
 use Rattle.search.specs.declared.Idleness.the-variants as idleness
@@ -23,9 +27,9 @@ use Rattle.blocked.specs.Answers.{blockedAnswer}
 use Rattle.blocked.specs.declared.Blocking.{Blocking}
 use Rattle.blocked.specs.declared.Blocking.the-variants as blocking
 use Rattle.capi.specs.Packing.{packed, refusalPacked, checkPacked, sealPacked, flowsPacked, judgePacked}
-use Rattle.capi.specs.Packing.{idlePacked, blockedPacked}
+use Rattle.capi.specs.Packing.{idlePacked, blockedPacked, submitPacked}
 use Rattle.capi.proofs.Bounds.{Small, check-small, seal-small, flows-small, judge-small, idle-small}
-use Rattle.capi.proofs.Bounds.{blocked-small}
+use Rattle.capi.proofs.Bounds.{blocked-small, submit-small}
 
 -- below 256 a number is its last byte
 pub refusal-packed :
@@ -112,3 +116,30 @@ module _ (book : List ℕ) (rule : ℕ) (a : Blocking) (same : a ≡ blockedAnsw
       → 16777216 * user + first + 256 * second + 65536 * third ≡ blockedPacked (blockedAnswer book rule)
   unfolding blockedPacked packed
   blocked-closed user first second third e = rw (sym same ∙ e) (omega arith)
+
+module _
+    (book : List ℕ)
+    (user : ℕ)
+    (plan ledger : List ℕ)
+    (tally : Tally)
+    (a : Submitted)
+    (same : a ≡ submitAnswer book user plan ledger tally)
+  where
+    pub submit-refused :
+        (x : Refusal) (r : ℕ)
+        → a ≡ submitted.Refused x
+        → Packs r x
+        → r ≡ submitPacked (submitAnswer book user plan ledger tally)
+    unfolding submitPacked
+    submit-refused x r e p =
+        let h = sym same ∙ e in
+        rw h (small-packs r x (submit-small book user plan ledger tally x h) p)
+
+    pub submit-declined :
+        (mask : ℕ) → a ≡ submitted.Declined mask → mask ≡ submitPacked (submitAnswer book user plan ledger tally)
+    unfolding submitPacked packed
+    submit-declined mask e = rw (sym same ∙ e) (omega arith)
+
+    pub submit-admitted : a ≡ submitted.Admitted → 0 ≡ submitPacked (submitAnswer book user plan ledger tally)
+    unfolding submitPacked packed
+    submit-admitted e = rw (sym same ∙ e) (omega arith)

@@ -28,6 +28,10 @@ use Rattle.verdicts.proofs.Gate.{judged-accepted}
 use Rattle.verdicts.proofs.JudgeLaws.{judge-answer, judge-passes}
 use Rattle.verdicts.proofs.Sound.{mask-fits}
 use Rattle.verdicts.proofs.Users.{user-below}
+use Rattle.ledger.specs.Answers.{joinedAccesses, unionMask, submitAnswer}
+use Rattle.ledger.specs.declared.Tally.{Tally}
+use Rattle.ledger.specs.declared.Submitted.the-variants as submitted
+use Rattle.ledger.proofs.SubmitLaws.{by-reply}
 use Rattle.search.specs.Choices.{Candidate, isChoice, isChoiceFrom}
 use Rattle.search.specs.Shown.{shownPlan, shownFrom, accessRows, columnRow, applyRow, lastRow, rowsOf}
 use Rattle.search.specs.Alone.{First, none, shown, firstAlone}
@@ -45,9 +49,9 @@ use Rattle.blocked.specs.declared.Blocking.the-variants as blocking
 use Rattle.blocked.proofs.DemandLaws.{blocked-told, demand}
 use Rattle.blocked.proofs.ScopeLaws.{covers-user, datum-bounds}
 use Rattle.capi.specs.Packing.{packed, refusalPacked, checkPacked, sealPacked, flowsPacked, judgePacked}
-use Rattle.capi.specs.Packing.{idlePacked, blockedPacked}
+use Rattle.capi.specs.Packing.{idlePacked, blockedPacked, submitPacked}
 use Rattle.capi.proofs.Bounds.{Small, check-small, seal-small, flows-small, judge-small, idle-small}
-use Rattle.capi.proofs.Bounds.{blocked-small}
+use Rattle.capi.proofs.Bounds.{blocked-small, submit-small}
 
 -- what is taken out of r: the bits from 40 on, the 8 bits from 32 on, the low 32 bits
 pub record Parts (r number place value : ℕ) : Type 0 where
@@ -109,6 +113,14 @@ module _ (x : Refusal) where
       → Refuses (blockedPacked (blockedAnswer book r)) x
   unfolding blockedPacked
   blocked-refused-parts book r h = rw h (refusal-parts x (blocked-small book r x h))
+
+  pub submit-refused-parts :
+      (book : List ℕ) (user : ℕ) (plan ledger : List ℕ) (tally : Tally)
+      → submitAnswer book user plan ledger tally ≡ submitted.Refused x
+      → Refuses (submitPacked (submitAnswer book user plan ledger tally)) x
+  unfolding submitPacked
+  submit-refused-parts book user plan ledger tally h =
+      rw h (refusal-parts x (submit-small book user plan ledger tally x h))
 
 -- Book check: the number of rules
 
@@ -280,3 +292,31 @@ unfolding blockedPacked
 blocked-parts book r user first second third h =
     let b = blocked-bytes book r user first second third h in
     (rw h (packed-parts 0 0 (16777216 * user + first + 256 * second + 65536 * third) (omega arith) (omega arith)), b)
+
+-- Submit: the mask of a plan that is declined has 32 bits and is not 0, so that r is not admitted's 0
+
+module _ (book : List ℕ) (user : ℕ) (plan ledger : List ℕ) (tally : Tally) where
+  pub declined-mask :
+      (mask : ℕ)
+      → submitAnswer book user plan ledger tally ≡ submitted.Declined mask
+      → (0 < mask) × (mask < 4294967296)
+  unfolding unionMask
+  declined-mask mask h =
+      by-reply book user plan ledger tally (λ s. s ≡ submitted.Declined mask → (0 < mask) × (mask < 4294967296))
+      (λ r e f. let z : _≡_ {A = ℕ} 0 1 = cc in absurd (omega arith))
+      (λ given zero f. let z : _≡_ {A = ℕ} 0 1 = cc in absurd (omega arith))
+      (λ given some f.
+      let union = unionMask book user plan ledger in
+      let same : union ≡ mask = cc in
+      let low = mask-fits book (given .judge-accepted .book-accepted) user (joinedAccesses book user plan ledger) in
+      (omega (arith, some), omega (arith, same, low)))
+      h
+
+  pub submit-parts :
+      (mask : ℕ)
+      → submitAnswer book user plan ledger tally ≡ submitted.Declined mask
+      → Parts (submitPacked (submitAnswer book user plan ledger tally)) 0 0 mask × (0 < mask)
+  unfolding submitPacked
+  submit-parts mask h =
+      let m = declined-mask mask h in
+      (rw h (packed-parts 0 0 mask (omega arith) (m .1)), m .0)

@@ -1,13 +1,19 @@
--- What the numbers of pspec_judge, pspec_idle and pspec_blocked say, for whoever calls the C library: demands 2 and 3
--- and N1 over the number itself. A number from 2^32 on is a refusal; below it, it is the value. Assumes nothing.
-use Prim.Native.Nat.{ℕ, _/_, _%_, _≤_, _<_}
+-- What the numbers of pspec_judge, pspec_idle, pspec_blocked and pspec_submit say, for whoever calls the C library:
+-- demands 2 and 3, N1 and N3 over the number itself. A number from 2^32 on is a refusal; below it, it is the value.
+-- Assumes nothing.
+use Prim.Native.Nat.{ℕ, _+_, _/_, _%_, _≤_, _<_}
 use mathlib.Core.Path.{_≡_}
 use mathlib.Core.List.{List}
+use lib.ListN.{getD}
 use Rattle.book.specs.Blocks.{Book, headOf, ruleAt}
 use Rattle.lineage.specs.Rows.{Plan}
-use Rattle.verdicts.specs.Accesses.{accessesOf}
+use Rattle.verdicts.specs.Accesses.{Access, accessesOf}
 use Rattle.verdicts.specs.Semantics.{SatisfiesPolicy}
 use Rattle.verdicts.specs.Demand.{JudgeAccepted, Demand2}
+use Rattle.ledger.specs.Ledger.{Ledger, heldFor}
+use Rattle.ledger.specs.Answers.{joinedAccesses}
+use Rattle.ledger.specs.Demand.{SubmitAccepted, Continues}
+use Rattle.ledger.specs.declared.Tally.{Tally}
 use Rattle.search.specs.Demand.{IdleAccepted, NobodyAlone, ShownIn}
 use Rattle.blocked.specs.Associations.{Pair}
 use Rattle.blocked.specs.Answers.{datumByte}
@@ -68,3 +74,34 @@ pub record BlockedSays (book : Book) (r : ℕ) (answer : ℕ) : Type 0 where
       → 0 < answer
       → answer < refusals
       → ClosedFirst book r p
+
+-- pspec_submit: the number is the mask of the union, 0 when the plan is admitted
+pub record SubmitSays
+    (book : Book) (user : ℕ) (plan : Plan) (before after : Ledger) (tally counted : Tally) (answer : ℕ) : Type 0
+  where
+    -- nothing is refused exactly when book, user and plan are accepted, the ledger is whole and the counts have room
+    pub accepted : answer < refusals → SubmitAccepted book user plan before tally
+    pub accepts : SubmitAccepted book user plan before tally → answer < refusals
+    -- 0 opens the gate: exactly where the plan, with all that is held for its user, satisfies the policy
+    pub zero-satisfies : answer ≡ 0 → SatisfiesPolicy book user (joinedAccesses book user plan before)
+    pub satisfies-zero :
+        SubmitAccepted book user plan before tally
+        → SatisfiesPolicy book user (joinedAccesses book user plan before)
+        → answer ≡ 0
+    -- bit r tells whether they satisfy rule r
+    pub demand : answer < refusals → Demand2 book user (joinedAccesses book user plan before) answer
+    -- 0: the plan is held for its user too, and is counted
+    pub zero-holds : answer ≡ 0 → (x : Access) → heldFor after user x ≡ joinedAccesses book user plan before x
+    pub zero-counts :
+        answer ≡ 0 → counted ≡ record { admitted = tally .admitted + 1; declined = tally .declined }
+    -- otherwise the ledger is as it was; a plan that is declined is counted, one that is refused is not
+    pub some-keeps : 0 < answer → after ≡ before
+    pub declined-counts :
+        0 < answer
+        → answer < refusals
+        → counted ≡ record { admitted = tally .admitted; declined = tally .declined + 1 }
+    pub refused-keeps : refusals ≤ answer → counted ≡ tally
+    -- no word of another user changes
+    pub others-keep : (w : ℕ) → (w / 32 ≡ user → ⊥) → getD after w 0 ≡ getD before w 0
+    -- after a list of submissions from fresh, this one is the next of the list
+    pub continues : Continues book user plan before after tally counted

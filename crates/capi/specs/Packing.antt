@@ -10,6 +10,8 @@ use Rattle.lineage.specs.declared.Flowed.{Flowed}
 use Rattle.lineage.specs.declared.Flowed.the-variants as flowed
 use Rattle.verdicts.specs.declared.Judged.{Judged}
 use Rattle.verdicts.specs.declared.Judged.the-variants as judged
+use Rattle.ledger.specs.declared.Submitted.{Submitted}
+use Rattle.ledger.specs.declared.Submitted.the-variants as submitted
 use Rattle.search.specs.declared.Idleness.{Idleness}
 use Rattle.search.specs.declared.Idleness.the-variants as idleness
 use Rattle.blocked.specs.declared.Blocking.{Blocking}
@@ -53,3 +55,9 @@ blockedPacked blocking.Open = packed 0 0 0
 blockedPacked (blocking.Closed user first second third) =
     packed 0 0 (16777216 * user + first + 256 * second + 65536 * third)
 blockedPacked (blocking.Refused refusal) = refusalPacked refusal
+
+-- Submit: 0 when admitted, else the mask
+unfoldable pub submitPacked : Submitted → ℕ
+submitPacked submitted.Admitted = packed 0 0 0
+submitPacked (submitted.Declined mask) = packed 0 0 mask
+submitPacked (submitted.Refused refusal) = refusalPacked refusal

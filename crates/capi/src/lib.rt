@@ -1,6 +1,6 @@
-// The six calls for C and Rust, each answer packed in one number (specs/Packing.antt). What the
-// numbers of Judge, Idle and Blocked mean is specs/Demands.antt. A slice is a pointer and a length in
-// elements.
+// The seven calls for C and Rust, each answer packed in one number (specs/Packing.antt). What the
+// numbers of Judge, Idle, Blocked and Submit mean is specs/Demands.antt. A slice is a pointer and a
+// length in elements, a record a pointer.
 // No call asks anything of the bytes or the numbers it is given.
 use blocked::Blocking;
 use blocked::blocked;
@@ -9,6 +9,9 @@ use book::Refusal;
 use book::Sealed;
 use book::check;
 use book::seal;
+use ledger::Submitted;
+use ledger::Tally;
+use ledger::submit;
 use lineage::Flowed;
 use lineage::flows;
 use search::Idleness;
@@ -20,11 +23,12 @@ ghost use Prim.Native.Nat.{_<_};
 ghost use Rattle.book.specs.Answers.{checkAnswer, sealAnswer, sealBytes};
 ghost use Rattle.lineage.specs.Answers.{flowsAnswer, flowsWords};
 ghost use Rattle.verdicts.specs.Answers.{judgeAnswer};
+ghost use Rattle.ledger.specs.Answers.{submitAnswer, submitLedger, submitTally};
 ghost use Rattle.search.specs.Answers.{idleAnswer, idleBuffer};
 ghost use Rattle.blocked.specs.Answers.{blockedAnswer};
-ghost use Rattle.capi.specs.Demands.{BlockedSays, IdleSays, JudgeSays};
+ghost use Rattle.capi.specs.Demands.{BlockedSays, IdleSays, JudgeSays, SubmitSays};
 ghost use Rattle.capi.specs.Packing.{blockedPacked, checkPacked, flowsPacked, idlePacked, judgePacked};
-ghost use Rattle.capi.specs.Packing.{refusalPacked, sealPacked};
+ghost use Rattle.capi.specs.Packing.{refusalPacked, sealPacked, submitPacked};
 
 // A refusal's number and place, above the value's 32 bits.
 fn packed(refusal: Refusal) -> u64
@@ -112,4 +116,61 @@ pub extern "C" fn pspec_blocked(book: &[u8], rule: u32) -> u64
             + 256 * (second as u64)
             + 65536 * (third as u64),
     }
+}
+
+// Submit's answer packed, and the tally on leaving.
+pub struct Counted {
+    pub answer: u64,
+    pub tally: Tally,
+}
+
+// Submit, with the tally by value.
+pub fn submit_counted(
+    book: &[u8],
+    user: u32,
+    plan: &[u8],
+    ledger: &mut [u64],
+    tally: Tally,
+) -> Counted
+    ensures { λ r. ⌜ (r .answer ≡ submitPacked (submitAnswer (now (book .entry)) user (now (plan .entry)) (now (ledger .entry)) tally))
+        × (r .tally ≡ submitTally (now (book .entry)) user (now (plan .entry)) (now (ledger .entry)) tally)
+        × (now (ledger .exit) ≡ submitLedger (now (book .entry)) user (now (plan .entry)) (now (ledger .entry)) tally)
+        × SubmitSays (now (book .entry)) user (now (plan .entry)) (now (ledger .entry)) (now (ledger .exit)) tally (r .tally) (r .answer) ⌝ }
+{
+    let outcome = submit(book, user, plan, ledger, tally);
+    let after = outcome.tally;
+    let reply = outcome.reply;
+    match reply {
+        Submitted::Refused(refusal) => Counted {
+            answer: packed(refusal),
+            tally: after,
+        },
+        Submitted::Declined(mask) => Counted {
+            answer: mask as u64,
+            tally: after,
+        },
+        Submitted::Admitted => Counted {
+            answer: 0,
+            tally: after,
+        },
+    }
+}
+
+// Submit: the tally is changed in its owner's hands.
+#[no_mangle]
+pub extern "C" fn pspec_submit(
+    book: &[u8],
+    user: u32,
+    plan: &[u8],
+    ledger: &mut [u64],
+    tally: &mut Tally,
+) -> u64
+    ensures { λ r. ⌜ (r ≡ submitPacked (submitAnswer (now (book .entry)) user (now (plan .entry)) (now (ledger .entry)) (now (tally .entry))))
+        × (now (tally .exit) ≡ submitTally (now (book .entry)) user (now (plan .entry)) (now (ledger .entry)) (now (tally .entry)))
+        × (now (ledger .exit) ≡ submitLedger (now (book .entry)) user (now (plan .entry)) (now (ledger .entry)) (now (tally .entry)))
+        × SubmitSays (now (book .entry)) user (now (plan .entry)) (now (ledger .entry)) (now (ledger .exit)) (now (tally .entry)) (now (tally .exit)) r ⌝ }
+{
+    let counted = submit_counted(book, user, plan, ledger, *tally);
+    *tally = counted.tally;
+    counted.answer
 }

@@ -111,7 +111,7 @@ module _ (book : List ℕ) (user : ℕ) (plan ledger : List ℕ) (tally : Tally)
       (cond (eqb (unionMask book user plan ledger) 0) submitted.Admitted
       (submitted.Declined (unionMask book user plan ledger))) h
 
-  refused-answer :
+  pub refused-answer :
       (r : Refusal)
       → firstFailing (submitTests book user plan ledger tally) ≡ tested.Refused r
       → submitAnswer book user plan ledger tally ≡ submitted.Refused r
@@ -219,7 +219,7 @@ module _ (book : List ℕ) (user : ℕ) (plan ledger : List ℕ) (tally : Tally)
           }
 
   -- a submission to what a list has left makes the list one longer
-  continues :
+  pub continues :
       (after : List ℕ) (counted : Tally)
       → counted ≡ submitTally book user plan ledger tally
       → after ≡ submitLedger book user plan ledger tally

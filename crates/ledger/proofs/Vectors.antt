@@ -59,8 +59,7 @@ submissions = reverse (map (λ day. record { user = day .0; plan = plan (day .1)
 -- the replies; then both counts, and the words of user 1 that are not 0: State (category 2) as it is in the first, Price
 -- (category 4) under avg in the second
 pub shop-days :
-    _≡_ {A = List Submitted × List ℕ}
-    (
+    _≡_ {A = List Submitted × List ℕ} (
       map (λ e. e .reply) (log shop submissions),
       recordsAfter shop submissions .tally .admitted
           ∷ recordsAfter shop submissions .tally .declined
