@@ -260,10 +260,13 @@ module _ (book : List ℕ) (user : ℕ) (plan ledger : List ℕ) (tally : Tally)
       → SubmitSays book user plan ledger (ledgerAfter book user plan ledger reply) tally (tallyAfter reply tally) answer
 
   says-refused :
-      (x : Refusal) → firstFailing (submitTests book user plan ledger tally) ≡ tested.Refused x → Says (submitted.Refused x)
+      (x : Refusal)
+      → firstFailing (submitTests book user plan ledger tally) ≡ tested.Refused x
+      → Says (submitted.Refused x)
   unfolding submitPacked ledgerAfter tallyAfter
   says-refused x f same continued =
-      let past = refusal-past x (submit-small book user plan ledger tally x (refused-answer book user plan ledger tally x f)) in
+      let h = refused-answer book user plan ledger tally x f in
+      let past = refusal-past x (submit-small book user plan ledger tally x h) in
       let never : SubmitAccepted book user plan ledger tally → ⊥ =
       λ given. refused-passed x (sym f ∙ submit-passes book user plan ledger tally given) in
       record {

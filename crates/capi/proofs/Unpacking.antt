@@ -138,7 +138,9 @@ check-parts book n h =
 -- Judge: the mask has 32 bits
 
 pub judge-mask :
-    (book : List ℕ) (user : ℕ) (plan : List ℕ) (mask : ℕ) → judgeAnswer book user plan ≡ judged.Broken mask → mask < 4294967296
+    (book : List ℕ) (user : ℕ) (plan : List ℕ) (mask : ℕ)
+    → judgeAnswer book user plan ≡ judged.Broken mask
+    → mask < 4294967296
 judge-mask book user plan mask h =
     let given = judged-accepted book user plan mask h in
     let a : judged.Broken mask ≡ judged.Broken (brokenMask book user (accessesOf (headOf book) plan)) =

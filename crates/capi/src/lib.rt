@@ -132,10 +132,12 @@ pub fn submit_counted(
     ledger: &mut [u64],
     tally: Tally,
 ) -> Counted
-    ensures { λ r. ⌜ (r .answer ≡ submitPacked (submitAnswer (now (book .entry)) user (now (plan .entry)) (now (ledger .entry)) tally))
+    ensures { λ r. ⌜ (r .answer
+        ≡ submitPacked (submitAnswer (now (book .entry)) user (now (plan .entry)) (now (ledger .entry)) tally))
         × (r .tally ≡ submitTally (now (book .entry)) user (now (plan .entry)) (now (ledger .entry)) tally)
         × (now (ledger .exit) ≡ submitLedger (now (book .entry)) user (now (plan .entry)) (now (ledger .entry)) tally)
-        × SubmitSays (now (book .entry)) user (now (plan .entry)) (now (ledger .entry)) (now (ledger .exit)) tally (r .tally) (r .answer) ⌝ }
+        × SubmitSays (now (book .entry)) user (now (plan .entry)) (now (ledger .entry)) (now (ledger .exit)) tally
+        (r .tally) (r .answer) ⌝ }
 {
     let outcome = submit(book, user, plan, ledger, tally);
     let after = outcome.tally;
@@ -165,10 +167,15 @@ pub extern "C" fn pspec_submit(
     ledger: &mut [u64],
     tally: &mut Tally,
 ) -> u64
-    ensures { λ r. ⌜ (r ≡ submitPacked (submitAnswer (now (book .entry)) user (now (plan .entry)) (now (ledger .entry)) (now (tally .entry))))
-        × (now (tally .exit) ≡ submitTally (now (book .entry)) user (now (plan .entry)) (now (ledger .entry)) (now (tally .entry)))
-        × (now (ledger .exit) ≡ submitLedger (now (book .entry)) user (now (plan .entry)) (now (ledger .entry)) (now (tally .entry)))
-        × SubmitSays (now (book .entry)) user (now (plan .entry)) (now (ledger .entry)) (now (ledger .exit)) (now (tally .entry)) (now (tally .exit)) r ⌝ }
+    ensures { λ r. ⌜ (r
+        ≡ submitPacked
+        (submitAnswer (now (book .entry)) user (now (plan .entry)) (now (ledger .entry)) (now (tally .entry))))
+        × (now (tally .exit)
+        ≡ submitTally (now (book .entry)) user (now (plan .entry)) (now (ledger .entry)) (now (tally .entry)))
+        × (now (ledger .exit)
+        ≡ submitLedger (now (book .entry)) user (now (plan .entry)) (now (ledger .entry)) (now (tally .entry)))
+        × SubmitSays (now (book .entry)) user (now (plan .entry)) (now (ledger .entry)) (now (ledger .exit))
+        (now (tally .entry)) (now (tally .exit)) r ⌝ }
 {
     let counted = submit_counted(book, user, plan, ledger, *tally);
     *tally = counted.tally;

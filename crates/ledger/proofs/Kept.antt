@@ -58,9 +58,15 @@ module _ (e : Entry) (entries : List Entry) where
   unfolding admittedPlans
   plans-same left-out u = go (eqb (e .submission .user) u) refl
     where
-      go : (b : Bool) → eqb (e .submission .user) u ≡ b → admittedPlans (entriesOf u (e ∷ entries)) ≡ admittedPlans (entriesOf u entries)
+      go :
+          (b : Bool)
+          → eqb (e .submission .user) u ≡ b
+          → admittedPlans (entriesOf u (e ∷ entries)) ≡ admittedPlans (entriesOf u entries)
       go true z =
-          rw (own-entry u (eqb-true (e .submission .user) u z), keep-out (λ e. isAdmitted (e .reply)) e (entriesOf u entries) left-out)
+          rw (
+            own-entry u (eqb-true (e .submission .user) u z),
+            keep-out (λ e. isAdmitted (e .reply)) e (entriesOf u entries) left-out,
+          )
       go false z = rw (other-entry u (eqb-false (e .submission .user) u z))
 
 -- One submission
@@ -109,7 +115,11 @@ module _ (book : List ℕ) (s : Records) (entries : List Entry) (kept : Kept boo
       own-held = admitted-holds book (x .user) (x .plan) (s .ledger) (s .tally) given
 
       -- others what they held
-      other-held : (u : ℕ) → (x .user ≡ u → ⊥) → (y : Access) → heldFor (after Admitted .ledger) u y ≡ heldFor (s .ledger) u y
+      other-held :
+          (u : ℕ)
+          → (x .user ≡ u → ⊥)
+          → (y : Access)
+          → heldFor (after Admitted .ledger) u y ≡ heldFor (s .ledger) u y
       unfolding after ledgerAfter
       other-held u n = held-other (s .ledger) (x .user) (accessWords (headOf book) (x .plan)) u (λ z. n (sym z))
 

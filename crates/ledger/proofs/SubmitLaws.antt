@@ -1,6 +1,6 @@
 -- Laws of Submit: what it has tested when it accepts, and its reply, ledger and tally by the outcome of its tests.
 -- Assumes nothing.
-use Prim.Native.Nat.{ℕ, _+_, _<_}
+use Prim.Native.Nat.{ℕ, _+_, _*_, _≤_, _<_}
 use native.Mathlib.Omega.{arith}
 use mathlib.Core.Path.{_≡_, refl, sym, ap, _∙_}
 use mathlib.Core.Bool.{Bool, true, false, _&&_, cond}
@@ -124,7 +124,9 @@ module _ (book : List ℕ) (user : ℕ) (plan ledger : List ℕ) (tally : Tally)
   -- what holds of each reply that may come holds of the one that does
   pub by-reply :
       (P : Submitted → Type 0)
-      → ((r : Refusal) → firstFailing (submitTests book user plan ledger tally) ≡ tested.Refused r → P (submitted.Refused r))
+      → ((r : Refusal)
+      → firstFailing (submitTests book user plan ledger tally) ≡ tested.Refused r
+      → P (submitted.Refused r))
       → (SubmitAccepted book user plan ledger tally → unionMask book user plan ledger ≡ 0 → P submitted.Admitted)
       → (SubmitAccepted book user plan ledger tally
       → (unionMask book user plan ledger ≡ 0 → ⊥)
@@ -185,7 +187,8 @@ module _ (book : List ℕ) (user : ℕ) (plan ledger : List ℕ) (tally : Tally)
       let accepted = given .judge-accepted in
       let head = accepted-head book (accepted .book-accepted) in
       let low = user-below (headOf book) user (accepted .a-user) in
-      held-own ledger user (accessWords (headOf book) plan) (omega (arith, given .ledger-whole, head .users-most, low)) x
+      let room : 32 * user + 32 ≤ length ledger = omega (arith, given .ledger-whole, head .users-most, low) in
+      held-own ledger user (accessWords (headOf book) plan) room x
       ∙ rw (held-accesses (headOf book) plan head (accepted-plan (headOf book) plan (accepted .plan-accepted)) x)
 
   submit-means :

@@ -56,8 +56,8 @@ days =
 unfoldable pub submissions : List Submission
 submissions = reverse (map (λ day. record { user = day .0; plan = plan (day .1) }) days)
 
--- the replies; then both counts, and the words of user 1 that are not 0: State (category 2) as it is in the first, Price
--- (category 4) under avg in the second
+-- the replies; then both counts, and the words of user 1: State (category 2) as it is in the first, Price (category 4)
+-- under avg in the second
 pub shop-days :
     _≡_ {A = List Submitted × List ℕ} (
       map (λ e. e .reply) (log shop submissions),

@@ -126,7 +126,14 @@ join-end user {first} {words} {old} {new} {k} start all past =
     other : (j : ℕ) → (j / 32 ≡ user → ⊥) → getD old j 0 ≡ g j
     other j n = rw (ne-eqb (j / 32) user n) (sym (or-zero-r (getD old j 0)))
 
-    at : (j : ℕ) → j < length old → (b : Bool) → ltb j first ≡ b → (c : Bool) → ltb j (first + 32) ≡ c → getD new j 0 ≡ g j
+    at :
+        (j : ℕ)
+        → j < length old
+        → (b : Bool)
+        → ltb j first ≡ b
+        → (c : Bool)
+        → ltb j (first + 32) ≡ c
+        → getD new j 0 ≡ g j
     at j m true e c f =
         let l : j < first = ltb-true j first e in
         all .below j l ∙ other j (λ z. omega arith)

@@ -38,7 +38,8 @@ fn test_submit(
     ledger: &[u64],
     tally: Tally,
 ) -> Tested
-    ensures { λ r. ⌜ SubmitTested (now (book .entry)) (now (t .entry)) user (now (plan .entry)) (now (ledger .entry)) tally r ⌝ }
+    ensures { λ r. ⌜ SubmitTested (now (book .entry)) (now (t .entry)) user (now (plan .entry))
+        (now (ledger .entry)) tally r ⌝ }
 {
     let judged = test_judge(book, t, user, plan);
     let both = or_else(judged, test(LEDGER_LENGTH, 0, ledger.len() == 1024));
@@ -97,7 +98,8 @@ pub fn submit(book: &[u8], user: u32, plan: &[u8], ledger: &mut [u64], tally: Ta
         × (SubmitAccepted (now (book .entry)) user (now (plan .entry)) (now (ledger .entry)) tally
         → Submits (now (book .entry)) user
         (joinedAccesses (now (book .entry)) user (now (plan .entry)) (now (ledger .entry))) (r .reply))
-        × Continues (now (book .entry)) user (now (plan .entry)) (now (ledger .entry)) (now (ledger .exit)) tally (r .tally) ⌝ }
+        × Continues (now (book .entry)) user (now (plan .entry)) (now (ledger .entry)) (now (ledger .exit))
+        tally (r .tally) ⌝ }
 {
     let t = head_words(head_of(book));
     let outcome = test_submit(book, &t, user, plan, ledger, tally);

@@ -12,8 +12,8 @@ returns c =
     let a = called .before .before .before .before .before .args in
     let s = called .submit in
     submit-promised (a .book .now) (a .user) (a .plan .now) (a .ledger .now) (a .tally) _ _ _
-    (submit-refused (a .book .now) (a .user) (a .plan .now) (a .ledger .now) (a .tally) (s .result .reply) (s .ensures .0)
-    (told .reply .given .0 .0) (c .packed .result) (told .reply .given .1) (c .packed .ensures))
+    (submit-refused (a .book .now) (a .user) (a .plan .now) (a .ledger .now) (a .tally) (s .result .reply)
+    (s .ensures .0) (told .reply .given .0 .0) (c .packed .result) (told .reply .given .1) (c .packed .ensures))
     (s .ensures .1) (s .ensures .2)
 
 returns-2 : tie.Need-returns-2
@@ -23,8 +23,8 @@ returns-2 c =
     let a = called .before .before .before .before .before .args in
     let s = called .submit in
     submit-promised (a .book .now) (a .user) (a .plan .now) (a .ledger .now) (a .tally) _ _ _
-    (submit-declined (a .book .now) (a .user) (a .plan .now) (a .ledger .now) (a .tally) (s .result .reply) (s .ensures .0)
-    (told .reply2 .given .0 .0) (told .reply2 .given .1))
+    (submit-declined (a .book .now) (a .user) (a .plan .now) (a .ledger .now) (a .tally) (s .result .reply)
+    (s .ensures .0) (told .reply2 .given .0 .0) (told .reply2 .given .1))
     (s .ensures .1) (s .ensures .2)
 
 returns-3 : tie.Need-returns-3
@@ -33,8 +33,8 @@ returns-3 c =
     let a = called .before .before .before .before .before .args in
     let s = called .submit in
     submit-promised (a .book .now) (a .user) (a .plan .now) (a .ledger .now) (a .tally) _ _ _
-    (submit-admitted (a .book .now) (a .user) (a .plan .now) (a .ledger .now) (a .tally) (s .result .reply) (s .ensures .0)
-    (c .enum-told .given .1))
+    (submit-admitted (a .book .now) (a .user) (a .plan .now) (a .ledger .now) (a .tally) (s .result .reply)
+    (s .ensures .0) (c .enum-told .given .1))
     (s .ensures .1) (s .ensures .2)
 
 pub submit-counted-spec : {M : Type 1} → statement M

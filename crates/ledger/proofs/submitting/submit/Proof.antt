@@ -1,5 +1,5 @@
--- Refused: nothing changes. Otherwise the tests give what each callee asks, and the mask tells which of both outcomes it is
--- (`submit-admitted`, `submit-declined`). Assumes nothing.
+-- Refused: nothing changes. Otherwise the tests give what each callee asks, and the mask tells which of both outcomes
+-- it is (`submit-admitted`, `submit-declined`). Assumes nothing.
 use native.Mathlib.Omega.{arith}
 use mathlib.Core.Path.{sym, _∙_}
 use borrow.Author.Needs.{needs}
