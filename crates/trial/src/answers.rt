@@ -71,6 +71,11 @@ impl Answer {
         self.text(b" place ")
     }
 
+    pub fn then(self, more: Answer) -> Answer {
+        let bytes = more.bytes;
+        self.text(part(&bytes, 0, more.length))
+    }
+
     pub fn either(self, holds: bool, yes: &[u8], no: &[u8]) -> Answer {
         if holds {
             return self.text(yes);

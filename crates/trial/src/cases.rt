@@ -1,6 +1,7 @@
 // A file of cases, a line a case. A line that starts with # is a comment; one that starts with +
-// has edits for every case below it, up to the next such line. What stands before = in a case is a
-// label and what is tried, with bars between the parts; what stands after it is the answer expected.
+// has edits for every case below it, up to the next such line; one that starts with @ sets the ledger
+// and the tally to submit to. What stands before = in a case is a label and what is tried, with bars
+// between the parts; what stands after it is the answer expected.
 use crate::answers::Answer;
 use crate::answers::malformed;
 use crate::answers::say;
@@ -14,7 +15,9 @@ use crate::numbers;
 use crate::numbers::Numbers;
 use crate::plans::plan_of;
 use crate::reading;
+use crate::records;
 use crate::sealing;
+use crate::submitting;
 use crate::text::after;
 use crate::text::before;
 use crate::text::piece;
@@ -30,10 +33,11 @@ pub enum Call {
     Judge,
     Idle,
     Blocked,
+    Submit,
     Readers,
 }
 
-struct Tally {
+struct Count {
     cases: u64,
     right: u64,
     // Where the line of common edits starts.
@@ -49,31 +53,42 @@ fn may_ask(call: Call, asked: Numbers) -> bool {
         Call::Judge => asked.within(1, 3),
         Call::Idle => asked.within(1, 4),
         Call::Blocked => asked.within(1, 2),
+        Call::Submit => asked.within(1, 4),
         Call::Readers => asked.within(1, 4),
     }
 }
 
-fn answered(call: Call, asked: Numbers, book: &[u8], plan: &[u8]) -> Answer {
+fn answered(call: Call, asked: Numbers, book: &[u8], plan: &[u8], records: &mut [u64]) -> Answer {
     match call {
         Call::Check => checking::answered(asked, book),
         Call::Flows => flowing::answered(asked, book, plan),
         Call::Judge => judging::answered(asked, book, plan),
         Call::Idle => idling::answered(asked, book),
         Call::Blocked => blocking::answered(asked, book),
+        Call::Submit => submitting::answered(asked, book, plan, records),
         _ => reading::answered(asked, book),
     }
 }
 
-fn built(call: Call, asked: Numbers, rows: &[u8], common: &[u8], edits: &[u8]) -> Answer {
+fn built(
+    call: Call,
+    asked: Numbers,
+    rows: &[u8],
+    common: &[u8],
+    edits: &[u8],
+    records: &mut [u64],
+) -> Answer {
     let book = build(common, edits);
     let plan = plan_of(rows);
     let blocks = book.bytes;
     let bytes = plan.bytes;
-    answered(call, asked, &blocks, part(&bytes, 0, plan.length)).if_sound(book.sound & plan.sound)
+    answered(call, asked, &blocks, part(&bytes, 0, plan.length), records).if_sound(
+        book.sound & plan.sound,
+    )
 }
 
 // The rows of a plan stand before the edits.
-fn tried(call: Call, common: &[u8], parts: &[u8]) -> Answer {
+fn tried(call: Call, common: &[u8], parts: &[u8], records: &mut [u64]) -> Answer {
     let asked = numbers::read(before(parts, b'|'));
     let texts = after(parts, b'|');
     if !may_ask(call, asked) {
@@ -81,9 +96,15 @@ fn tried(call: Call, common: &[u8], parts: &[u8]) -> Answer {
     }
     match call {
         Call::Seal => sealing::answered(asked, texts),
-        Call::Flows => built(call, asked, before(texts, b'|'), common, after(texts, b'|')),
-        Call::Judge => built(call, asked, before(texts, b'|'), common, after(texts, b'|')),
-        _ => built(call, asked, b"", common, texts),
+        Call::Flows | Call::Judge | Call::Submit => built(
+            call,
+            asked,
+            before(texts, b'|'),
+            common,
+            after(texts, b'|'),
+            records,
+        ),
+        _ => built(call, asked, b"", common, texts, records),
     }
 }
 
@@ -96,10 +117,10 @@ fn report(label: &[u8], expected: &[u8], answer: Answer) {
 }
 
 // Whether the case answers what it expects.
-fn holds(call: Call, common: &[u8], line: &[u8]) -> bool {
+fn holds(call: Call, common: &[u8], line: &[u8], records: &mut [u64]) -> bool {
     let case = before(line, b'=');
     let expected = after(line, b'=');
-    let answer = tried(call, common, after(case, b'|'));
+    let answer = tried(call, common, after(case, b'|'), records);
     if answer.is(expected) {
         return true;
     }
@@ -107,52 +128,65 @@ fn holds(call: Call, common: &[u8], line: &[u8]) -> bool {
     false
 }
 
-fn counted(tally: Tally, right: bool) -> Tally {
-    Tally {
-        cases: wrapping_add_u64(tally.cases, 1),
-        right: wrapping_add_u64(tally.right, right as u64),
-        common: tally.common,
+fn counted(count: Count, right: bool) -> Count {
+    Count {
+        cases: wrapping_add_u64(count.cases, 1),
+        right: wrapping_add_u64(count.right, right as u64),
+        common: count.common,
     }
 }
 
-fn line_at(tally: Tally, call: Call, file: &[u8], i: usize) -> Tally {
+// A line of records that is malformed counts as a case that fails.
+fn with_records(count: Count, line: &[u8], records: &mut [u64]) -> Count {
+    if records::set(records, after(line, b'@')) {
+        return count;
+    }
+    report(line, b" records", malformed());
+    counted(count, false)
+}
+
+fn line_at(count: Count, call: Call, file: &[u8], i: usize, records: &mut [u64]) -> Count {
     if !starts(file, i, b'\n') {
-        return tally;
+        return count;
     }
     let line = piece(file, i, b'\n');
     let mark = byte_at(line, 0) as u8;
     if (line.len() == 0) | (mark == b'#') {
-        return tally;
+        return count;
     }
     if mark == b'+' {
-        return Tally {
-            cases: tally.cases,
-            right: tally.right,
+        return Count {
+            cases: count.cases,
+            right: count.right,
             common: i,
         };
     }
-    let common = after(piece(file, tally.common, b'\n'), b'+');
-    counted(tally, holds(call, common, line))
+    if mark == b'@' {
+        return with_records(count, line, records);
+    }
+    let common = after(piece(file, count.common, b'\n'), b'+');
+    counted(count, holds(call, common, line, records))
 }
 
-fn tally_of(call: Call, file: &[u8]) -> Tally {
-    let mut tally = Tally {
+fn count_of(call: Call, file: &[u8]) -> Count {
+    let mut count = Count {
         cases: 0,
         right: 0,
         common: file.len(),
     };
+    let mut records = [0u64; 2114];
     for i in 0..file.len() {
-        let next = line_at(tally, call, file, i);
-        tally = next;
+        let next = line_at(count, call, file, i, &mut records);
+        count = next;
     }
-    tally
+    count
 }
 
-fn print_tally(name: &[u8], tally: Tally) {
+fn print_count(name: &[u8], count: Count) {
     say(name).text(b": ")
-        .number(tally.cases)
+        .number(count.cases)
         .text(b" cases, ")
-        .number(tally.right)
+        .number(count.right)
         .text(b" as expected\n")
         .print();
 }
@@ -167,5 +201,5 @@ pub fn try_file(call: Call, name: &[u8]) {
         say(name).text(b": too long\n").print();
         return;
     }
-    print_tally(name, tally_of(call, &room[..n]));
+    print_count(name, count_of(call, &room[..n]));
 }

@@ -1,6 +1,7 @@
 // Tries the calls on books, blocks and plans of every kind. The cases are data, with the answers
 // that are worked out from documents 01 and 02 beside them; a case that answers something else gets
 // a line, and each file one with its counts.
+mod accesses; // accesses as text
 mod answers; // answers as text
 mod blocking; // Blocked
 mod books; // building books to try
@@ -12,9 +13,12 @@ mod judging; // Judge
 mod numbers; // reading numbers
 mod plans; // building plans to try
 mod reading; // what the crates above read in a book
+mod records; // a ledger and a tally to submit to
 mod sealing; // Seal
 mod spaces; // bytes to build in
+mod submitting; // Submit
 mod text; // parts of a text
+mod words; // reading and writing words
 
 use cases::Call;
 use cases::try_file;
@@ -26,5 +30,6 @@ fn main() {
     try_file(Call::Judge, b"judge.cases");
     try_file(Call::Idle, b"idle.cases");
     try_file(Call::Blocked, b"blocked.cases");
+    try_file(Call::Submit, b"submit.cases");
     try_file(Call::Readers, b"readers.cases");
 }
