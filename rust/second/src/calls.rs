@@ -1,11 +1,13 @@
-//! The six calls: what is refused, in the documents' order, and what is answered.
+//! The seven calls: what is refused, in the documents' order, and what is answered.
 
-use crate::access::{Access, Action};
+use crate::access::Access;
 use crate::blocked::{self, Datum};
 use crate::book::Book;
 use crate::idle::{self, Found};
+use crate::ledger::{self, Tally};
 use crate::refusal::*;
 use crate::{block, breaking, path, plan, reading, shown};
+use std::collections::BTreeSet;
 
 /// **Book check.** "Otherwise accepted, with the number of rules."
 pub fn check(book: &[u8]) -> Result<u32, Refusal> {
@@ -22,38 +24,49 @@ pub fn seal(bytes: &mut [u8]) -> Result<(), Refusal> {
     Ok(())
 }
 
-/// **Flows.** "Otherwise bit d of word 16 × s + k is set exactly when (s, d, k) is an access, s
-/// being 0 for projection, 1 for condition."
+/// **Flows.** The words are written as [`ledger::write`] says.
 pub fn flows(book: &[u8], plan: &[u8], words: &mut [u64]) -> Result<(), Refusal> {
     let book = reading::read(book)?;
     let rows = plan::read(plan, &book)?;
     if words.len() != 32 {
         return Err(Refusal::of(WORDS_LENGTH));
     }
-    words.fill(0);
-    for access in path::accesses(&book, &rows) {
-        words[word(&access)] += 2u64.pow(access.leaf as u32);
-    }
+    ledger::write(&path::accesses(&book, &rows), words);
     Ok(())
-}
-
-/// "word 16 × s + k"
-fn word(access: &Access) -> usize {
-    let s = match access.action {
-        Action::Projection => 0,
-        Action::Condition => 1,
-    };
-    16 * s + usize::from(access.operation)
 }
 
 /// **Judge.** "Otherwise a 32-bit mask, bit r for rule r."
 pub fn judge(book: &[u8], user: u32, plan: &[u8]) -> Result<u32, Refusal> {
+    let judged = judged(book, user, plan)?;
+    Ok(judged.mask(&judged.accesses))
+}
+
+/// What Judge and Submit have once Judge refuses nothing.
+struct Judged {
+    book: Book,
+    user: usize,
+    accesses: BTreeSet<Access>,
+}
+
+/// "Book refusals; 20, the user is no leaf; 21; 22."
+fn judged(book: &[u8], user: u32, plan: &[u8]) -> Result<Judged, Refusal> {
     let book = reading::read(book)?;
     let user = a_user(&book, user).ok_or(Refusal::of(NO_USER))?;
     let rows = plan::read(plan, &book)?;
     let accesses = path::accesses(&book, &rows);
-    let broken = breaking::broken(&book, user, &accesses);
-    Ok(broken.into_iter().map(|r| 2u32.pow(r as u32)).sum())
+    Ok(Judged {
+        book,
+        user,
+        accesses,
+    })
+}
+
+impl Judged {
+    /// The mask of the rules that the user breaks with these accesses.
+    fn mask(&self, accesses: &BTreeSet<Access>) -> u32 {
+        let broken = breaking::broken(&self.book, self.user, accesses);
+        broken.into_iter().map(|r| 2u32.pow(r as u32)).sum()
+    }
 }
 
 /// "A user is a leaf of block 0."
@@ -154,4 +167,32 @@ fn with_restrictions(book: &[u8], rule: u32) -> Result<(Book, usize), Refusal> {
 
 fn numbered(closed: blocked::Closed) -> Blocking {
     closed.map(|(user, association)| (user as u32, association))
+}
+
+/// **Submit** (document 02, N3). "A plan is declined exactly when its accesses joined with those held
+/// for its user break a rule; the mask of that union is the reply."
+pub fn submit(
+    book: &[u8],
+    user: u32,
+    plan: &[u8],
+    ledger: &mut [u64],
+    tally: &mut Tally,
+) -> Result<u32, Refusal> {
+    let judged = judged(book, user, plan)?;
+    if ledger.len() != ledger::WORDS {
+        return Err(Refusal::of(LEDGER_LENGTH));
+    }
+    if tally.is_full() {
+        return Err(Refusal::of(COUNTS_FULL));
+    }
+    let held = ledger::of_user(ledger, judged.user);
+    let union = &judged.accesses | &ledger::accesses(held);
+    let mask = judged.mask(&union);
+    if mask == 0 {
+        ledger::write(&union, held);
+        tally.admitted += 1;
+    } else {
+        tally.declined += 1;
+    }
+    Ok(mask)
 }

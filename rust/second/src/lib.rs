@@ -1,4 +1,4 @@
-//! A second implementation of the six calls of the policy engine.
+//! A second implementation of the seven calls of the policy engine.
 //!
 //! It is written from the sentences of documents 01 and 02, each quoted where it is followed, with
 //! ordinary sets, explicit paths and explicit choices. It is made to be read and believed, not to be quick:
@@ -20,6 +20,7 @@ pub mod breaking;
 pub mod choice;
 pub mod hierarchy;
 pub mod idle;
+pub mod ledger;
 pub mod operation;
 pub mod path;
 pub mod plan;
@@ -32,6 +33,7 @@ mod calls;
 
 pub use calls::{
     blocked, blocked_naive, blocked_within, check, flows, idle, idle_naive, idle_within, judge,
-    seal,
+    seal, submit,
 };
+pub use ledger::Tally;
 pub use refusal::Refusal;

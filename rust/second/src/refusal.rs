@@ -56,3 +56,7 @@ pub const NO_RULE: u32 = 24;
 pub const SHORT_BUFFER: u32 = 25;
 /// "26 if the rule forbids"
 pub const RULE_FORBIDS: u32 = 26;
+/// "27 for a ledger not of 1,024 words"
+pub const LEDGER_LENGTH: u32 = 27;
+/// "28 when either count or their sum is already 1,000,000 or more"
+pub const COUNTS_FULL: u32 = 28;

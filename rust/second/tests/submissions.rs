@@ -1,0 +1,178 @@
+//! Submissions to document 01's small shop, worked out by hand (document 02, N3).
+
+use books::draft::Draft;
+use books::named::small_shop;
+use second::{Refusal, Tally};
+
+const REPORT: u32 = 1;
+const MARKETING: u32 = 2;
+
+/// The state, put out.
+const STATE: [u8; 8] = [1, 0, 0, 0, 4, 0, 0, 0];
+/// The price, put out.
+const PRICE: [u8; 8] = [1, 2, 0, 0, 4, 0, 0, 0];
+/// The price as a condition.
+const BY_PRICE: [u8; 8] = [1, 2, 0, 0, 5, 0, 0, 0];
+/// The average price, put out.
+const AVERAGE: [u8; 12] = [1, 2, 0, 0, 2, 1, 0, 255, 4, 1, 0, 0];
+/// The sum of prices, put out.
+const SUM: [u8; 12] = [1, 2, 0, 0, 2, 2, 0, 255, 4, 1, 0, 0];
+
+/// A ledger and a tally, with one book.
+struct Kept {
+    book: Vec<u8>,
+    ledger: Vec<u64>,
+    tally: Tally,
+}
+
+impl Kept {
+    fn fresh(draft: &Draft) -> Kept {
+        Kept {
+            book: draft.bytes(),
+            ledger: vec![0; 1_024],
+            tally: Tally::default(),
+        }
+    }
+
+    fn submit(&mut self, user: u32, plan: &[u8]) -> Result<u32, Refusal> {
+        second::submit(&self.book, user, plan, &mut self.ledger, &mut self.tally)
+    }
+
+    fn assert_refused(&mut self, user: u32, plan: &[u8], number: u32, place: u32) {
+        let before = (self.ledger.clone(), self.tally);
+        assert_eq!(self.submit(user, plan), Err(Refusal { number, place }));
+        assert_eq!((self.ledger.clone(), self.tally), before);
+    }
+
+    /// The words that are not 0, by place.
+    fn words(&self) -> Vec<(usize, u64)> {
+        let all = self.ledger.iter().copied().enumerate();
+        all.filter(|&(_, word)| word != 0).collect()
+    }
+
+    fn counts(&self) -> (u32, u32) {
+        (self.tally.admitted, self.tally.declined)
+    }
+}
+
+fn counts(admitted: u32, declined: u32) -> Tally {
+    Tally { admitted, declined }
+}
+
+/// Marketing's price breaks rule 1 by itself; after the state it breaks rule 0 too.
+#[test]
+fn state_on_monday_and_price_on_tuesday() {
+    let mut kept = Kept::fresh(&small_shop());
+    assert_eq!(kept.submit(MARKETING, &PRICE), Ok(0b010));
+    assert_eq!(kept.submit(MARKETING, &STATE), Ok(0));
+    assert_eq!(kept.submit(MARKETING, &PRICE), Ok(0b011));
+    assert_eq!(kept.counts(), (1, 2));
+    assert_eq!(kept.words(), [(32 * 2, 1 << 2)]);
+}
+
+/// Without rule 1 either may be had alone, in whatever order, and never both.
+#[test]
+fn one_association() {
+    for [monday, tuesday] in [[STATE, PRICE], [PRICE, STATE]] {
+        let mut kept = Kept::fresh(&small_shop().with_rules(&[0, 2]));
+        assert_eq!(second::judge(&kept.book, REPORT, &tuesday), Ok(0));
+        assert_eq!(kept.submit(REPORT, &monday), Ok(0));
+        let after_monday = kept.words();
+        assert_eq!(kept.submit(REPORT, &tuesday), Ok(0b11));
+        assert_eq!(kept.submit(REPORT, &tuesday), Ok(0b11));
+        assert_eq!(kept.submit(MARKETING, &tuesday), Ok(0));
+        assert_eq!(kept.submit(REPORT, &monday), Ok(0));
+        assert_eq!(kept.words()[..1], after_monday);
+        assert_eq!(kept.counts(), (3, 2));
+    }
+}
+
+/// Bit d of word 32 × user + 16 × s + k.
+#[test]
+fn what_is_held() {
+    let mut shop = small_shop();
+    shop.rules.truncate(1);
+    let mut kept = Kept::fresh(&shop);
+    for plan in [&STATE[..], &AVERAGE, &BY_PRICE, &[], &SUM, &STATE] {
+        assert_eq!(kept.submit(REPORT, plan), Ok(0));
+    }
+    let [state, price] = [1 << 2, 1 << 4];
+    let words = [(32, state), (33, price), (34, price), (48, price)];
+    assert_eq!(kept.words(), words);
+    assert_eq!(kept.submit(REPORT, &PRICE), Ok(1));
+    assert_eq!(kept.words(), words);
+    assert_eq!(kept.counts(), (6, 1));
+}
+
+/// "Judge's refusals, then 27 for a ledger not of 1,024 words, then 28"
+#[test]
+fn refusals_in_order() {
+    let mut kept = Kept::fresh(&small_shop());
+    kept.tally = counts(1_000_000, 0);
+    kept.assert_refused(REPORT, &STATE, 28, 0);
+    for length in [0, 1, 32, 1_023, 1_025, 2_048] {
+        kept.ledger = vec![3; length];
+        kept.assert_refused(REPORT, &STATE, 27, 0);
+    }
+    kept.assert_refused(REPORT, &[1, 9, 0, 0], 22, 0);
+    kept.assert_refused(REPORT, &[1], 21, 0);
+    kept.assert_refused(0, &[1], 20, 0);
+    kept.assert_refused(3, &STATE, 20, 0);
+    kept.assert_refused(u32::MAX, &STATE, 20, 0);
+    kept.book[2 * 512] = 9;
+    kept.assert_refused(0, &[1], 2, 2);
+}
+
+/// 28 comes before the union is judged, and the sum is that of the numbers, however large.
+#[test]
+fn full_counts() {
+    let most = u32::MAX;
+    for (admitted, declined) in [
+        (1_000_000, 0),
+        (0, 1_000_000),
+        (999_999, 1),
+        (500_000, 500_000),
+        (most, 0),
+        (most, 1),
+        (1 << 31, 1 << 31),
+        (most, most),
+    ] {
+        let mut kept = Kept::fresh(&small_shop());
+        kept.tally = counts(admitted, declined);
+        kept.assert_refused(REPORT, &STATE, 28, 0);
+        kept.assert_refused(REPORT, &PRICE, 28, 0);
+    }
+    for (admitted, declined) in [(999_999, 0), (0, 999_999), (499_999, 500_000)] {
+        let mut kept = Kept::fresh(&small_shop());
+        kept.tally = counts(admitted, declined);
+        assert_eq!(kept.submit(REPORT, &STATE), Ok(0));
+        assert_eq!(kept.counts(), (admitted + 1, declined));
+        kept.assert_refused(REPORT, &STATE, 28, 0);
+        kept.tally = counts(admitted, declined);
+        assert_eq!(kept.submit(REPORT, &PRICE), Ok(0b111));
+        assert_eq!(kept.counts(), (admitted, declined + 1));
+    }
+}
+
+/// A ledger that no list reaches is joined and judged as it is.
+#[test]
+fn any_ledger() {
+    let mut kept = Kept::fresh(&small_shop());
+    // Bits at no leaf, and at no category.
+    kept.ledger = vec![0b11 | 1 << 63; 1_024];
+    assert_eq!(kept.submit(REPORT, &STATE), Ok(0));
+    let mut wanted = vec![0b11 | 1 << 63; 1_024];
+    wanted[32] |= 1 << 2;
+    assert_eq!(kept.ledger, wanted);
+    // A price held under an operation that it does not support: even the empty plan is declined.
+    kept.ledger[32 + 16 + 9] |= 1 << 4;
+    wanted = kept.ledger.clone();
+    assert_eq!(kept.submit(REPORT, &[]), Ok(0b010));
+    assert_eq!(kept.submit(MARKETING, &[]), Ok(0));
+    assert_eq!(kept.ledger, wanted);
+    // A city and a sum, which another book let through.
+    let mut kept = Kept::fresh(&small_shop());
+    (kept.ledger[32], kept.ledger[34]) = (1 << 3, 1 << 4);
+    assert_eq!(kept.submit(REPORT, &AVERAGE), Ok(0b110));
+    assert_eq!(kept.counts(), (0, 1));
+}
