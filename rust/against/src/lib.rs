@@ -4,10 +4,10 @@
 
 pub mod answer;
 pub mod engine;
+pub mod reached;
 pub mod run;
-pub mod tally;
 pub mod text;
 
 pub use engine::Engine;
+pub use reached::Reached;
 pub use run::{run, Difference, Limit};
-pub use tally::Tally;

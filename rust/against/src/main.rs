@@ -2,7 +2,7 @@
 
 use against::engine::{by_name, USUAL};
 use against::run::{compare, try_case};
-use against::{run, text, Engine, Limit, Tally};
+use against::{run, text, Engine, Limit, Reached};
 use std::io::{self, IsTerminal, Write};
 use std::process::ExitCode;
 use std::time::{Duration, Instant};
@@ -80,7 +80,8 @@ fn replay(engines: [&dyn Engine; 2], file: &str) -> Result<String, String> {
     let case = text::read(&read)?;
     let answers = compare(engines, &case).map_err(|difference| difference.to_string())?;
     // Both may say what the documents rule out.
-    try_case(engines, &case, &mut Tally::default()).map_err(|difference| difference.to_string())?;
+    try_case(engines, &case, &mut Reached::default())
+        .map_err(|difference| difference.to_string())?;
     let line = |i: usize| format!("{}: {}", engines[i].name(), answers[i]);
     Ok(format!("{}\n{}", line(0), line(1)))
 }
@@ -89,12 +90,12 @@ fn random(engines: [&dyn Engine; 2], asked: &Asked) -> Result<String, String> {
     let [left, right] = engines.map(|engine| engine.name());
     println!("{left} against {right}, seed {}", asked.seed);
     let mut shown = Progress::new();
-    let result = run(engines, asked.seed, asked.limit, &mut |tally| {
-        shown.show(tally)
+    let result = run(engines, asked.seed, asked.limit, &mut |reached| {
+        shown.show(reached)
     });
     shown.clear();
     match result {
-        Ok(tally) => Ok(format!("{tally}\nno difference")),
+        Ok(reached) => Ok(format!("{reached}\nno difference")),
         Err(difference) => Err(format!("# a difference\n{difference}")),
     }
 }
@@ -113,13 +114,13 @@ impl Progress {
         }
     }
 
-    fn show(&mut self, tally: &Tally) {
+    fn show(&mut self, reached: &Reached) {
         if self.terminal && self.last.elapsed() > Duration::from_millis(200) {
             self.last = Instant::now();
-            let missing = tally.not_reached();
+            let missing = reached.not_reached();
             eprint!(
                 "\r\x1b[K{} cases, refusals to reach: {missing:?}",
-                tally.cases
+                reached.cases
             );
             let _ = io::stderr().flush();
         }

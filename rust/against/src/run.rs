@@ -2,7 +2,7 @@
 
 use crate::answer::{self, Answer};
 use crate::engine::{unpacked, Engine};
-use crate::tally::Tally;
+use crate::reached::Reached;
 use crate::text;
 use books::{case, Case, Random};
 use second::access::Access;
@@ -64,23 +64,23 @@ pub fn run(
     engines: [&dyn Engine; 2],
     seed: u64,
     limit: Limit,
-    progress: &mut dyn FnMut(&Tally),
-) -> Result<Tally, Box<Difference>> {
+    progress: &mut dyn FnMut(&Reached),
+) -> Result<Reached, Box<Difference>> {
     let start = Instant::now();
     let mut random = Random::new(seed);
-    let mut tally = Tally::default();
-    let open = |tally: &Tally| match limit {
-        Limit::Cases(n) => tally.cases < n,
+    let mut reached = Reached::default();
+    let open = |reached: &Reached| match limit {
+        Limit::Cases(n) => reached.cases < n,
         Limit::Time(time) => start.elapsed() < time,
     };
-    while open(&tally) {
+    while open(&reached) {
         let size = case::next_size(&mut random);
         for case in case::round(&mut random, size) {
-            try_case(engines, &case, &mut tally)?;
+            try_case(engines, &case, &mut reached)?;
         }
-        progress(&tally);
+        progress(&reached);
     }
-    Ok(tally)
+    Ok(reached)
 }
 
 /// Compares a case. Then what Idle shows is judged, and what Blocked says is closed; and a rule that a
@@ -88,15 +88,15 @@ pub fn run(
 pub fn try_case(
     engines: [&dyn Engine; 2],
     case: &Case,
-    tally: &mut Tally,
+    reached: &mut Reached,
 ) -> Result<(), Box<Difference>> {
-    let answer = try_one(engines, case, tally)?;
+    let answer = try_one(engines, case, reached)?;
     match (case, answer) {
         (Case::Idle { .. }, Answer::Needed(user, rows)) => {
-            try_shown(engines, case, user, rows, tally)
+            try_shown(engines, case, user, rows, reached)
         }
         (Case::Judge { book, .. }, Answer::Broken(mask)) if mask.is_power_of_two() => {
-            try_alone(engines, book, mask.trailing_zeros(), tally)
+            try_alone(engines, book, mask.trailing_zeros(), reached)
         }
         (Case::Blocked { book, .. }, Answer::Closed(value)) => {
             try_closed(engines, case, book, value)
@@ -109,12 +109,12 @@ pub fn try_case(
 fn try_one(
     engines: [&dyn Engine; 2],
     case: &Case,
-    tally: &mut Tally,
+    reached: &mut Reached,
 ) -> Result<Answer, Box<Difference>> {
     let [one, two] = compare(engines, case)?;
     let given_up = [one, two].contains(&Answer::GaveUp);
     let answer = if given_up { Answer::GaveUp } else { one };
-    tally.count(case, answer);
+    reached.count(case, answer);
     Ok(answer)
 }
 
@@ -125,7 +125,7 @@ fn try_shown(
     idle: &Case,
     user: u32,
     rows: u32,
-    tally: &mut Tally,
+    reached: &mut Reached,
 ) -> Result<(), Box<Difference>> {
     let mut after = idle.clone();
     answer::of(engines[0], &mut after);
@@ -134,7 +134,7 @@ fn try_shown(
     };
     let plan = buffer[..4 * rows as usize].to_vec();
     let judge = Case::Judge { book, user, plan };
-    let answer = try_one(engines, &judge, tally)?;
+    let answer = try_one(engines, &judge, reached)?;
     match answer {
         Answer::Broken(mask) if mask == 1 << rule => Ok(()),
         _ => Err(wrong(engines, judge, Answer::Broken(1 << rule), answer)),
@@ -146,14 +146,14 @@ fn try_alone(
     engines: [&dyn Engine; 2],
     book: &[u8],
     rule: u32,
-    tally: &mut Tally,
+    reached: &mut Reached,
 ) -> Result<(), Box<Difference>> {
     let idle = Case::Idle {
         book: book.to_vec(),
         rule,
         buffer: vec![0; 36],
     };
-    match try_one(engines, &idle, tally)? {
+    match try_one(engines, &idle, reached)? {
         Answer::Idle => Err(wrong(engines, idle, Answer::NotIdle, Answer::Idle)),
         _ => Ok(()),
     }

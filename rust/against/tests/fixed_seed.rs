@@ -1,7 +1,7 @@
 //! A fixed seed: no difference, and everything reached.
 
 use against::engine::{by_name, USUAL};
-use against::tally::BLOCKED_REFUSALS;
+use against::reached::BLOCKED_REFUSALS;
 use against::{run, Limit};
 
 #[test]
@@ -13,30 +13,30 @@ fn no_difference_and_everything_reached() {
     } else {
         60_000
     };
-    let tally = match run(engines, 20_240_501, Limit::Cases(cases), &mut |_| ()) {
-        Ok(tally) => tally,
+    let reached = match run(engines, 20_240_501, Limit::Cases(cases), &mut |_| ()) {
+        Ok(reached) => reached,
         Err(difference) => panic!("{difference}"),
     };
-    println!("{tally}");
-    assert_eq!(tally.not_reached(), [0; 0], "{tally}");
-    let reached = [
-        tally.needed,
-        tally.idle_alone,
-        tally.covered_by_one,
-        tally.covered_by_several,
-        tally.broken,
-        tally.open,
-        tally.closed[0],
-        tally.closed[1],
-        tally.closed[2],
-        tally.closed_alone,
-        tally.closed_by_several,
+    println!("{reached}");
+    assert_eq!(reached.not_reached(), [0; 0], "{reached}");
+    let often = [
+        reached.needed,
+        reached.idle_alone,
+        reached.covered_by_one,
+        reached.covered_by_several,
+        reached.broken,
+        reached.open,
+        reached.closed[0],
+        reached.closed[1],
+        reached.closed[2],
+        reached.closed_alone,
+        reached.closed_by_several,
     ];
-    assert!(reached.iter().all(|&n| n >= 5), "{tally}");
-    assert!(tally.fewer_functions * 100 > tally.needed, "{tally}");
-    let refused: Vec<u32> = tally.blocked_refusals.keys().copied().collect();
-    assert_eq!(refused, BLOCKED_REFUSALS, "{tally}");
-    let closed: u64 = tally.closed.iter().sum();
-    let searched = tally.idle + tally.needed + tally.open + closed;
-    assert!(tally.given_up * 5 < searched, "{tally}");
+    assert!(often.iter().all(|&n| n >= 5), "{reached}");
+    assert!(reached.fewer_functions * 100 > reached.needed, "{reached}");
+    let refused: Vec<u32> = reached.blocked_refusals.keys().copied().collect();
+    assert_eq!(refused, BLOCKED_REFUSALS, "{reached}");
+    let closed: u64 = reached.closed.iter().sum();
+    let searched = reached.idle + reached.needed + reached.open + closed;
+    assert!(reached.given_up * 5 < searched, "{reached}");
 }

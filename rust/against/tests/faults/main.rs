@@ -7,7 +7,7 @@ mod order;
 
 use against::engine::{Blocking, Idleness, Search, Second, STEPS};
 use against::run::try_case;
-use against::{run, text, Engine, Limit, Tally};
+use against::{run, text, Engine, Limit, Reached};
 use second::Refusal;
 use std::fmt::Debug;
 
@@ -78,7 +78,7 @@ impl<F: Faulty> Engine for FaultyEngine<F> {
 fn is_found_and_shown_again(fault: impl Faulty + Copy + Debug) {
     let engines: [&dyn Engine; 2] = [&FaultyEngine(fault), &GOOD];
     let mut cases = 0;
-    let mut count = |tally: &Tally| cases = tally.cases;
+    let mut count = |reached: &Reached| cases = reached.cases;
     let difference = run(engines, 5, Limit::Cases(60_000), &mut count);
     let difference = difference
         .err()
@@ -86,7 +86,7 @@ fn is_found_and_shown_again(fault: impl Faulty + Copy + Debug) {
     println!("{fault:?} found after {cases} cases");
     let again = text::read(&difference.to_string()).expect("it can be read");
     assert_eq!(again, difference.case);
-    let seen = try_case(engines, &again, &mut Tally::default());
+    let seen = try_case(engines, &again, &mut Reached::default());
     assert!(seen.is_err(), "{fault:?} not seen again");
 }
 

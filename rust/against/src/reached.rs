@@ -18,7 +18,7 @@ pub const BLOCKED_REFUSALS: [u32; 11] = [1, 2, 3, 4, 5, 6, 7, 8, 9, 24, 26];
 
 /// How often each thing happened.
 #[derive(Clone, Debug, Default, PartialEq, Eq)]
-pub struct Tally {
+pub struct Reached {
     /// Cases in all.
     pub cases: u64,
     /// Cases of each call.
@@ -61,7 +61,7 @@ enum Cover {
     Unknown,
 }
 
-impl Tally {
+impl Reached {
     /// Counts a case and the answer to it.
     pub fn count(&mut self, case: &Case, answer: Answer) {
         self.cases += 1;
@@ -195,7 +195,7 @@ fn beside(book: &[u8], rule: usize, said: impl Fn(&[u8]) -> Option<bool>) -> Cov
     }
 }
 
-impl fmt::Display for Tally {
+impl fmt::Display for Reached {
     fn fmt(&self, f: &mut fmt::Formatter<'_>) -> fmt::Result {
         write!(f, "{} cases:", self.cases)?;
         for (call, n) in &self.calls {
