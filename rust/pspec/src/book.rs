@@ -1,6 +1,7 @@
 //! A book, and the calls that ask it something.
 
 use crate::{raw, Accesses, Blocking, Broken, Idleness, Plan, Refusal, Verdict};
+use crate::{Ledger, Reply, Tally};
 use std::fmt;
 
 /// The bytes of a block.
@@ -87,6 +88,47 @@ impl Book {
         match raw::value(raw::judge(&self.bytes, user, plan.bytes())) {
             Ok(mask) => Verdict::Judged(Broken::new(mask)),
             Err(refusal) => Verdict::Refused(refusal),
+        }
+    }
+
+    /// Admits a user's plan, or declines it: exactly when it breaks a rule together with what the
+    /// ledger holds for the user. An admitted plan's accesses are joined to what the user holds, and
+    /// either is counted in the tally; a refusal changes nothing.
+    ///
+    /// From a fresh ledger and tally, and with one book throughout, each user holds exactly what his
+    /// admitted plans gave him and breaks no rule with it. The engine does not ask which book filled a
+    /// ledger: keep a ledger and its tally with their book.
+    ///
+    /// ```
+    /// use pspec::{Book, Ledger, Plan, Refusal, Reply, Tally};
+    ///
+    /// # let bytes = books::named::small_shop().bytes();
+    /// let book = Book::new(bytes)?; // the small shop
+    /// let state = Plan::new([1, 0, 0, 0, 4, 0, 0, 0]);
+    /// let price = Plan::new([1, 2, 0, 0, 4, 0, 0, 0]);
+    /// let average = Plan::new([1, 2, 0, 0, 2, 1, 0, 255, 4, 1, 0, 0]); // of prices
+    /// let (mut ledger, mut tally) = (Ledger::new(), Tally::new());
+    /// let mut submit = |plan| book.submit(2, plan, &mut ledger, &mut tally);
+    ///
+    /// assert_eq!(submit(&state), Reply::Admitted); // on Monday
+    /// match submit(&price) { // on Tuesday
+    ///     // By itself a price breaks rule 1; beside the state of Monday rule 0 too.
+    ///     Reply::Declined(broken) => assert!(broken.rules().eq([0, 1])),
+    ///     other => panic!("{other:?}"),
+    /// }
+    /// assert!(submit(&average).opens()); // on Wednesday
+    ///
+    /// assert_eq!((tally.admitted(), tally.declined()), (2, 1));
+    /// assert_eq!(ledger.held(2).iter().count(), 2); // the state and the average
+    /// # Ok::<(), Refusal>(())
+    /// ```
+    pub fn submit(&self, user: u32, plan: &Plan, ledger: &mut Ledger, tally: &mut Tally) -> Reply {
+        let (words, counts) = (ledger.words_mut(), tally.counts_mut());
+        let answer = raw::submit(&self.bytes, user, plan.bytes(), words, counts);
+        match raw::value(answer) {
+            Ok(0) => Reply::Admitted,
+            Ok(mask) => Reply::Declined(Broken::new(mask)),
+            Err(refusal) => Reply::Refused(refusal),
         }
     }
 

@@ -11,6 +11,18 @@ use crate::Refusal;
 pub const WORDS: usize = 32;
 /// The bytes that `idle` asks of its buffer.
 pub const BUFFER: usize = 36;
+/// The words of the ledger of `submit`: [`WORDS`] for each user number.
+pub const LEDGER: usize = 1_024;
+
+/// The tally of `submit` as C has it.
+#[repr(C)]
+#[derive(Clone, Copy, Debug, Default, PartialEq, Eq, Hash)]
+pub struct Tally {
+    /// The plans admitted.
+    pub admitted: u32,
+    /// The plans declined.
+    pub declined: u32,
+}
 
 mod c {
     extern "C" {
@@ -39,6 +51,16 @@ mod c {
             buffer_len: usize,
         ) -> u64;
         pub fn pspec_blocked(book: *const u8, book_len: usize, rule: u32) -> u64;
+        pub fn pspec_submit(
+            book: *const u8,
+            book_len: usize,
+            user: u32,
+            plan: *const u8,
+            plan_len: usize,
+            ledger: *mut u64,
+            ledger_len: usize,
+            tally: *mut super::Tally,
+        ) -> u64;
     }
 }
 
@@ -87,6 +109,25 @@ pub fn idle(book: &[u8], rule: u32, buffer: &mut [u8]) -> u64 {
 pub fn blocked(book: &[u8], rule: u32) -> u64 {
     // SAFETY: as above; the call only reads.
     unsafe { c::pspec_blocked(book.as_ptr(), book.len(), rule) }
+}
+
+/// Admits a user's plan or declines it. Value: the mask of the rules that it breaks with what the
+/// ledger holds for the user; 0 where it is admitted.
+pub fn submit(book: &[u8], user: u32, plan: &[u8], ledger: &mut [u64], tally: &mut Tally) -> u64 {
+    let (to, room) = (ledger.as_mut_ptr(), ledger.len());
+    // SAFETY: as above; the tally is laid out as in C, and it and the ledger are lent alone.
+    unsafe {
+        c::pspec_submit(
+            book.as_ptr(),
+            book.len(),
+            user,
+            plan.as_ptr(),
+            plan.len(),
+            to,
+            room,
+            tally,
+        )
+    }
 }
 
 /// The value of an answer, or its refusal.

@@ -94,6 +94,8 @@ refusals! {
     24 NoRule "there is no such rule",
     25 BufferLength "the buffer is under 36 bytes",
     26 RuleForbids "the rule forbids: it has no restriction",
+    27 LedgerLength "the ledger is not 1,024 words",
+    28 CountsFull "the admitted or declined plans, or both together, are already 1,000,000 or more",
 }
 
 impl fmt::Display for Refusal {

@@ -1,7 +1,7 @@
 //! Empty slices, and slices in the middle of other bytes.
 
 use books::named::{opposed_shop, small_shop};
-use pspec::{raw, seal, Book, Plan, Refusal, Verdict};
+use pspec::{raw, seal, Book, Ledger, Plan, Refusal, Reply, Tally, Verdict};
 
 fn refusal(answer: u64) -> Refusal {
     raw::value(answer).expect_err("it is refused")
@@ -19,6 +19,11 @@ fn empty_slices() {
     assert_eq!(refusal(raw::idle(&[], 0, &mut [])), Refusal::BookLength);
     assert_eq!(refusal(raw::idle(&book, 0, &mut [])), Refusal::BufferLength);
     assert_eq!(refusal(raw::blocked(&[], 0)), Refusal::BookLength);
+    let mut tally = raw::Tally::default();
+    let mut submit = |book: &[u8]| raw::submit(book, 1, &[], &mut [], &mut tally);
+    assert_eq!(refusal(submit(&[])), Refusal::BookLength);
+    assert_eq!(refusal(submit(&book)), Refusal::LedgerLength);
+    assert_eq!(tally, raw::Tally::default());
 }
 
 #[test]
@@ -36,6 +41,24 @@ fn nothing_outside_a_buffer_is_written() {
     assert_eq!(value.map(raw::shown), Ok(Some((1, 2))));
     assert_eq!(buffer[5..13], plan);
     assert_eq!((&buffer[..5], &buffer[13..]), (&[7; 5][..], &[7; 37][..]));
+
+    let state = [1, 0, 0, 0, 4, 0, 0, 0];
+    let mut ledger = vec![1 << 63; 1_030];
+    let mut tallies = [raw::Tally {
+        admitted: 7,
+        declined: 7,
+    }; 3];
+    let around = tallies[0];
+    let answer = raw::submit(&book, 2, &state, &mut ledger[4..1_028], &mut tallies[1]);
+    assert_eq!(answer, 0);
+    let mut wanted = vec![1 << 63; 1_030];
+    wanted[4 + 64] |= 1 << 2;
+    assert_eq!(ledger, wanted);
+    let raised = raw::Tally {
+        admitted: 8,
+        declined: 7,
+    };
+    assert_eq!(tallies, [around, raised, around]);
 
     let mut bytes = [0; 520];
     bytes[3] = 4;
@@ -92,6 +115,94 @@ fn refused_users_and_plans_open_nothing() {
     assert_eq!(book.flows(&short), Err(Refusal::PlanLength));
     assert_eq!(short.to_string(), "010200");
     assert_eq!(short.rows().count(), 0);
+}
+
+/// A gate that keeps a ledger and a tally stays shut for a declined and for a refused plan, and a
+/// refusal changes neither.
+#[test]
+fn what_is_not_admitted_opens_nothing() {
+    let book = Book::new(small_shop().with_rules(&[0, 2]).bytes()).expect("it is sound");
+    let [state, price] = [0, 2].map(|column| Plan::new([1, column, 0, 0, 4, 0, 0, 0]));
+    let (mut ledger, mut tally) = (Ledger::new(), Tally::new());
+    let mut submit = |user, plan| {
+        let reply = book.submit(user, plan, &mut ledger, &mut tally);
+        (reply, tally.admitted(), tally.declined())
+    };
+    assert!(book.judge(1, &price).opens());
+    assert_eq!(submit(1, &state), (Reply::Admitted, 1, 0));
+    let (declined, ..) = submit(1, &price);
+    let Reply::Declined(broken) = declined else {
+        panic!("{declined:?}");
+    };
+    assert_eq!(broken.mask(), 0b11);
+    assert_eq!(submit(2, &price), (Reply::Admitted, 2, 1));
+    for (user, plan, refusal) in [
+        (0, &price, Refusal::NoUser),
+        (1, &Plan::new([1, 2, 0]), Refusal::PlanLength),
+        (1, &Plan::new([4, 0, 0, 0]), Refusal::FaultyRow { row: 0 }),
+    ] {
+        let (reply, ..) = submit(user, plan);
+        assert_eq!((reply, reply.opens()), (Reply::Refused(refusal), false));
+    }
+    assert_eq!((tally.admitted(), tally.declined()), (2, 1));
+    let leaves = |user| ledger.held(user).iter().map(|access| access.leaf).collect();
+    let held: Vec<Vec<u8>> = (0..32).map(leaves).collect();
+    assert_eq!((&held[1][..], &held[2][..]), (&[2][..], &[4][..]));
+    assert_eq!(held.concat().len(), 2);
+}
+
+/// Counts at the limit, their sum past 32 bits, and the limit itself.
+#[test]
+fn full_counts() {
+    let book = Book::new(small_shop().bytes()).expect("it is sound");
+    let full = Reply::Refused(Refusal::CountsFull);
+    let empty = Plan::default();
+    for (admitted, declined, reply) in [
+        (999_999, 0, Reply::Admitted),
+        (499_999, 500_000, Reply::Admitted),
+        (500_000, 500_000, full),
+        (0, 1_000_000, full),
+        (u32::MAX, 1, full),
+        (u32::MAX, u32::MAX, full),
+    ] {
+        let bytes = [admitted, declined].map(u32::to_le_bytes).concat();
+        let mut tally = Tally::from_bytes(&bytes).expect("it is 8 bytes");
+        let mut ledger = Ledger::new();
+        assert_eq!(book.submit(1, &empty, &mut ledger, &mut tally), reply);
+        let raised = u32::from(reply.opens());
+        assert_eq!(tally.admitted(), admitted + raised);
+        assert_eq!(tally.declined(), declined);
+        assert_eq!(ledger, Ledger::new());
+    }
+}
+
+/// What is stored comes back, and the low byte comes first.
+#[test]
+fn stored_and_read_again() {
+    let book = Book::new(small_shop().bytes()).expect("it is sound");
+    let state = Plan::new([1, 0, 0, 0, 4, 0, 0, 0]);
+    let (mut ledger, mut tally) = (Ledger::default(), Tally::default());
+    assert!(book.submit(2, &state, &mut ledger, &mut tally).opens());
+    let stored = ledger.to_bytes();
+    let set: Vec<usize> = (0..stored.len()).filter(|&i| stored[i] != 0).collect();
+    assert_eq!((set, stored[8 * 64]), (vec![8 * 64], 1 << 2));
+    assert_eq!(Ledger::from_bytes(&stored), Ok(ledger));
+    assert_eq!(tally.to_bytes(), [1, 0, 0, 0, 0, 0, 0, 0]);
+
+    let bytes: Vec<u8> = (0..Ledger::BYTES).map(|i| (i % 251) as u8).collect();
+    let any = Ledger::from_bytes(&bytes).expect("it is as long");
+    assert_eq!(any.to_bytes(), bytes);
+    assert_eq!(any.held(0).words()[1], 0x0F0E_0D0C_0B0A_0908);
+    assert_eq!(any.held(31).words()[31].to_le_bytes(), bytes[8_184..]);
+    assert!((32..40).all(|user| any.held(user).iter().next().is_none()));
+    assert!(any.held(u32::MAX).iter().next().is_none());
+    let counts = Tally::from_bytes(&bytes[..8]).expect("it is as long");
+    assert_eq!(counts.to_bytes(), bytes[..8]);
+    for length in [0, 1, Ledger::BYTES - 8, Ledger::BYTES - 1] {
+        assert!(Ledger::from_bytes(&bytes[..length]).is_err());
+    }
+    assert!(Ledger::from_bytes(&[&bytes[..], &[0]].concat()).is_err());
+    assert!(Tally::from_bytes(&bytes[..9]).is_err());
 }
 
 /// Every access that `iter` gives is contained, and no other.
