@@ -1,8 +1,9 @@
 //! What an engine answers to a case.
 
 use crate::engine::{unpacked, Engine};
+use books::submissions::Submit;
 use books::Case;
-use second::Refusal;
+use second::{Refusal, Tally};
 use std::fmt;
 
 /// An answer, whatever the call.
@@ -22,12 +23,18 @@ pub enum Answer {
     Open,
     /// Blocked: the user and the association, as they are packed.
     Closed(u32),
+    /// Submit: the plan is admitted.
+    Admitted,
+    /// Submit: the plan is declined, and the mask of broken rules.
+    Declined(u32),
     /// The call is refused.
     Refused(Refusal),
     /// No engine's answer: what Idle may say of a rule that some plan breaks alone.
     NotIdle,
     /// No engine's answer: what Blocked may say of a rule whose data some plan opens.
     NotClosed,
+    /// No engine's answer: what the documents state of every list of submissions.
+    Stated(&'static str),
     /// The engine gave up; nothing can be compared.
     GaveUp,
 }
@@ -42,9 +49,12 @@ impl fmt::Display for Answer {
             Answer::Needed(user, rows) => write!(f, "needed, user {user}, {rows} rows"),
             Answer::Open => write!(f, "open"),
             Answer::Closed(value) => closed(f, *value),
+            Answer::Admitted => write!(f, "admitted"),
+            Answer::Declined(mask) => write!(f, "declined, broken {mask:#x}"),
             Answer::Refused(Refusal { number, place }) => write!(f, "refused {number} at {place}"),
             Answer::NotIdle => write!(f, "not idle, as a user and a plan break it alone"),
             Answer::NotClosed => write!(f, "not closed, as a plan opens it"),
+            Answer::Stated(sentence) => write!(f, "{sentence}"),
             Answer::GaveUp => write!(f, "gave up"),
         }
     }
@@ -80,6 +90,21 @@ pub fn of(engine: &dyn Engine, case: &mut Case) -> Answer {
                 _ => Answer::Closed(value),
             }),
         },
+        Case::Submit(given) => submitted(engine, given),
     };
     answer.unwrap_or_else(Answer::Refused)
+}
+
+fn submitted(engine: &dyn Engine, given: &mut Submit) -> Result<Answer, Refusal> {
+    let mut tally = Tally {
+        admitted: given.admitted,
+        declined: given.declined,
+    };
+    let ledger = &mut given.ledger;
+    let answer = engine.submit(&given.book, given.user, &given.plan, ledger, &mut tally);
+    (given.admitted, given.declined) = (tally.admitted, tally.declined);
+    answer.map(|mask| match mask {
+        0 => Answer::Admitted,
+        _ => Answer::Declined(mask),
+    })
 }

@@ -4,7 +4,7 @@
 use pspec::raw;
 use second::access::Action;
 use second::blocked::Datum;
-use second::{idle, reading, Refusal};
+use second::{idle, reading, Refusal, Tally};
 
 /// What Idle answers: nothing where the engine gave up, else idle (`None`) or a user and rows.
 pub type Idleness = Option<Result<Option<(u32, u32)>, Refusal>>;
@@ -13,7 +13,7 @@ pub type Idleness = Option<Result<Option<(u32, u32)>, Refusal>>;
 /// every bit of it is compared.
 pub type Blocking = Option<Result<u32, Refusal>>;
 
-/// The six calls of an engine.
+/// The seven calls of an engine.
 pub trait Engine {
     /// What it is called in reports.
     fn name(&self) -> &'static str;
@@ -29,6 +29,15 @@ pub trait Engine {
     fn idle(&self, book: &[u8], rule: u32, buffer: &mut [u8]) -> Idleness;
     /// Blocked.
     fn blocked(&self, book: &[u8], rule: u32) -> Blocking;
+    /// Submit.
+    fn submit(
+        &self,
+        book: &[u8],
+        user: u32,
+        plan: &[u8],
+        ledger: &mut [u64],
+        tally: &mut Tally,
+    ) -> Result<u32, Refusal>;
 }
 
 /// The second implementation, with one of its searches.
@@ -81,6 +90,16 @@ impl Engine for Second {
             None => 0,
             Some((user, data)) => packed(user, &data),
         }))
+    }
+    fn submit(
+        &self,
+        book: &[u8],
+        user: u32,
+        plan: &[u8],
+        ledger: &mut [u64],
+        tally: &mut Tally,
+    ) -> Result<u32, Refusal> {
+        second::submit(book, user, plan, ledger, tally)
     }
 }
 
@@ -148,6 +167,22 @@ impl Engine for Proved {
     }
     fn blocked(&self, book: &[u8], rule: u32) -> Blocking {
         Some(value(raw::blocked(book, rule)))
+    }
+    fn submit(
+        &self,
+        book: &[u8],
+        user: u32,
+        plan: &[u8],
+        ledger: &mut [u64],
+        tally: &mut Tally,
+    ) -> Result<u32, Refusal> {
+        let mut counts = raw::Tally {
+            admitted: tally.admitted,
+            declined: tally.declined,
+        };
+        let answer = raw::submit(book, user, plan, ledger, &mut counts);
+        (tally.admitted, tally.declined) = (counts.admitted, counts.declined);
+        value(answer)
     }
 }
 

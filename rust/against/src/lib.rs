@@ -1,4 +1,4 @@
-//! Tries one engine against another on random books: all six calls, answers and buffers.
+//! Tries one engine against another on random books: all seven calls, answers and buffers.
 #![forbid(unsafe_code)]
 #![warn(missing_docs)]
 
@@ -6,6 +6,7 @@ pub mod answer;
 pub mod engine;
 pub mod reached;
 pub mod run;
+pub mod submissions;
 pub mod text;
 
 pub use engine::Engine;

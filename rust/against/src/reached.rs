@@ -11,10 +11,15 @@ use std::collections::BTreeMap;
 use std::fmt;
 
 /// Every refusal number that the calls have.
-pub const REFUSALS: [u32; 17] = [1, 2, 3, 4, 5, 6, 7, 8, 9, 10, 20, 21, 22, 23, 24, 25, 26];
+pub const REFUSALS: [u32; 19] = [
+    1, 2, 3, 4, 5, 6, 7, 8, 9, 10, 20, 21, 22, 23, 24, 25, 26, 27, 28,
+];
 
 /// Those of Blocked: "book refusals, 24, then 26 if the rule forbids".
 pub const BLOCKED_REFUSALS: [u32; 11] = [1, 2, 3, 4, 5, 6, 7, 8, 9, 24, 26];
+
+/// Those of Submit: "Judge's refusals, then 27 [..] then 28".
+pub const SUBMIT_REFUSALS: [u32; 14] = [1, 2, 3, 4, 5, 6, 7, 8, 9, 20, 21, 22, 27, 28];
 
 /// How often each thing happened.
 #[derive(Clone, Debug, Default, PartialEq, Eq)]
@@ -23,10 +28,8 @@ pub struct Reached {
     pub cases: u64,
     /// Cases of each call.
     pub calls: BTreeMap<&'static str, u64>,
-    /// Refusals by number.
-    pub refusals: BTreeMap<u32, u64>,
-    /// Those of Blocked.
-    pub blocked_refusals: BTreeMap<u32, u64>,
+    /// Refusals by call and number.
+    pub refusals: BTreeMap<(&'static str, u32), u64>,
     /// Rules that are not idle.
     pub needed: u64,
     /// Of these, those whose plan has fewer functions than the first in document 01's order.
@@ -49,6 +52,14 @@ pub struct Reached {
     pub closed_by_several: u64,
     /// Judged plans that break some rule.
     pub broken: u64,
+    /// Submitted plans that are admitted.
+    pub admitted: u64,
+    /// Submitted plans that are declined.
+    pub declined: u64,
+    /// Of the declined ones, those that break no rule by themselves.
+    pub declined_for_held: u64,
+    /// Histories of submissions.
+    pub histories: u64,
     /// Searches that were given up.
     pub given_up: u64,
 }
@@ -67,22 +78,20 @@ impl Reached {
         self.cases += 1;
         *self.calls.entry(call(case)).or_default() += 1;
         match answer {
-            Answer::Refused(refusal) => self.count_refusal(case, refusal.number),
+            Answer::Refused(refusal) => {
+                let of = (call(case), refusal.number);
+                *self.refusals.entry(of).or_default() += 1;
+            }
             Answer::Needed(user, rows) => self.count_needed(case, user, rows),
             Answer::Broken(mask) if mask != 0 => self.broken += 1,
             Answer::GaveUp => self.given_up += 1,
             Answer::Idle => self.count_idle(case),
             Answer::Open => self.open += 1,
             Answer::Closed(value) => self.count_closed(case, value),
+            Answer::Admitted => self.admitted += 1,
+            Answer::Declined(_) => self.count_declined(case),
             Answer::Rules(_) | Answer::Done | Answer::Broken(_) => {}
-            Answer::NotIdle | Answer::NotClosed => {}
-        }
-    }
-
-    fn count_refusal(&mut self, case: &Case, number: u32) {
-        *self.refusals.entry(number).or_default() += 1;
-        if let Case::Blocked { .. } = case {
-            *self.blocked_refusals.entry(number).or_default() += 1;
+            Answer::NotIdle | Answer::NotClosed | Answer::Stated(_) => {}
         }
     }
 
@@ -119,10 +128,30 @@ impl Reached {
         }
     }
 
+    fn count_declined(&mut self, case: &Case) {
+        self.declined += 1;
+        if let Case::Submit(given) = case {
+            let alone = second::judge(&given.book, given.user, &given.plan);
+            self.declined_for_held += u64::from(alone == Ok(0));
+        }
+    }
+
+    /// How often a refusal was reached, by any call.
+    fn refused(&self, number: u32) -> u64 {
+        let of_number = self.refusals.iter().filter(|((_, n), _)| *n == number);
+        of_number.map(|(_, times)| times).sum()
+    }
+
     /// The refusals that were not reached.
     pub fn not_reached(&self) -> Vec<u32> {
-        let reached = |number: &u32| self.refusals.contains_key(number);
-        REFUSALS.into_iter().filter(|n| !reached(n)).collect()
+        let missing = |number: &u32| self.refused(*number) == 0;
+        REFUSALS.into_iter().filter(missing).collect()
+    }
+
+    /// The refusals that a call gave.
+    pub fn refusals_of(&self, call: &str) -> Vec<u32> {
+        let of_call = self.refusals.keys().filter(|(of, _)| *of == call);
+        of_call.map(|(_, number)| *number).collect()
     }
 }
 
@@ -134,6 +163,7 @@ fn call(case: &Case) -> &'static str {
         Case::Judge { .. } => "judge",
         Case::Idle { .. } => "idle",
         Case::Blocked { .. } => "blocked",
+        Case::Submit(_) => "submit",
     }
 }
 
@@ -203,8 +233,7 @@ impl fmt::Display for Reached {
         }
         write!(f, "\nrefusals:")?;
         for number in REFUSALS {
-            let n = self.refusals.get(&number).unwrap_or(&0);
-            write!(f, " {number}: {n}")?;
+            write!(f, " {number}: {}", self.refused(number))?;
         }
         writeln!(f, "\nplans that break a rule: {}", self.broken)?;
         write!(
@@ -225,6 +254,12 @@ impl fmt::Display for Reached {
              ({} on their own, {} only by several others)",
             self.open, self.closed_alone, self.closed_by_several
         )?;
-        write!(f, "; {} searches given up", self.given_up)
+        writeln!(f, "; {} searches given up", self.given_up)?;
+        write!(
+            f,
+            "submissions: {} admitted, {} declined ({} that break no rule by themselves), \
+             {} histories",
+            self.admitted, self.declined, self.declined_for_held, self.histories
+        )
     }
 }

@@ -3,7 +3,9 @@
 use crate::answer::{self, Answer};
 use crate::engine::{unpacked, Engine};
 use crate::reached::Reached;
+use crate::submissions::{try_history, try_submission};
 use crate::text;
+use books::submissions::{self, Submit};
 use books::{case, Case, Random};
 use second::access::Access;
 use second::{choice, reading, shown};
@@ -33,14 +35,36 @@ impl fmt::Display for Difference {
         write!(f, "{}", text::write(&self.case))?;
         for (name, answer, after) in &self.sides {
             writeln!(f, "# {name}: {answer}")?;
-            if *after != self.case {
-                let lines = text::write(after);
-                let buffer = lines.lines().last().unwrap_or_default();
-                writeln!(f, "# {name} leaves {buffer}")?;
+            for left in left(&self.case, after) {
+                writeln!(f, "# {name} leaves {left}")?;
             }
         }
         Ok(())
     }
+}
+
+/// What a call changed: the words of a ledger one by one, else the whole buffer.
+fn left(before: &Case, after: &Case) -> Vec<String> {
+    if let (Case::Submit(before), Case::Submit(after)) = (before, after) {
+        return left_of_submit(before, after);
+    }
+    let lines = text::write(after);
+    let buffer = lines.lines().last().filter(|_| before != after);
+    buffer.into_iter().map(str::to_string).collect()
+}
+
+fn left_of_submit(before: &Submit, after: &Submit) -> Vec<String> {
+    let words = before.ledger.iter().zip(&after.ledger).enumerate();
+    let changed = words.filter(|(_, (word, left))| word != left);
+    let mut lines: Vec<String> = changed
+        .map(|(i, (_, left))| format!("word {i} {left:016x}"))
+        .collect();
+    let counts = |of: &Submit| (of.admitted, of.declined);
+    if counts(before) != counts(after) {
+        let (admitted, declined) = counts(after);
+        lines.push(format!("admitted {admitted} declined {declined}"));
+    }
+    lines
 }
 
 /// Both answers to one case, or how they differ. What was given up differs from nothing.
@@ -58,6 +82,9 @@ pub fn compare(engines: [&dyn Engine; 2], case: &Case) -> Result<[Answer; 2], Bo
     let case = case.clone();
     Err(Box::new(Difference { case, sides }))
 }
+
+/// A history comes once in so many rounds, as it has as many cases as ten of them.
+const HISTORIES: usize = 40;
 
 /// Runs random cases until the limit or the first difference. `progress` is told after each round.
 pub fn run(
@@ -78,13 +105,17 @@ pub fn run(
         for case in case::round(&mut random, size) {
             try_case(engines, &case, &mut reached)?;
         }
+        if random.chance(1, HISTORIES) {
+            let history = submissions::history(&mut random, size);
+            try_history(engines, &history, &mut reached)?;
+        }
         progress(&reached);
     }
     Ok(reached)
 }
 
-/// Compares a case. Then what Idle shows is judged, and what Blocked says is closed; and a rule that a
-/// plan breaks alone is asked for.
+/// Compares a case. Then what Idle shows is judged, and what Blocked says is closed; a rule that a plan
+/// breaks alone is asked for; and a submission is gone through by its sentences.
 pub fn try_case(
     engines: [&dyn Engine; 2],
     case: &Case,
@@ -101,12 +132,13 @@ pub fn try_case(
         (Case::Blocked { book, .. }, Answer::Closed(value)) => {
             try_closed(engines, case, book, value)
         }
+        (Case::Submit(given), answer) => try_submission(engines, given, answer),
         _ => Ok(()),
     }
 }
 
 /// Compares and counts one case.
-fn try_one(
+pub(crate) fn try_one(
     engines: [&dyn Engine; 2],
     case: &Case,
     reached: &mut Reached,

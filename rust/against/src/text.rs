@@ -1,5 +1,6 @@
 //! Cases as text, one word and its value a line, bytes in hexadecimal digits.
 
+use books::submissions::Submit;
 use books::Case;
 use std::collections::BTreeMap;
 
@@ -9,12 +10,8 @@ pub fn write(case: &Case) -> String {
         Case::Check { book } => ("check", vec![("book", hex(book))]),
         Case::Seal { block } => ("seal", vec![("block", hex(block))]),
         Case::Flows { book, plan, words } => {
-            let words: Vec<u8> = words.iter().flat_map(|w| w.to_be_bytes()).collect();
-            let fields = vec![
-                ("book", hex(book)),
-                ("plan", hex(plan)),
-                ("words", hex(&words)),
-            ];
+            let words = hex_words(words);
+            let fields = vec![("book", hex(book)), ("plan", hex(plan)), ("words", words)];
             ("flows", fields)
         }
         Case::Judge { book, user, plan } => {
@@ -31,12 +28,24 @@ pub fn write(case: &Case) -> String {
             let fields = vec![("book", hex(book)), ("rule", rule.to_string())];
             ("blocked", fields)
         }
+        Case::Submit(given) => ("submit", submit_fields(given)),
     };
     let mut text = format!("call {call}\n");
     for (name, value) in fields {
         text.push_str(&format!("{name} {value}\n"));
     }
     text
+}
+
+fn submit_fields(given: &Submit) -> Vec<(&'static str, String)> {
+    vec![
+        ("book", hex(&given.book)),
+        ("user", given.user.to_string()),
+        ("plan", hex(&given.plan)),
+        ("ledger", hex_words(&given.ledger)),
+        ("admitted", given.admitted.to_string()),
+        ("declined", given.declined.to_string()),
+    ]
 }
 
 /// Reads a case. Lines that start with '#' are remarks.
@@ -75,6 +84,14 @@ pub fn read(text: &str) -> Result<Case, String> {
             book: bytes("book")?,
             rule: number("rule")?,
         }),
+        "submit" => Ok(Case::Submit(Submit {
+            book: bytes("book")?,
+            user: number("user")?,
+            plan: bytes("plan")?,
+            ledger: words(&bytes("ledger")?)?,
+            admitted: number("admitted")?,
+            declined: number("declined")?,
+        })),
         other => Err(format!("no call {other}")),
     }
 }
@@ -83,6 +100,10 @@ fn words(bytes: &[u8]) -> Result<Vec<u64>, String> {
     let word = |bytes: &[u8]| Some(u64::from_be_bytes(bytes.try_into().ok()?));
     let words: Option<Vec<u64>> = bytes.chunks(8).map(word).collect();
     words.ok_or("a word is cut".to_string())
+}
+
+fn hex_words(words: &[u64]) -> String {
+    words.iter().map(|word| format!("{word:016x}")).collect()
 }
 
 /// Two lower-case digits a byte.
@@ -128,6 +149,12 @@ mod tests {
         assert!(read("call check\nbook 0").is_err());
         assert!(read("call check\nbook 0g").is_err());
         assert!(read("call flows\nbook\nplan\nwords 00").is_err());
+        let submit = |declined| {
+            let fields = "book\nuser 1\nplan\nledger\nadmitted 4294967295";
+            read(&format!("call submit\n{fields}\ndeclined {declined}"))
+        };
+        assert!(submit("4294967295").is_ok());
+        assert!(submit("4294967296").is_err() && submit("-1").is_err());
     }
 
     #[test]

@@ -1,7 +1,7 @@
 //! A fixed seed: no difference, and everything reached.
 
 use against::engine::{by_name, USUAL};
-use against::reached::BLOCKED_REFUSALS;
+use against::reached::{BLOCKED_REFUSALS, SUBMIT_REFUSALS};
 use against::{run, Limit};
 
 #[test]
@@ -9,9 +9,9 @@ fn no_difference_and_everything_reached() {
     let engines = USUAL.map(|name| by_name(name).expect("it is there"));
     let engines = [engines[0].as_ref(), engines[1].as_ref()];
     let cases = if cfg!(debug_assertions) {
-        3_000
+        4_000
     } else {
-        60_000
+        85_000
     };
     let reached = match run(engines, 20_240_501, Limit::Cases(cases), &mut |_| ()) {
         Ok(reached) => reached,
@@ -31,11 +31,15 @@ fn no_difference_and_everything_reached() {
         reached.closed[2],
         reached.closed_alone,
         reached.closed_by_several,
+        reached.admitted,
+        reached.declined,
+        reached.declined_for_held,
+        reached.histories,
     ];
     assert!(often.iter().all(|&n| n >= 5), "{reached}");
     assert!(reached.fewer_functions * 100 > reached.needed, "{reached}");
-    let refused: Vec<u32> = reached.blocked_refusals.keys().copied().collect();
-    assert_eq!(refused, BLOCKED_REFUSALS, "{reached}");
+    assert_eq!(reached.refusals_of("blocked"), BLOCKED_REFUSALS);
+    assert_eq!(reached.refusals_of("submit"), SUBMIT_REFUSALS);
     let closed: u64 = reached.closed.iter().sum();
     let searched = reached.idle + reached.needed + reached.open + closed;
     assert!(reached.given_up * 5 < searched, "{reached}");

@@ -4,6 +4,7 @@ use crate::change;
 use crate::draft::{leaves, Draft, BLOCK};
 use crate::plans;
 use crate::random::Random;
+use crate::submissions::{self, Submit};
 use crate::valid::{self, Size};
 
 /// One call.
@@ -53,9 +54,11 @@ pub enum Case {
         /// The rule's number.
         rule: u32,
     },
+    /// Submit.
+    Submit(Submit),
 }
 
-/// The calls of one round: one book of the given size, sound or changed, and all six calls.
+/// The calls of one round: one book of the given size, sound or changed, and all seven calls.
 pub fn round(random: &mut Random, size: Size) -> Vec<Case> {
     let draft = valid::draft(random, size);
     let book = book(random, &draft);
@@ -69,6 +72,7 @@ pub fn round(random: &mut Random, size: Size) -> Vec<Case> {
         cases.push(flows(random, &draft, &book));
         cases.push(judge(random, &draft, &book));
         cases.push(judge(random, &draft, &book));
+        cases.push(Case::Submit(submissions::single(random, &draft, &book)));
     }
     let rules = draft.rules.len().min(4);
     for _ in 0..rules.max(1) {
@@ -125,7 +129,8 @@ fn block(random: &mut Random, book: &[u8]) -> Vec<u8> {
     }
 }
 
-fn plan(random: &mut Random, draft: &Draft) -> Vec<u8> {
+/// A plan for the book, two times in three sound.
+pub(crate) fn plan(random: &mut Random, draft: &Draft) -> Vec<u8> {
     match random.below(3) {
         0 => plans::damaged(random, draft),
         _ => plans::sound(random, draft),
@@ -144,15 +149,19 @@ fn flows(random: &mut Random, draft: &Draft, book: &[u8]) -> Case {
     }
 }
 
-fn judge(random: &mut Random, draft: &Draft, book: &[u8]) -> Case {
-    let user = match random.below(8) {
+/// A user's number: mostly a leaf's, else any category's or none's.
+pub(crate) fn user(random: &mut Random, draft: &Draft) -> u32 {
+    match random.below(8) {
         0 => out_of_range(random, draft.users.len()),
         1 => random.below(draft.users.len()) as u32,
         _ => u32::from(random.one(&leaves(&draft.users))),
-    };
+    }
+}
+
+fn judge(random: &mut Random, draft: &Draft, book: &[u8]) -> Case {
     Case::Judge {
         book: book.to_vec(),
-        user,
+        user: user(random, draft),
         plan: plan(random, draft),
     }
 }

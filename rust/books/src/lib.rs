@@ -21,6 +21,7 @@ pub mod plans;
 pub mod random;
 pub mod relatives;
 pub mod shop;
+pub mod submissions;
 pub mod valid;
 
 pub use case::Case;

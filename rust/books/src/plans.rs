@@ -47,6 +47,15 @@ pub fn full(random: &mut Random, draft: &Draft) -> Vec<u8> {
     plan.rows.concat()
 }
 
+/// A sound plan of one to three columns, each with its functions and an output or a condition.
+pub fn few(random: &mut Random, draft: &Draft) -> Vec<u8> {
+    let mut plan = Plan::default();
+    let columns = random.between(1, 3).min(draft.columns.len());
+    (0..columns).for_each(|_| plan.add_shown(random, draft));
+    plan.rows.truncate(64);
+    plan.rows.concat()
+}
+
 #[derive(Default)]
 struct Plan {
     rows: Vec<[u8; 4]>,
@@ -125,7 +134,7 @@ impl Plan {
 }
 
 /// The functions whose operation a label supports.
-fn supported_functions(draft: &Draft, label: u8) -> Vec<u8> {
+pub(crate) fn supported_functions(draft: &Draft, label: u8) -> Vec<u8> {
     let supported = match label {
         255 => 0,
         leaf => draft.supported(leaf),

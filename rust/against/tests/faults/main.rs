@@ -4,18 +4,19 @@
 mod base;
 mod blocked;
 mod order;
+mod submit;
 
 use against::engine::{Blocking, Idleness, Search, Second, STEPS};
 use against::run::try_case;
-use against::{run, text, Engine, Limit, Reached};
-use second::Refusal;
+use against::{run, text, Difference, Engine, Limit, Reached};
+use second::{Refusal, Tally};
 use std::fmt::Debug;
 
 const GOOD: Second = Second {
     search: Search::Skipping(STEPS),
 };
 
-/// The six calls of a faulty engine: those that it does not get wrong are the good one's.
+/// The seven calls of a faulty engine: those that it does not get wrong are the good one's.
 trait Faulty {
     fn check(&self, book: &[u8]) -> Result<u32, Refusal> {
         GOOD.check(book)
@@ -39,6 +40,17 @@ trait Faulty {
 
     fn blocked(&self, book: &[u8], rule: u32) -> Blocking {
         GOOD.blocked(book, rule)
+    }
+
+    fn submit(
+        &self,
+        book: &[u8],
+        user: u32,
+        plan: &[u8],
+        ledger: &mut [u64],
+        tally: &mut Tally,
+    ) -> Result<u32, Refusal> {
+        GOOD.submit(book, user, plan, ledger, tally)
     }
 }
 
@@ -73,21 +85,36 @@ impl<F: Faulty> Engine for FaultyEngine<F> {
     fn blocked(&self, book: &[u8], rule: u32) -> Blocking {
         self.0.blocked(book, rule)
     }
+
+    fn submit(
+        &self,
+        book: &[u8],
+        user: u32,
+        plan: &[u8],
+        ledger: &mut [u64],
+        tally: &mut Tally,
+    ) -> Result<u32, Refusal> {
+        self.0.submit(book, user, plan, ledger, tally)
+    }
 }
 
 fn is_found_and_shown_again(fault: impl Faulty + Copy + Debug) {
     let engines: [&dyn Engine; 2] = [&FaultyEngine(fault), &GOOD];
     let mut cases = 0;
     let mut count = |reached: &Reached| cases = reached.cases;
-    let difference = run(engines, 5, Limit::Cases(60_000), &mut count);
+    let difference = run(engines, 5, Limit::Cases(85_000), &mut count);
     let difference = difference
         .err()
         .unwrap_or_else(|| panic!("{fault:?} not found"));
     println!("{fault:?} found after {cases} cases");
+    assert_shown_again(engines, &difference);
+}
+
+fn assert_shown_again(engines: [&dyn Engine; 2], difference: &Difference) {
     let again = text::read(&difference.to_string()).expect("it can be read");
     assert_eq!(again, difference.case);
     let seen = try_case(engines, &again, &mut Reached::default());
-    assert!(seen.is_err(), "{fault:?} not seen again");
+    assert!(seen.is_err(), "not seen again:\n{difference}");
 }
 
 #[test]
@@ -105,4 +132,17 @@ fn each_fault_of_blocked_is_found_and_shown_again() {
 #[test]
 fn each_fault_of_the_order_is_found_and_shown_again() {
     order::FAULTS.into_iter().for_each(is_found_and_shown_again);
+}
+
+#[test]
+fn each_fault_of_submit_is_found_and_shown_again() {
+    let faults = submit::AGAINST_LISTS.into_iter().chain(submit::OTHERS);
+    faults.for_each(is_found_and_shown_again);
+}
+
+#[test]
+fn what_is_stated_of_lists_finds_faults_alone() {
+    submit::AGAINST_LISTS
+        .into_iter()
+        .for_each(submit::is_found_by_the_lists);
 }
