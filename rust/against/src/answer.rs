@@ -1,9 +1,8 @@
 //! What an engine answers to a case.
 
 use crate::engine::{unpacked, Engine};
-use books::submissions::Submit;
 use books::Case;
-use second::{Refusal, Tally};
+use second::Refusal;
 use std::fmt;
 
 /// An answer, whatever the call.
@@ -90,21 +89,10 @@ pub fn of(engine: &dyn Engine, case: &mut Case) -> Answer {
                 _ => Answer::Closed(value),
             }),
         },
-        Case::Submit(given) => submitted(engine, given),
+        Case::Submit(given) => engine.submit(given).map(|mask| match mask {
+            0 => Answer::Admitted,
+            _ => Answer::Declined(mask),
+        }),
     };
     answer.unwrap_or_else(Answer::Refused)
-}
-
-fn submitted(engine: &dyn Engine, given: &mut Submit) -> Result<Answer, Refusal> {
-    let mut tally = Tally {
-        admitted: given.admitted,
-        declined: given.declined,
-    };
-    let ledger = &mut given.ledger;
-    let answer = engine.submit(&given.book, given.user, &given.plan, ledger, &mut tally);
-    (given.admitted, given.declined) = (tally.admitted, tally.declined);
-    answer.map(|mask| match mask {
-        0 => Answer::Admitted,
-        _ => Answer::Declined(mask),
-    })
 }

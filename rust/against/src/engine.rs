@@ -1,5 +1,6 @@
 //! The engines that can be tried.
 
+use books::submissions::Submit;
 #[cfg(feature = "engine")]
 use pspec::raw;
 use second::access::Action;
@@ -29,15 +30,8 @@ pub trait Engine {
     fn idle(&self, book: &[u8], rule: u32, buffer: &mut [u8]) -> Idleness;
     /// Blocked.
     fn blocked(&self, book: &[u8], rule: u32) -> Blocking;
-    /// Submit.
-    fn submit(
-        &self,
-        book: &[u8],
-        user: u32,
-        plan: &[u8],
-        ledger: &mut [u64],
-        tally: &mut Tally,
-    ) -> Result<u32, Refusal>;
+    /// Submit: the ledger and the counts are changed as the call changes them.
+    fn submit(&self, given: &mut Submit) -> Result<u32, Refusal>;
 }
 
 /// The second implementation, with one of its searches.
@@ -91,15 +85,15 @@ impl Engine for Second {
             Some((user, data)) => packed(user, &data),
         }))
     }
-    fn submit(
-        &self,
-        book: &[u8],
-        user: u32,
-        plan: &[u8],
-        ledger: &mut [u64],
-        tally: &mut Tally,
-    ) -> Result<u32, Refusal> {
-        second::submit(book, user, plan, ledger, tally)
+    fn submit(&self, given: &mut Submit) -> Result<u32, Refusal> {
+        let mut tally = Tally {
+            admitted: given.admitted,
+            declined: given.declined,
+        };
+        let ledger = &mut given.ledger;
+        let answer = second::submit(&given.book, given.user, &given.plan, ledger, &mut tally);
+        (given.admitted, given.declined) = (tally.admitted, tally.declined);
+        answer
     }
 }
 
@@ -168,20 +162,14 @@ impl Engine for Proved {
     fn blocked(&self, book: &[u8], rule: u32) -> Blocking {
         Some(value(raw::blocked(book, rule)))
     }
-    fn submit(
-        &self,
-        book: &[u8],
-        user: u32,
-        plan: &[u8],
-        ledger: &mut [u64],
-        tally: &mut Tally,
-    ) -> Result<u32, Refusal> {
-        let mut counts = raw::Tally {
-            admitted: tally.admitted,
-            declined: tally.declined,
+    fn submit(&self, given: &mut Submit) -> Result<u32, Refusal> {
+        let mut tally = raw::Tally {
+            admitted: given.admitted,
+            declined: given.declined,
         };
-        let answer = raw::submit(book, user, plan, ledger, &mut counts);
-        (tally.admitted, tally.declined) = (counts.admitted, counts.declined);
+        let ledger = &mut given.ledger;
+        let answer = raw::submit(&given.book, given.user, &given.plan, ledger, &mut tally);
+        (given.admitted, given.declined) = (tally.admitted, tally.declined);
         value(answer)
     }
 }

@@ -60,6 +60,8 @@ pub struct Reached {
     pub declined_for_held: u64,
     /// Histories of submissions.
     pub histories: u64,
+    /// Of these, those in which plans are admitted, declined and refused.
+    pub mixed_histories: u64,
     /// Searches that were given up.
     pub given_up: u64,
 }
@@ -258,8 +260,12 @@ impl fmt::Display for Reached {
         write!(
             f,
             "submissions: {} admitted, {} declined ({} that break no rule by themselves), \
-             {} histories",
-            self.admitted, self.declined, self.declined_for_held, self.histories
+             {} histories ({} with plans admitted, declined and refused)",
+            self.admitted,
+            self.declined,
+            self.declined_for_held,
+            self.histories,
+            self.mixed_histories
         )
     }
 }

@@ -1,7 +1,7 @@
 //! Submissions beyond the comparison: one by its sentences, and lists by what is stated of all lists
 //! (document 02, N3).
 
-use crate::answer::{self, Answer};
+use crate::answer::Answer;
 use crate::engine::Engine;
 use crate::reached::Reached;
 use crate::run::{try_one, Difference};
@@ -47,12 +47,10 @@ fn differ(given: &Submit, sides: [(&'static str, Answer, Submit); 2]) -> Box<Dif
 
 /// What the engine leaves.
 fn left(engine: &dyn Engine, given: &Submit) -> Submit {
-    let mut case = Case::Submit(given.clone());
-    answer::of(engine, &mut case);
-    match case {
-        Case::Submit(after) => after,
-        _ => given.clone(),
-    }
+    let mut after = given.clone();
+    // Its answer was compared before.
+    let _ = engine.submit(&mut after);
+    after
 }
 
 /// Goes through one submission by its sentences.
@@ -135,7 +133,10 @@ pub fn try_history(
         }
         kept = after;
     }
+    let all = history.submissions.len() as u64;
+    let mixed = kept.admitted > 0 && kept.declined > 0 && said.answered < all;
     reached.histories += 1;
+    reached.mixed_histories += u64::from(mixed);
     Ok(())
 }
 

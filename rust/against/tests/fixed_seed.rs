@@ -34,7 +34,7 @@ fn no_difference_and_everything_reached() {
         reached.admitted,
         reached.declined,
         reached.declined_for_held,
-        reached.histories,
+        reached.mixed_histories,
     ];
     assert!(often.iter().all(|&n| n >= 5), "{reached}");
     assert!(reached.fewer_functions * 100 > reached.needed, "{reached}");

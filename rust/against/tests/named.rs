@@ -6,6 +6,7 @@ use against::engine::packed;
 use against::engine::{by_name, USUAL};
 use against::run::compare;
 use books::blocked::{hard, Found};
+use books::submissions::{Submit, LEDGER};
 use books::{named, plans, Case, Draft, Random};
 use second::access::Action;
 use second::blocked::Datum;
@@ -25,8 +26,24 @@ fn cases(draft: &Draft) -> Vec<Case> {
         cases.push(Case::Judge {
             book: book.clone(),
             user,
-            plan,
+            plan: plan.clone(),
         });
+        // Nothing is held, or every access, or those by one operation.
+        let one_operation = |i: usize| if i % 16 == 3 { u64::MAX } else { 0 };
+        for ledger in [
+            vec![0; LEDGER],
+            vec![u64::MAX; LEDGER],
+            (0..LEDGER).map(one_operation).collect(),
+        ] {
+            cases.push(Case::Submit(Submit {
+                book: book.clone(),
+                user,
+                plan: plan.clone(),
+                ledger,
+                admitted: 5,
+                declined: 7,
+            }));
+        }
     }
     cases
 }

@@ -32,6 +32,14 @@ mod with_engine {
         Some(best(|| raw::judge(book, user, black_box(plan))))
     }
 
+    pub fn submit(book: &[u8], user: u32, plan: &[u8], ledger: &mut [u64]) -> Option<Duration> {
+        let mut submit = || {
+            let tally = &mut raw::Tally::default();
+            raw::submit(book, user, black_box(plan), ledger, tally)
+        };
+        Some(best(&mut submit))
+    }
+
     pub fn idle(book: &[u8], rules: Range<u32>) -> Option<Duration> {
         let search = |rule: u32| raw::idle(black_box(book), rule, &mut [0; raw::BUFFER]);
         let answered = |rule: u32| raw::value(search(rule)).is_ok();
@@ -56,6 +64,12 @@ mod with_engine {
 
     pub fn judge_once(book: &[u8], user: u32, plan: &[u8]) {
         black_box(raw::judge(book, user, black_box(plan)));
+    }
+
+    pub fn submit_once(book: &[u8], user: u32, plan: &[u8]) {
+        let mut ledger = vec![0; raw::LEDGER];
+        let tally = &mut raw::Tally::default();
+        black_box(raw::submit(book, user, black_box(plan), &mut ledger, tally));
     }
 
     pub fn idle_once(book: &[u8], rule: u32) {
@@ -87,6 +101,10 @@ mod without {
         None
     }
 
+    pub fn submit(_: &[u8], _: u32, _: &[u8], _: &mut [u64]) -> Option<Duration> {
+        None
+    }
+
     pub fn idle(_: &[u8], _: Range<u32>) -> Option<Duration> {
         None
     }
@@ -100,6 +118,8 @@ mod without {
     pub fn flows_once(_: &[u8], _: &[u8]) {}
 
     pub fn judge_once(_: &[u8], _: u32, _: &[u8]) {}
+
+    pub fn submit_once(_: &[u8], _: u32, _: &[u8]) {}
 
     pub fn idle_once(_: &[u8], _: u32) {}
 

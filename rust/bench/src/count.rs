@@ -13,12 +13,13 @@ pub struct Counted {
 }
 
 /// The plain loop over the sums comes first: the others are given as its multiples.
-pub const CALLS: [Counted; 7] = [
+pub const CALLS: [Counted; 8] = [
     counted("sums", "*check_sums*", 0),
     counted("check", "pspec_check", 0),
     counted("flows, 64 rows", "pspec_flows", 64),
     counted("judge, 8 rows", "pspec_judge", 8),
     counted("judge, 64 rows", "pspec_judge", 64),
+    counted("submit, 64 rows", "pspec_submit", 64),
     counted("idle", "pspec_idle", 0),
     counted("blocked", "pspec_blocked", 0),
 ];
@@ -63,6 +64,7 @@ pub fn once(name: &str, input: &Input) {
         "pspec_check" => calls::check_once(&input.book),
         "pspec_flows" => calls::flows_once(&input.book, plan),
         "pspec_judge" => calls::judge_once(&input.book, input.user, plan),
+        "pspec_submit" => calls::submit_once(&input.book, input.user, plan),
         "pspec_idle" => calls::idle_once(&input.book, input.rules.start),
         "pspec_blocked" => calls::blocked_once(&input.book, input.rules.start),
         _ => {

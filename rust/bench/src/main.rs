@@ -10,9 +10,10 @@ mod count;
 mod stack;
 mod table;
 
+use books::submissions::LEDGER;
 use books::{named, plans, Draft, Random};
 use clock::best;
-use second::reading;
+use second::{reading, Tally};
 use std::hint::black_box;
 use std::ops::Range;
 use std::time::Duration;
@@ -155,6 +156,7 @@ fn times() {
             seal(&input);
             flows(&input);
             judge(&input);
+            submit(&input);
         }
         // A book that is hard for Idle is so for one rule.
         if book.calls.has("idle") {
@@ -257,6 +259,25 @@ fn judge(input: &Input) {
         second: Some(best(|| second::judge(book, input.user, black_box(plan)))),
         ..input.line("judge, 64 rows")
     });
+}
+
+/// To a fresh ledger, and to one in which the user holds every access, so that most is judged. The
+/// tally is fresh each time, as it would be full soon.
+fn submit(input: &Input) {
+    let (book, user, plan) = (&input.book, input.user, &input.plan);
+    for (held, word) in [("fresh", 0), ("full", u64::MAX)] {
+        let mut ledger = vec![word; LEDGER];
+        let engine = calls::submit(book, user, plan, &mut ledger.clone());
+        let mut submit = || {
+            let tally = &mut Tally::default();
+            second::submit(book, user, black_box(plan), &mut ledger, tally)
+        };
+        table::row(&Line {
+            engine,
+            second: Some(best(&mut submit)),
+            ..input.line(format!("submit, {held} ledger"))
+        });
+    }
 }
 
 fn idle(input: &Input) {

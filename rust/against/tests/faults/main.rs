@@ -9,7 +9,8 @@ mod submit;
 use against::engine::{Blocking, Idleness, Search, Second, STEPS};
 use against::run::try_case;
 use against::{run, text, Difference, Engine, Limit, Reached};
-use second::{Refusal, Tally};
+use books::submissions::Submit;
+use second::Refusal;
 use std::fmt::Debug;
 
 const GOOD: Second = Second {
@@ -42,15 +43,8 @@ trait Faulty {
         GOOD.blocked(book, rule)
     }
 
-    fn submit(
-        &self,
-        book: &[u8],
-        user: u32,
-        plan: &[u8],
-        ledger: &mut [u64],
-        tally: &mut Tally,
-    ) -> Result<u32, Refusal> {
-        GOOD.submit(book, user, plan, ledger, tally)
+    fn submit(&self, given: &mut Submit) -> Result<u32, Refusal> {
+        GOOD.submit(given)
     }
 }
 
@@ -86,15 +80,8 @@ impl<F: Faulty> Engine for FaultyEngine<F> {
         self.0.blocked(book, rule)
     }
 
-    fn submit(
-        &self,
-        book: &[u8],
-        user: u32,
-        plan: &[u8],
-        ledger: &mut [u64],
-        tally: &mut Tally,
-    ) -> Result<u32, Refusal> {
-        self.0.submit(book, user, plan, ledger, tally)
+    fn submit(&self, given: &mut Submit) -> Result<u32, Refusal> {
+        self.0.submit(given)
     }
 }
 

@@ -3,7 +3,7 @@
 use crate::{assert_shown_again, Faulty, FaultyEngine, GOOD};
 use against::submissions::try_history;
 use against::{Engine, Reached};
-use books::submissions::{history, LEDGER};
+use books::submissions::{history, Submit, LEDGER};
 use books::{case, Random};
 use second::ledger::{accesses, of_user, write, WORDS_OF_A_USER};
 use second::{reading, Refusal, Tally};
@@ -70,97 +70,52 @@ pub const OTHERS: [Fault; 13] = [
     Fault::CutsUserToAByte,
 ];
 
-/// What a call only reads.
-#[derive(Clone, Copy)]
-struct Call<'a> {
-    book: &'a [u8],
-    user: u32,
-    plan: &'a [u8],
-}
-
-impl Call<'_> {
-    fn submit(self, ledger: &mut [u64], tally: &mut Tally) -> Result<u32, Refusal> {
-        GOOD.submit(self.book, self.user, self.plan, ledger, tally)
-    }
-
-    /// The mask of the plan joined with what a ledger holds.
-    fn mask(self, mut ledger: Vec<u64>) -> u32 {
-        let answer = self.submit(&mut ledger, &mut Tally::default());
-        answer.expect("it is not refused")
-    }
-
-    /// Joins the plan to a user's words.
-    fn join(self, ledger: &mut [u64], user: usize) {
-        let mut words = [0; WORDS_OF_A_USER];
-        let answer = GOOD.flows(self.book, self.plan, &mut words);
-        answer.expect("it is not refused");
-        let held = of_user(ledger, user).iter_mut().zip(words);
-        held.for_each(|(word, more)| *word |= more);
-    }
-
-    /// Takes from the user's words what can't be had with the book.
-    fn drop_others(self, ledger: &mut [u64]) {
-        let book = reading::read(self.book).expect("it is accepted");
-        let held = of_user(ledger, self.user as usize);
-        write(&(&accesses(held) & &book.obtainable()), held);
-    }
-}
-
 impl Faulty for Fault {
-    fn submit(
-        &self,
-        book: &[u8],
-        user: u32,
-        plan: &[u8],
-        ledger: &mut [u64],
-        tally: &mut Tally,
-    ) -> Result<u32, Refusal> {
-        let call = Call { book, user, plan };
-        match call.submit(&mut ledger.to_vec(), &mut tally.clone()) {
-            Err(refusal) => self.refused(call, refusal, ledger, tally),
-            Ok(mask) => Ok(self.answered(call, mask, ledger, tally)),
+    fn submit(&self, given: &mut Submit) -> Result<u32, Refusal> {
+        match GOOD.submit(&mut given.clone()) {
+            Err(refusal) => self.refused(given, refusal),
+            Ok(mask) => Ok(self.answered(given, mask)),
         }
     }
 }
 
 impl Fault {
     /// Where the good one refuses.
-    fn refused(
-        &self,
-        call: Call,
-        refusal: Refusal,
-        ledger: &mut [u64],
-        tally: &mut Tally,
-    ) -> Result<u32, Refusal> {
+    fn refused(&self, given: &mut Submit, refusal: Refusal) -> Result<u32, Refusal> {
+        let length = given.ledger.len();
         match (self, refusal.number) {
             (Fault::CutsUserToAByte, 20) => {
-                let user = call.user % 256;
-                return Call { user, ..call }.submit(ledger, tally);
+                let user = given.user;
+                given.user %= 256;
+                let answer = GOOD.submit(given);
+                given.user = user;
+                return answer;
             }
-            (Fault::TakesALongerLedger, 27) if ledger.len() > LEDGER => {
-                return call.submit(&mut ledger[..LEDGER], tally);
+            (Fault::TakesALongerLedger, 27) if length > LEDGER => {
+                let rest = given.ledger.split_off(LEDGER);
+                let answer = GOOD.submit(given);
+                given.ledger.extend(rest);
+                return answer;
             }
-            (Fault::LengthBeforePlan, 21 | 22) if ledger.len() != LEDGER => {
-                return Err(Refusal::of(27));
+            (Fault::LengthBeforePlan, 21 | 22) if length != LEDGER => return Err(Refusal::of(27)),
+            (Fault::CountsBeforeLength, 27) if counts(given).is_full() => {
+                return Err(Refusal::of(28));
             }
-            (Fault::CountsBeforeLength, 27) if tally.is_full() => return Err(Refusal::of(28)),
-            (_, 28) if self.passes(call, ledger, *tally) => {
-                return Ok(past_the_limit(call, ledger, tally));
-            }
+            (_, 28) if self.passes(given) => return Ok(past_the_limit(given)),
             (Fault::CountsRefusalsAsDeclined, _) => {
-                tally.declined = tally.declined.saturating_add(1);
+                given.declined = given.declined.saturating_add(1);
             }
-            (Fault::RefusalClearsTheTally, _) => *tally = Tally::default(),
+            (Fault::RefusalClearsTheTally, _) => (given.admitted, given.declined) = (0, 0),
             _ => {}
         }
         Err(refusal)
     }
 
-    /// Does the fault take these counts?
-    fn passes(&self, call: Call, ledger: &[u64], tally: Tally) -> bool {
-        let Tally { admitted, declined } = tally;
+    /// Does the fault take counts that the good one refuses?
+    fn passes(&self, given: &Submit) -> bool {
+        let Tally { admitted, declined } = counts(given);
         match self {
-            Fault::TestsCountsAfterJudging => call.mask(ledger.to_vec()) != 0,
+            Fault::TestsCountsAfterJudging => mask(given, &given.ledger) != 0,
             Fault::SumWraps => admitted.wrapping_add(declined) < 1_000_000,
             Fault::NoSum => admitted.max(declined) < 1_000_000,
             Fault::LimitIsOneHigher => u64::from(admitted) + u64::from(declined) == 1_000_000,
@@ -169,66 +124,116 @@ impl Fault {
     }
 
     /// Where the good one does not refuse.
-    fn answered(&self, call: Call, mask: u32, ledger: &mut [u64], tally: &mut Tally) -> u32 {
-        let before = ledger.to_vec();
-        let mask = match self {
-            Fault::JudgesThePlanAlone => call.mask(vec![0; LEDGER]),
-            Fault::JudgesWhatIsHeldAlone => Call { plan: &[], ..call }.mask(before.clone()),
-            Fault::JudgesConditionsAsProjections => call.mask(as_projections(&before)),
-            Fault::JudgesWhatCanBeHadAlone => {
-                let mut fewer = before.clone();
-                call.drop_others(&mut fewer);
-                call.mask(fewer)
+    fn answered(&self, given: &mut Submit, right: u32) -> u32 {
+        let plans_mask = mask(given, &[0; LEDGER]);
+        let judged = match self {
+            Fault::JudgesThePlanAlone => plans_mask,
+            Fault::JudgesWhatIsHeldAlone => {
+                let plan = vec![];
+                mask(
+                    &Submit {
+                        plan,
+                        ..given.clone()
+                    },
+                    &given.ledger,
+                )
             }
-            _ => mask,
+            Fault::JudgesConditionsAsProjections => mask(given, &as_projections(&given.ledger)),
+            Fault::JudgesWhatCanBeHadAlone => {
+                let mut fewer = given.clone();
+                drop_others(&mut fewer);
+                mask(given, &fewer.ledger)
+            }
+            _ => right,
         };
-        match mask {
-            0 => self.admit(call, ledger, tally),
-            _ => self.decline(call, ledger, tally),
+        match judged {
+            0 => self.admit(given),
+            _ => self.decline(given),
         }
         match self {
-            Fault::ClearsTheNextUser => of_user(ledger, (call.user as usize + 1) % 32).fill(0),
-            Fault::GivesThePlansMask if mask != 0 => return call.mask(vec![0; LEDGER]).max(1),
+            Fault::ClearsTheNextUser => {
+                of_user(&mut given.ledger, (given.user as usize + 1) % 32).fill(0);
+            }
+            Fault::GivesThePlansMask if judged != 0 => return plans_mask.max(1),
             _ => {}
         }
-        mask
+        judged
     }
 
-    fn admit(&self, call: Call, ledger: &mut [u64], tally: &mut Tally) {
-        let user = call.user as usize;
+    fn admit(&self, given: &mut Submit) {
+        let user = given.user as usize;
         match self {
             Fault::ForgetsAdmittedPlans => {}
-            Fault::HoldsForUserZero => call.join(ledger, 0),
-            Fault::JoinsToEveryUser => (0..32).for_each(|any| call.join(ledger, any)),
-            _ => call.join(ledger, user),
-        }
-        match self {
-            Fault::DropsWhatCanNotBeHad => call.drop_others(ledger),
+            Fault::HoldsForUserZero => join(given, 0),
+            Fault::JoinsToEveryUser => (0..32).for_each(|any| join(given, any)),
             Fault::KeepsTheLastPlanAlone => {
-                of_user(ledger, user).fill(0);
-                call.join(ledger, user);
+                of_user(&mut given.ledger, user).fill(0);
+                join(given, user);
             }
-            _ => {}
+            _ => join(given, user),
         }
-        tally.admitted += u32::from(*self != Fault::AdmittedIsNotRaised);
-        tally.declined += u32::from(*self == Fault::BothCountsAreRaised);
+        if *self == Fault::DropsWhatCanNotBeHad {
+            drop_others(given);
+        }
+        given.admitted += u32::from(*self != Fault::AdmittedIsNotRaised);
+        given.declined += u32::from(*self == Fault::BothCountsAreRaised);
     }
 
-    fn decline(&self, call: Call, ledger: &mut [u64], tally: &mut Tally) {
+    fn decline(&self, given: &mut Submit) {
         if *self == Fault::JoinsDeclinedPlans {
-            call.join(ledger, call.user as usize);
+            join(given, given.user as usize);
         }
-        tally.declined += u32::from(*self != Fault::DeclinedIsNotRaised);
-        tally.admitted += u32::from(*self == Fault::BothCountsAreRaised);
+        given.declined += u32::from(*self != Fault::DeclinedIsNotRaised);
+        given.admitted += u32::from(*self == Fault::BothCountsAreRaised);
     }
 }
 
+fn counts(given: &Submit) -> Tally {
+    Tally {
+        admitted: given.admitted,
+        declined: given.declined,
+    }
+}
+
+/// The same submission to another ledger, with a fresh tally.
+fn with_ledger(given: &Submit, ledger: &[u64]) -> Submit {
+    Submit {
+        ledger: ledger.to_vec(),
+        admitted: 0,
+        declined: 0,
+        ..given.clone()
+    }
+}
+
+/// The mask of the plan joined with what a ledger holds.
+fn mask(given: &Submit, ledger: &[u64]) -> u32 {
+    let answer = GOOD.submit(&mut with_ledger(given, ledger));
+    answer.expect("it is not refused")
+}
+
+/// Joins the plan to a user's words.
+fn join(given: &mut Submit, user: usize) {
+    let mut words = [0; WORDS_OF_A_USER];
+    let answer = GOOD.flows(&given.book, &given.plan, &mut words);
+    answer.expect("it is not refused");
+    let held = of_user(&mut given.ledger, user).iter_mut().zip(words);
+    held.for_each(|(word, more)| *word |= more);
+}
+
+/// Takes from the user's words what can't be had with the book.
+fn drop_others(given: &mut Submit) {
+    let book = reading::read(&given.book).expect("it is accepted");
+    let held = of_user(&mut given.ledger, given.user as usize);
+    write(&(&accesses(held) & &book.obtainable()), held);
+}
+
 /// Submits as if the counts were fresh, and raises them all the same.
-fn past_the_limit(call: Call, ledger: &mut [u64], tally: &mut Tally) -> u32 {
-    let mut more = Tally::default();
-    let answer = call.submit(ledger, &mut more);
-    tally.admitted = tally.admitted.wrapping_add(more.admitted);
-    tally.declined = tally.declined.wrapping_add(more.declined);
+fn past_the_limit(given: &mut Submit) -> u32 {
+    let mut fresh = with_ledger(given, &given.ledger);
+    let answer = GOOD.submit(&mut fresh);
+    given.admitted = given.admitted.wrapping_add(fresh.admitted);
+    given.declined = given.declined.wrapping_add(fresh.declined);
+    given.ledger = fresh.ledger;
     answer.expect("it is not refused")
 }
 
