@@ -3,12 +3,14 @@
 #![warn(missing_docs)]
 
 pub mod answer;
+pub mod compare;
 pub mod engine;
 pub mod reached;
 pub mod run;
 pub mod submissions;
 pub mod text;
 
+pub use compare::Difference;
 pub use engine::Engine;
 pub use reached::Reached;
-pub use run::{run, Difference, Limit};
+pub use run::{run, Limit};

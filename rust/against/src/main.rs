@@ -1,7 +1,8 @@
 //! Tries one engine against another on random books.
 
+use against::compare::compare;
 use against::engine::{by_name, USUAL};
-use against::run::{compare, try_case};
+use against::run::try_case;
 use against::{run, text, Engine, Limit, Reached};
 use std::io::{self, IsTerminal, Write};
 use std::process::ExitCode;

@@ -1,15 +1,13 @@
 //! Rounds of random cases, both engines' answers compared.
 
 use crate::answer::{self, Answer};
+use crate::compare::{try_one, wrong, Difference};
 use crate::engine::{unpacked, Engine};
 use crate::reached::Reached;
 use crate::submissions::{try_history, try_submission};
-use crate::text;
-use books::submissions::{self, Submit};
-use books::{case, Case, Random};
+use books::{case, submissions, Case, Random};
 use second::access::Access;
 use second::{choice, reading, shown};
-use std::fmt;
 use std::time::{Duration, Instant};
 
 /// When to stop.
@@ -19,68 +17,6 @@ pub enum Limit {
     Cases(u64),
     /// After so much time.
     Time(Duration),
-}
-
-/// A case that two engines answer differently, or whose buffers they leave differently.
-#[derive(Clone, Debug)]
-pub struct Difference {
-    /// The case before the call.
-    pub case: Case,
-    /// For each engine its name, its answer and the case after the call.
-    pub sides: [(&'static str, Answer, Case); 2],
-}
-
-impl fmt::Display for Difference {
-    fn fmt(&self, f: &mut fmt::Formatter<'_>) -> fmt::Result {
-        write!(f, "{}", text::write(&self.case))?;
-        for (name, answer, after) in &self.sides {
-            writeln!(f, "# {name}: {answer}")?;
-            for left in left(&self.case, after) {
-                writeln!(f, "# {name} leaves {left}")?;
-            }
-        }
-        Ok(())
-    }
-}
-
-/// What a call changed: the words of a ledger one by one, else the whole buffer.
-fn left(before: &Case, after: &Case) -> Vec<String> {
-    if let (Case::Submit(before), Case::Submit(after)) = (before, after) {
-        return left_of_submit(before, after);
-    }
-    let lines = text::write(after);
-    let buffer = lines.lines().last().filter(|_| before != after);
-    buffer.into_iter().map(str::to_string).collect()
-}
-
-fn left_of_submit(before: &Submit, after: &Submit) -> Vec<String> {
-    let words = before.ledger.iter().zip(&after.ledger).enumerate();
-    let changed = words.filter(|(_, (word, left))| word != left);
-    let mut lines: Vec<String> = changed
-        .map(|(i, (_, left))| format!("word {i} {left:016x}"))
-        .collect();
-    let counts = |of: &Submit| (of.admitted, of.declined);
-    if counts(before) != counts(after) {
-        let (admitted, declined) = counts(after);
-        lines.push(format!("admitted {admitted} declined {declined}"));
-    }
-    lines
-}
-
-/// Both answers to one case, or how they differ. What was given up differs from nothing.
-pub fn compare(engines: [&dyn Engine; 2], case: &Case) -> Result<[Answer; 2], Box<Difference>> {
-    let sides = engines.map(|engine| {
-        let mut after = case.clone();
-        let answer = answer::of(engine, &mut after);
-        (engine.name(), answer, after)
-    });
-    let answers = [sides[0].1, sides[1].1];
-    let same = answers[0] == answers[1] && sides[0].2 == sides[1].2;
-    if same || answers.contains(&Answer::GaveUp) {
-        return Ok(answers);
-    }
-    let case = case.clone();
-    Err(Box::new(Difference { case, sides }))
 }
 
 /// A history comes once in so many rounds, as it has as many cases as ten of them.
@@ -135,19 +71,6 @@ pub fn try_case(
         (Case::Submit(given), answer) => try_submission(engines, given, answer),
         _ => Ok(()),
     }
-}
-
-/// Compares and counts one case.
-pub(crate) fn try_one(
-    engines: [&dyn Engine; 2],
-    case: &Case,
-    reached: &mut Reached,
-) -> Result<Answer, Box<Difference>> {
-    let [one, two] = compare(engines, case)?;
-    let given_up = [one, two].contains(&Answer::GaveUp);
-    let answer = if given_up { Answer::GaveUp } else { one };
-    reached.count(case, answer);
-    Ok(answer)
 }
 
 /// "Judge, given the same book, the user that Idle names and the first 4 × row count bytes of the
@@ -227,13 +150,4 @@ fn try_closed(
             Err(wrong(engines, case, Answer::NotClosed, got))
         }
     }
-}
-
-/// Both engines agree on an answer that the documents rule out.
-fn wrong(engines: [&dyn Engine; 2], case: Case, wanted: Answer, got: Answer) -> Box<Difference> {
-    let sides = [
-        ("documents", wanted, case.clone()),
-        (engines[0].name(), got, case.clone()),
-    ];
-    Box::new(Difference { case, sides })
 }

@@ -2,9 +2,9 @@
 //! (document 02, N3).
 
 use crate::answer::Answer;
+use crate::compare::{try_one, Difference};
 use crate::engine::Engine;
 use crate::reached::Reached;
-use crate::run::{try_one, Difference};
 use books::submissions::{History, Submit, LEDGER};
 use books::Case;
 use second::book::Book;

@@ -2,9 +2,9 @@
 //! and what is hard to open is open.
 
 use against::answer::Answer;
+use against::compare::compare;
 use against::engine::packed;
 use against::engine::{by_name, USUAL};
-use against::run::compare;
 use books::blocked::{hard, Found};
 use books::submissions::{Submit, LEDGER};
 use books::{named, plans, Case, Draft, Random};

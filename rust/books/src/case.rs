@@ -1,7 +1,8 @@
 //! Calls with all that they are given, and rounds of them about one book.
 
 use crate::change;
-use crate::draft::{leaves, Draft, BLOCK};
+use crate::draft::{Draft, BLOCK};
+use crate::numbers;
 use crate::plans;
 use crate::random::Random;
 use crate::submissions::{self, Submit};
@@ -129,14 +130,6 @@ fn block(random: &mut Random, book: &[u8]) -> Vec<u8> {
     }
 }
 
-/// A plan for the book, two times in three sound.
-pub(crate) fn plan(random: &mut Random, draft: &Draft) -> Vec<u8> {
-    match random.below(3) {
-        0 => plans::damaged(random, draft),
-        _ => plans::sound(random, draft),
-    }
-}
-
 fn flows(random: &mut Random, draft: &Draft, book: &[u8]) -> Case {
     let words = match random.below(8) {
         0 => random.one(&[0, 1, 31, 33, 64, 1024]),
@@ -144,31 +137,22 @@ fn flows(random: &mut Random, draft: &Draft, book: &[u8]) -> Case {
     };
     Case::Flows {
         book: book.to_vec(),
-        plan: plan(random, draft),
+        plan: plans::any(random, draft),
         words: (0..words).map(|_| random.bits()).collect(),
-    }
-}
-
-/// A user's number: mostly a leaf's, else any category's or none's.
-pub(crate) fn user(random: &mut Random, draft: &Draft) -> u32 {
-    match random.below(8) {
-        0 => out_of_range(random, draft.users.len()),
-        1 => random.below(draft.users.len()) as u32,
-        _ => u32::from(random.one(&leaves(&draft.users))),
     }
 }
 
 fn judge(random: &mut Random, draft: &Draft, book: &[u8]) -> Case {
     Case::Judge {
         book: book.to_vec(),
-        user: user(random, draft),
-        plan: plan(random, draft),
+        user: numbers::user(random, draft),
+        plan: plans::any(random, draft),
     }
 }
 
 fn idle(random: &mut Random, draft: &Draft, book: &[u8]) -> Case {
     let rule = match random.below(12) {
-        0 => out_of_range(random, draft.rules.len()),
+        0 => numbers::out_of_range(random, draft.rules.len()),
         _ => random.below(draft.rules.len()) as u32,
     };
     let length = match random.below(10) {
@@ -190,29 +174,12 @@ fn blocked(random: &mut Random, draft: &Draft, book: &[u8]) -> Vec<Case> {
         true => (0..count as u32).collect(),
         false => vec![random.below(count) as u32],
     };
-    rules.push(out_of_range(random, count));
+    rules.push(numbers::out_of_range(random, count));
     let case = |rule: u32| Case::Blocked {
         book: book.to_vec(),
         rule,
     };
     rules.into_iter().map(case).collect()
-}
-
-/// A number at or past a count, some of which would be in range if cut to a byte or shifted out.
-fn out_of_range(random: &mut Random, count: usize) -> u32 {
-    let count = count as u32;
-    let one = random.below(count.max(1) as usize) as u32;
-    let high = 1 << random.between(8, 31);
-    random.one(&[
-        count,
-        count + 1,
-        32,
-        255,
-        256,
-        high + one,
-        u32::MAX,
-        1 << 31,
-    ])
 }
 
 /// The size of the next round's book: mostly small, as most faults show on small books.

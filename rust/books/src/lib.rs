@@ -17,6 +17,7 @@ pub mod change;
 pub mod draft;
 pub mod named;
 pub mod needed;
+pub mod numbers;
 pub mod plans;
 pub mod random;
 pub mod relatives;

@@ -38,6 +38,14 @@ pub fn sound(random: &mut Random, draft: &Draft) -> Vec<u8> {
     plan.rows.concat()
 }
 
+/// A plan for the book, two times in three sound.
+pub fn any(random: &mut Random, draft: &Draft) -> Vec<u8> {
+    match random.below(3) {
+        0 => damaged(random, draft),
+        _ => sound(random, draft),
+    }
+}
+
 /// A sound plan of 64 rows that name any row below, for a book with columns.
 pub fn full(random: &mut Random, draft: &Draft) -> Vec<u8> {
     let mut plan = Plan::default();

@@ -1,7 +1,7 @@
 //! Submissions to a ledger (document 02, N3): single ones, and histories from fresh.
 
-use crate::case;
 use crate::draft::{leaves, Draft};
+use crate::numbers;
 use crate::plans;
 use crate::random::Random;
 use crate::valid::{self, Size};
@@ -49,8 +49,8 @@ pub fn single(random: &mut Random, draft: &Draft, book: &[u8]) -> Submit {
     let [admitted, declined] = counts(random);
     Submit {
         book: book.to_vec(),
-        user: case::user(random, draft),
-        plan: case::plan(random, draft),
+        user: numbers::user(random, draft),
+        plan: plans::any(random, draft),
         ledger,
         admitted,
         declined,
@@ -145,7 +145,7 @@ fn users(random: &mut Random, draft: &Draft) -> Vec<u32> {
     }
     let mut users = vec![u32::from(random.one(&leaves(&draft.users)))];
     for _ in 0..random.below(4) {
-        users.push(case::user(random, draft));
+        users.push(numbers::user(random, draft));
     }
     users
 }

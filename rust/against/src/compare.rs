@@ -1,0 +1,98 @@
+//! Two engines' answers to a case compared, and how they differ.
+
+use crate::answer::{self, Answer};
+use crate::engine::Engine;
+use crate::reached::Reached;
+use crate::text;
+use books::submissions::Submit;
+use books::Case;
+use std::fmt;
+
+/// A case that two engines answer differently, or whose buffers they leave differently.
+#[derive(Clone, Debug)]
+pub struct Difference {
+    /// The case before the call.
+    pub case: Case,
+    /// For each engine its name, its answer and the case after the call.
+    pub sides: [(&'static str, Answer, Case); 2],
+}
+
+impl fmt::Display for Difference {
+    fn fmt(&self, f: &mut fmt::Formatter<'_>) -> fmt::Result {
+        write!(f, "{}", text::write(&self.case))?;
+        for (name, answer, after) in &self.sides {
+            writeln!(f, "# {name}: {answer}")?;
+            for left in left(&self.case, after) {
+                writeln!(f, "# {name} leaves {left}")?;
+            }
+        }
+        Ok(())
+    }
+}
+
+/// What a call changed: the words of a ledger one by one, else the whole buffer.
+fn left(before: &Case, after: &Case) -> Vec<String> {
+    if let (Case::Submit(before), Case::Submit(after)) = (before, after) {
+        return left_of_submit(before, after);
+    }
+    let lines = text::write(after);
+    let buffer = lines.lines().last().filter(|_| before != after);
+    buffer.into_iter().map(str::to_string).collect()
+}
+
+fn left_of_submit(before: &Submit, after: &Submit) -> Vec<String> {
+    let words = before.ledger.iter().zip(&after.ledger).enumerate();
+    let changed = words.filter(|(_, (word, left))| word != left);
+    let mut lines: Vec<String> = changed
+        .map(|(i, (_, left))| format!("word {i} {left:016x}"))
+        .collect();
+    let counts = |of: &Submit| (of.admitted, of.declined);
+    if counts(before) != counts(after) {
+        let (admitted, declined) = counts(after);
+        lines.push(format!("admitted {admitted} declined {declined}"));
+    }
+    lines
+}
+
+/// Both answers to one case, or how they differ. What was given up differs from nothing.
+pub fn compare(engines: [&dyn Engine; 2], case: &Case) -> Result<[Answer; 2], Box<Difference>> {
+    let sides = engines.map(|engine| {
+        let mut after = case.clone();
+        let answer = answer::of(engine, &mut after);
+        (engine.name(), answer, after)
+    });
+    let answers = [sides[0].1, sides[1].1];
+    let same = answers[0] == answers[1] && sides[0].2 == sides[1].2;
+    if same || answers.contains(&Answer::GaveUp) {
+        return Ok(answers);
+    }
+    let case = case.clone();
+    Err(Box::new(Difference { case, sides }))
+}
+
+/// Compares and counts one case.
+pub fn try_one(
+    engines: [&dyn Engine; 2],
+    case: &Case,
+    reached: &mut Reached,
+) -> Result<Answer, Box<Difference>> {
+    let [one, two] = compare(engines, case)?;
+    let given_up = [one, two].contains(&Answer::GaveUp);
+    let answer = if given_up { Answer::GaveUp } else { one };
+    reached.count(case, answer);
+    Ok(answer)
+}
+
+/// Both engines agree on an answer that the documents rule out.
+pub fn wrong(
+    engines: [&dyn Engine; 2],
+    case: Case,
+    wanted: Answer,
+    got: Answer,
+) -> Box<Difference> {
+    let sides = [
+        ("documents", wanted, case.clone()),
+        (engines[0].name(), got, case.clone()),
+    ];
+    Box::new(Difference { case, sides })
+}
