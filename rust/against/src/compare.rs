@@ -96,3 +96,24 @@ pub fn wrong(
     ];
     Box::new(Difference { case, sides })
 }
+
+#[cfg(test)]
+mod tests {
+    use super::*;
+
+    /// Of a ledger the words that differ are said, not all of them.
+    #[test]
+    fn what_a_submission_leaves() {
+        let before = Submit::fresh(&[]);
+        let mut after = before.clone();
+        assert!(left_of_submit(&before, &after).is_empty());
+        (after.ledger[33], after.ledger[1_023]) = (16, 1 << 63);
+        after.declined = 1;
+        let lines = [
+            "word 33 0000000000000010",
+            "word 1023 8000000000000000",
+            "admitted 0 declined 1",
+        ];
+        assert_eq!(left_of_submit(&before, &after), lines);
+    }
+}

@@ -113,14 +113,7 @@ pub fn try_history(
         admitted: vec![0; LEDGER],
         answered: 0,
     };
-    let mut kept = Submit {
-        book: history.book.clone(),
-        user: 0,
-        plan: vec![],
-        ledger: vec![0; LEDGER],
-        admitted: 0,
-        declined: 0,
-    };
+    let mut kept = Submit::fresh(&history.book);
     for (user, plan) in &history.submissions {
         (kept.user, kept.plan) = (*user, plan.clone());
         let answer = try_one(engines, &Case::Submit(kept.clone()), reached)?;

@@ -29,6 +29,20 @@ pub struct Submit {
     pub declined: u32,
 }
 
+impl Submit {
+    /// The empty plan of user 0, submitted to a fresh ledger and tally.
+    pub fn fresh(book: &[u8]) -> Submit {
+        Submit {
+            book: book.to_vec(),
+            user: 0,
+            plan: vec![],
+            ledger: vec![0; LEDGER],
+            admitted: 0,
+            declined: 0,
+        }
+    }
+}
+
 /// A list of submissions with one book, from a fresh ledger and tally.
 #[derive(Clone, Debug, PartialEq, Eq)]
 pub struct History {

@@ -89,7 +89,7 @@ fn is_found_and_shown_again(fault: impl Faulty + Copy + Debug) {
     let engines: [&dyn Engine; 2] = [&FaultyEngine(fault), &GOOD];
     let mut cases = 0;
     let mut count = |reached: &Reached| cases = reached.cases;
-    let difference = run(engines, 5, Limit::Cases(85_000), &mut count);
+    let difference = run(engines, 7, Limit::Cases(85_000), &mut count);
     let difference = difference
         .err()
         .unwrap_or_else(|| panic!("{fault:?} not found"));
