@@ -41,6 +41,6 @@ same "the example in C" include/example.out "$folder/said"
 
 export CARGO_TARGET_DIR=$PWD/target/cargo
 cargo test --offline --release --manifest-path rust/Cargo.toml --workspace
-cargo run --offline --release --quiet --manifest-path rust/Cargo.toml -p against -- --seed 1 --cases 40000
+cargo run --offline --release --quiet --manifest-path rust/Cargo.toml -p against -- --seed 1 --cases 50000
 
 tail -n 1 "$log"

@@ -1,7 +1,7 @@
 //! `docs/FORMAT.md`: its bytes and answers are those of the engine.
 
 use crate::common::{broken, file, text};
-use pspec::{Book, Plan, Refusal, BLOCK};
+use pspec::{Book, Ledger, Plan, Refusal, Reply, Tally, BLOCK};
 
 fn small_shop() -> Vec<u8> {
     std::fs::read(file("crates/policyreport/data/small.book")).expect("it is there")
@@ -69,6 +69,29 @@ fn the_plans_are_judged_so() {
         }
     }
     assert_eq!(judged, 16);
+}
+
+#[test]
+fn the_days_are_replied_to_so() {
+    let book = Book::new(small_shop()).expect("it is sound");
+    let format = text("docs/FORMAT.md");
+    let (_, days) = format.split_once("| Day |").expect("it is there");
+    let (days, _) = days.split_once("## The calls").expect("it ends");
+    let (mut ledger, mut tally) = (Ledger::new(), Tally::new());
+    let rows: Vec<Vec<String>> = cells(days).collect();
+    for row in &rows {
+        let user = row[1].parse().expect("it is a number");
+        let plan = Plan::new(hexadecimal(&row[3]));
+        let reply = match book.submit(user, &plan, &mut ledger, &mut tally) {
+            Reply::Admitted => "admitted".to_string(),
+            Reply::Declined(broken) => format!("declined by {broken}"),
+            Reply::Refused(refusal) => format!("refused {}", refusal.number()),
+        };
+        assert_eq!(row[4], reply, "{}", row[0]);
+        let counts = [tally.admitted(), tally.declined()].map(|count| count.to_string());
+        assert_eq!(row[5..], counts, "{}", row[0]);
+    }
+    assert_eq!(rows.len(), 5);
 }
 
 #[test]
