@@ -218,7 +218,8 @@ kept book (x ∷ earlier) = kept-after book (recordsAfter book earlier) (log boo
 pub promise : (book : List ℕ) (list : List Submission) → Promise book list
 unfolding heldFor
 promise book list =
-    record { each = λ user. holds user (kept book list); counted = kept book list .counted }
+    let k = kept book list in
+    record { whole = k .long; each = λ user. holds user k; counted = k .counted }
   where
     holds :
         (user : ℕ)

@@ -71,6 +71,8 @@ pub record Holds (book : Book) (user : ℕ) (held : Accesses) (own : List Entry)
   pub satisfies : BookAccepted book → SatisfiesPolicy book user held
 
 pub record Promise (book : Book) (list : List Submission) : Type 0 where
+  -- the ledger stays one of 1,024 words
+  pub whole : length (recordsAfter book list .ledger) ≡ 1024
   pub each :
       (user : ℕ)
       → Holds book user (heldFor (recordsAfter book list .ledger) user) (entriesOf user (log book list))
