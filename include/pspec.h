@@ -25,8 +25,8 @@
  * Not proved: this file, and that there is stack enough. On the largest book and on one with 64
  * categories in a chain the smallest stacks that worked were 16 KiB for pspec_check, 32 KiB for
  * pspec_flows, pspec_judge and pspec_submit, 49 KiB for pspec_idle, 57 KiB for pspec_blocked (bench
- * stack); on a thread with less the process is stopped. Give them 128 KiB. The calls use memcpy and
- * memset and nothing else from outside.
+ * stack); on a thread with less the process is stopped. Give them 128 KiB. The calls use memcpy,
+ * memmove and memset and nothing else from outside.
  */
 #ifndef PSPEC_H
 #define PSPEC_H

@@ -67,17 +67,16 @@ use Rattle.capi.proofs.pspec_submit.Code as code
 
 -- The parameters: book, user and plan are read, the ledger is given on, the tally stays behind its reference.
 abbrev stayed : Stays (f.ended .signature .params) (f.ended .kept)
-stayed =
+stayed = (
+  stay-dropped (shrSliceOf (0 ∷ []) tt (plain (λ _. u8))) yes,
+  (
+    stay-dropped (plain (λ _. u32)) yes,
     (
-      stay-dropped (shrSliceOf (0 ∷ []) tt (plain (λ _. u8))) yes,
-      (
-        stay-dropped (plain (λ _. u32)) yes,
-        (
-          stay-dropped (shrSliceOf (1 ∷ []) tt (plain (λ _. u8))) yes,
-          (gave-slice (2 ∷ []) tt (plain (λ _. u64)), (stay-ref (3 ∷ []) tt (plain (λ _. T₀.the-row)), tt)),
-        ),
-      ),
-    )
+      stay-dropped (shrSliceOf (1 ∷ []) tt (plain (λ _. u8))) yes,
+      (gave-slice (2 ∷ []) tt (plain (λ _. u64)), (stay-ref (3 ∷ []) tt (plain (λ _. T₀.the-row)), tt)),
+    ),
+  ),
+)
 
 -- what `submit_counted` says of its result and of the ledger on leaving
 abbrev Told : List ℕ → ℕ → List ℕ → List ℕ → Tally → Counted → List ℕ → Type 0
@@ -127,11 +126,10 @@ module _
         (book, (user, (plan, (ledger, (record { ptr = (b-tally, o-tally); name = γ-tally; now = tally }, tt)))))
 
     abbrev values : Values
-    values =
-        (
-          slice book ∷ [],
-          (vint w32 user ∷ [], (slice plan ∷ [], (slice ledger ∷ [], (vptr b-tally o-tally ∷ [], tt)))),
-        )
+    values = (
+      slice book ∷ [],
+      (vint w32 user ∷ [], (slice plan ∷ [], (slice ledger ∷ [], (vptr b-tally o-tally ∷ [], tt)))),
+    )
 
     abbrev passed : List Val
     passed = slice book ∷ vint w32 user ∷ slice plan ∷ slice ledger ∷ vptr b-tally o-tally ∷ []
@@ -357,8 +355,7 @@ module _
     walks C Λ fm known =
         walked 𝓤 H A f.ended stayed (f.clauses 𝓤 H A at-mem run) (WpFn 𝓤 H C Λ code.function)
         (λ κs. (slice-vals, (uint-vals w32, (slice-vals, (slice-vals, (ptr-vals, tt))))))
-        (λ κs.
-        (
+        (λ κs. (
           shr-slice-tells (named 0) (κs .0) u8,
           (
             uint-tells w32,
@@ -376,20 +373,19 @@ module _
         (are .1 .0 .1) (are .1 .1 .0) (are .1 .1 .1 .0)))
 
     goes : AllGo 𝓤 H A W 4 (f.signature .params) (f.ended .kept) stayed
-    goes =
+    goes = (
+      goes-dropped 𝓤 H A W 4 (shrSliceOf (0 ∷ []) tt (plain (λ _. u8))) yes (λ κs x f. refl),
+      (
+        goes-dropped 𝓤 H A W 4 (plain (λ _. u32)) yes (λ κs x f. refl),
         (
-          goes-dropped 𝓤 H A W 4 (shrSliceOf (0 ∷ []) tt (plain (λ _. u8))) yes (λ κs x f. refl),
+          goes-dropped 𝓤 H A W 4 (shrSliceOf (1 ∷ []) tt (plain (λ _. u8))) yes (λ κs x f. refl),
           (
-            goes-dropped 𝓤 H A W 4 (plain (λ _. u32)) yes (λ κs x f. refl),
-            (
-              goes-dropped 𝓤 H A W 4 (shrSliceOf (1 ∷ []) tt (plain (λ _. u8))) yes (λ κs x f. refl),
-              (
-                goes-gave-slice 𝓤 H A W 4 2 tt (plain (λ _. u64)),
-                (goes-ref 𝓤 H A W 4 3 tt (plain (λ _. T₀.the-row)), tt),
-              ),
-            ),
+            goes-gave-slice 𝓤 H A W 4 2 tt (plain (λ _. u64)),
+            (goes-ref 𝓤 H A W 4 3 tt (plain (λ _. T₀.the-row)), tt),
           ),
-        )
+        ),
+      ),
+    )
 
     meets :
         (𝓣 : Tables 𝓤 H)
