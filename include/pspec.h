@@ -46,7 +46,7 @@ extern "C" {
 #define PSPEC_WORDS 32
 #define PSPEC_ROWS_MOST 64
 #define PSPEC_BUFFER_LEAST 36
-/* Words of a ledger, of which user u has those from 32 x u on; a tally's sum is below this limit. */
+/* Words of a ledger, 32 for each user number; the count or sum of counts from which on a tally is full. */
 #define PSPEC_LEDGER_WORDS 1024
 #define PSPEC_COUNTS_LIMIT 1000000
 
@@ -141,11 +141,14 @@ struct pspec_tally {
  * s being 0 for projection and 1 for condition. Fresh, all its words are 0; any other words are joined and
  * judged as they are. Refuses 1 to 9, 20, 21, 22, 27, 28. Value: the mask of the rules that the user breaks
  * with the plan's accesses and those that he holds, bit r for rule r.
- * 0: the plan is admitted; its accesses are joined to the user's words, and `admitted` is one more.
- * Otherwise the plan is declined; the ledger is as it was, and `declined` is one more.
+ * An answer of 0 (pspec_is_admitted): the plan is admitted; its accesses are joined to the user's words, and
+ * `admitted` is one more. Any other answer that is no refusal: the plan is declined; the ledger is as it was,
+ * and `declined` is one more. A refusal's mask is 0 too, so ask pspec_is_admitted and not the mask.
  * For every list of calls with one book, from a fresh ledger and tally, each user holds exactly the accesses
  * of his admitted plans and breaks no rule with them, and admitted + declined is the number of calls that
- * were not refused (proved: crates/ledger/specs/Demand.antt). So one ledger and tally belong to one book.
+ * were not refused (stated in crates/ledger/specs/Demand.antt, proved in crates/ledger/proofs/Kept.antt). So
+ * one ledger and tally belong to one book. Store both before an admitted plan is run, and let no two calls
+ * begin from the same stored copy: an admitted plan would be lost.
  */
 uint64_t pspec_submit(const uint8_t *book, size_t book_length, uint32_t user, const uint8_t *plan,
                       size_t plan_length, uint64_t *ledger, size_t ledger_length, struct pspec_tally *tally);
@@ -161,7 +164,7 @@ static inline uint32_t pspec_place(uint64_t answer) { return (uint32_t)(answer >
 /* pspec_check: the number of rules. */
 static inline uint32_t pspec_value(uint64_t answer) { return (uint32_t)answer; }
 
-/* pspec_judge and pspec_submit: bit r for rule r. */
+/* pspec_judge and pspec_submit: bit r for rule r. Look at pspec_number first: a refusal's mask is 0 too. */
 static inline uint32_t pspec_mask(uint64_t answer) { return pspec_value(answer); }
 
 /* pspec_submit: not refused, and the plan may be run. */

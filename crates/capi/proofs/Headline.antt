@@ -26,7 +26,8 @@ use Rattle.ledger.specs.declared.Tally.{Tally}
 use Rattle.ledger.specs.declared.Submitted.{Submitted}
 use Rattle.ledger.specs.declared.Submitted.the-variants as submitted
 use Rattle.ledger.proofs.WordLaws.{other-word}
-use Rattle.ledger.proofs.SubmitLaws.{admitted-holds, by-reply, continues, refused-answer, submit-passes, union-demand}
+use Rattle.ledger.proofs.SubmitLaws.{admitted-holds, by-reply, refused-answer, submit-passes, union-demand}
+use Rattle.ledger.proofs.CallLaws.{continues}
 use Rattle.search.specs.Answers.{idleTests, idleAnswer, idleBuffer}
 use Rattle.search.specs.Alone.{firstAlone}
 use Rattle.search.specs.Demand.{IdleAccepted}

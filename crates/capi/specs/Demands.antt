@@ -82,7 +82,8 @@ pub record SubmitSays
     -- nothing is refused exactly when book, user and plan are accepted, the ledger is whole and the counts have room
     pub accepted : answer < refusals → SubmitAccepted book user plan before tally
     pub accepts : SubmitAccepted book user plan before tally → answer < refusals
-    -- 0 opens the gate: exactly where the plan, with all that is held for its user, satisfies the policy
+    -- 0 opens the gate: exactly for an accepted submission whose plan, with all that is held for its user, satisfies the
+    -- policy
     pub zero-satisfies : answer ≡ 0 → SatisfiesPolicy book user (joinedAccesses book user plan before)
     pub satisfies-zero :
         SubmitAccepted book user plan before tally
@@ -103,5 +104,5 @@ pub record SubmitSays
     pub refused-keeps : refusals ≤ answer → counted ≡ tally
     -- no word of another user changes
     pub others-keep : (w : ℕ) → (w / 32 ≡ user → ⊥) → getD after w 0 ≡ getD before w 0
-    -- after a list of submissions from fresh, this one is the next of the list
+    -- after a list of submissions from fresh, this one is the next of the list, and what is left keeps the promise
     pub continues : Continues book user plan before after tally counted

@@ -119,19 +119,13 @@ pub extern "C" fn pspec_blocked(book: &[u8], rule: u32) -> u64
 }
 
 // Submit's answer packed, and the tally on leaving.
-pub struct Counted {
-    pub answer: u64,
-    pub tally: Tally,
+struct Counted {
+    answer: u64,
+    tally: Tally,
 }
 
 // Submit, with the tally by value.
-pub fn submit_counted(
-    book: &[u8],
-    user: u32,
-    plan: &[u8],
-    ledger: &mut [u64],
-    tally: Tally,
-) -> Counted
+fn submit_counted(book: &[u8], user: u32, plan: &[u8], ledger: &mut [u64], tally: Tally) -> Counted
     ensures { λ r. ⌜ (r .answer
         ≡ submitPacked (submitAnswer (now (book .entry)) user (now (plan .entry)) (now (ledger .entry)) tally))
         × (r .tally ≡ submitTally (now (book .entry)) user (now (plan .entry)) (now (ledger .entry)) tally)

@@ -11,7 +11,6 @@ use Rattle.book.specs.Lists.{any}
 use Rattle.book.specs.Blocks.{headOf}
 use Rattle.book.specs.Refusals.{BookAccepted}
 use Rattle.book.specs.declared.Refusal.{Refusal}
-use Rattle.book.specs.declared.Tested.the-variants as tested
 use Rattle.lineage.specs.Accesses.{accessWords}
 use Rattle.verdicts.specs.Accesses.{Access, accessesOf, keep, union}
 use Rattle.verdicts.specs.Breaking.{brokenMask}
@@ -23,17 +22,19 @@ use Rattle.ledger.specs.Ledger.{heldFor, wordsOf}
 use Rattle.ledger.specs.Answers.{joinedAccesses, unionMask, ledgerAfter, submitLedger}
 use Rattle.ledger.specs.Answers.{tallyAfter, submitTally}
 use Rattle.ledger.specs.Histories.{Submission, Records, fresh, replyTo, next, Entry, recordsAfter, log}
-use Rattle.ledger.specs.Histories.{isAdmitted, notRefused, entriesOf, admittedPlans}
-use Rattle.ledger.specs.Demand.{SubmitAccepted, inSome, Holds, Promise}
+use Rattle.ledger.specs.Histories.{isAdmitted, isDeclined, notRefused, entriesOf, admittedPlans}
+use Rattle.ledger.specs.Demand.{SubmitAccepted, inSome, Holds, Promise, EveryList}
 use Rattle.ledger.specs.declared.Submitted.{Submitted}
 use Rattle.ledger.specs.declared.Submitted.the-variants.{Admitted, Declined, Refused}
 use Rattle.ledger.proofs.WordLaws.{words-zero, held-other, joined-length}
 use Rattle.ledger.proofs.SubmitLaws.{admitted-holds, by-reply}
 
 -- the records agree with the replies, and nobody breaks a rule
-pub record Kept (book : List ℕ) (s : Records) (entries : List Entry) : Type 0 where
+record Kept (book : List ℕ) (s : Records) (entries : List Entry) : Type 0 where
   pub long : length (s .ledger) ≡ 1024
-  pub counted : s .tally .admitted + s .tally .declined ≡ length (keep (λ e. notRefused (e .reply)) entries)
+  pub admitted-count : s .tally .admitted ≡ length (keep (λ e. isAdmitted (e .reply)) entries)
+  pub declined-count : s .tally .declined ≡ length (keep (λ e. isDeclined (e .reply)) entries)
+  pub sum : s .tally .admitted + s .tally .declined ≡ length (keep (λ e. notRefused (e .reply)) entries)
   pub held :
       (u : ℕ) (x : Access)
       → heldFor (s .ledger) u x ≡ inSome (headOf book) (admittedPlans (entriesOf u entries)) x
@@ -83,22 +84,28 @@ module _ (book : List ℕ) (s : Records) (entries : List Entry) (kept : Kept boo
       }
 
   refused-kept : (r : Refusal) → Kept book (after (Refused r)) (entry (Refused r) ∷ entries)
-  unfolding after entry ledgerAfter tallyAfter notRefused isAdmitted
+  unfolding after entry ledgerAfter tallyAfter notRefused isAdmitted isDeclined
   refused-kept r =
+      let e = entry (Refused r) in
       record {
         long = kept .long;
-        counted = rw (keep-out (λ e. notRefused (e .reply)) (entry (Refused r)) entries refl) (kept .counted);
+        admitted-count = rw (keep-out (λ e. isAdmitted (e .reply)) e entries refl) (kept .admitted-count);
+        declined-count = rw (keep-out (λ e. isDeclined (e .reply)) e entries refl) (kept .declined-count);
+        sum = rw (keep-out (λ e. notRefused (e .reply)) e entries refl) (kept .sum);
         held = λ u y. rw (plans-same (entry (Refused r)) entries refl u) (kept .held u y);
         lawful = kept .lawful;
       }
 
   declined-kept : (mask : ℕ) → Kept book (after (Declined mask)) (entry (Declined mask) ∷ entries)
-  unfolding after entry ledgerAfter tallyAfter notRefused isAdmitted
+  unfolding after entry ledgerAfter tallyAfter notRefused isAdmitted isDeclined
   declined-kept mask =
-      let sum = kept .counted in
+      let e = entry (Declined mask) in
       record {
         long = kept .long;
-        counted = rw (keep-in (λ e. notRefused (e .reply)) (entry (Declined mask)) entries refl) (omega (arith, sum));
+        admitted-count = rw (keep-out (λ e. isAdmitted (e .reply)) e entries refl) (kept .admitted-count);
+        declined-count =
+            rw (keep-in (λ e. isDeclined (e .reply)) e entries refl) (omega (arith, kept .declined-count));
+        sum = rw (keep-in (λ e. notRefused (e .reply)) e entries refl) (omega (arith, kept .sum));
         held = λ u y. rw (plans-same (entry (Declined mask)) entries refl u) (kept .held u y);
         lawful = kept .lawful;
       }
@@ -175,12 +182,15 @@ module _ (book : List ℕ) (s : Records) (entries : List Entry) (kept : Kept boo
           ∙ kept .lawful accepted u
 
       admitted-kept : Kept book (after Admitted) (entry Admitted ∷ entries)
-      unfolding after entry ledgerAfter tallyAfter notRefused
+      unfolding after entry ledgerAfter tallyAfter notRefused isAdmitted isDeclined
       admitted-kept =
-          let sum = kept .counted in
+          let e = entry Admitted in
           record {
             long = joined-length (s .ledger) (x .user) (accessWords (headOf book) (x .plan)) ∙ kept .long;
-            counted = rw (keep-in (λ e. notRefused (e .reply)) (entry Admitted) entries refl) (omega (arith, sum));
+            admitted-count =
+                rw (keep-in (λ e. isAdmitted (e .reply)) e entries refl) (omega (arith, kept .admitted-count));
+            declined-count = rw (keep-out (λ e. isDeclined (e .reply)) e entries refl) (kept .declined-count);
+            sum = rw (keep-in (λ e. notRefused (e .reply)) e entries refl) (omega (arith, kept .sum));
             held = λ u y. held-after u (eqb (x .user) u) refl y;
             lawful = λ accepted u. lawful-after accepted u (eqb (x .user) u) refl;
           }
@@ -204,34 +214,42 @@ unfolding inSome any entriesOf admittedPlans keep
 kept-fresh book =
     record {
       long = length-replicate {A = ℕ} 1024 0;
-      counted = refl;
+      admitted-count = refl;
+      declined-count = refl;
+      sum = refl;
       held = nothing-held;
       lawful = λ accepted u. nothing-broken (heldFor (fresh .ledger) u) (nothing-held u) book u accepted;
     }
 
-pub kept : (book : List ℕ) (list : List Submission) → Kept book (recordsAfter book list) (log book list)
+kept : (book : List ℕ) (list : List Submission) → Kept book (recordsAfter book list) (log book list)
 unfolding recordsAfter log
 kept book [] = kept-fresh book
 kept book (x ∷ earlier) = kept-after book (recordsAfter book earlier) (log book earlier) (kept book earlier) x
 
--- the promise of document 02, of every list
-pub promise : (book : List ℕ) (list : List Submission) → Promise book list
+-- "For every list of submissions"
+
+promised : (book : List ℕ) (s : Records) (entries : List Entry) → Kept book s entries → Promise book s entries
 unfolding heldFor
-promise book list =
-    let k = kept book list in
-    record { whole = k .long; each = λ user. holds user k; counted = k .counted }
+promised book s entries k =
+    record {
+      whole = k .long;
+      each = holds;
+      admitted-count = k .admitted-count;
+      declined-count = k .declined-count;
+      sum = k .sum;
+    }
   where
-    holds :
-        (user : ℕ)
-        → Kept book (recordsAfter book list) (log book list)
-        → Holds book user (heldFor (recordsAfter book list .ledger) user) (entriesOf user (log book list))
-    holds user k =
-        let mine = heldFor (recordsAfter book list .ledger) user in
+    holds : (user : ℕ) → Holds book user (heldFor (s .ledger) user) (entriesOf user entries)
+    holds user =
+        let mine = heldFor (s .ledger) user in
         record {
           union = k .held user;
           breaks-none = λ accepted. broken-none book user mine (k .lawful accepted user);
           satisfies =
               λ accepted.
-              query-demand book user mine (held-operations (wordsOf (recordsAfter book list .ledger) user))
-              .zero-satisfies (k .lawful accepted user);
+              query-demand book user mine (held-operations (wordsOf (s .ledger) user)) .zero-satisfies
+              (k .lawful accepted user);
         }
+
+pub promise : (book : List ℕ) → EveryList book
+promise book list = promised book (recordsAfter book list) (log book list) (kept book list)

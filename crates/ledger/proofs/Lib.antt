@@ -1,4 +1,5 @@
 pub mod WordLaws
 pub mod SubmitLaws
 pub mod Kept
+pub mod CallLaws
 pub mod Vectors

@@ -1,14 +1,13 @@
--- Laws of Submit: what it has tested when it accepts, and its reply, ledger and tally by the outcome of its tests.
--- Assumes nothing.
+-- Laws of a submission: what it has tested when it accepts, its replies, and what they mean. Assumes nothing.
 use Prim.Native.Nat.{ℕ, _+_, _*_, _≤_, _<_}
 use native.Mathlib.Omega.{arith}
-use mathlib.Core.Path.{_≡_, refl, sym, ap, _∙_}
+use mathlib.Core.Path.{_≡_, refl, sym, _∙_}
 use mathlib.Core.Bool.{Bool, true, false, _&&_, cond}
 use mathlib.Core.Logic.{⊎-elim}
 use mathlib.Core.List.{List, _++_}
 use lib.ListN.{length}
 use lib.Dec.{eqb, ltb}
-use borrow.Author.Tests.{eq-eqb, ne-eqb, eqb-true, eqb-false, ltb-true, lt-ltb}
+use borrow.Author.Tests.{eq-eqb, eqb-true, eqb-false, ltb-true, lt-ltb}
 use Rattle.book.specs.Blocks.{headOf}
 use Rattle.book.specs.Tests.{Passes, firstFailing}
 use Rattle.book.specs.Inner.Testing.{orElse}
@@ -22,25 +21,20 @@ use Rattle.book.proofs.Lists.{and-right, or-either, same-test}
 use Rattle.lineage.specs.Accesses.{accessWords}
 use Rattle.lineage.proofs.Accepted.{accepted-plan}
 use Rattle.verdicts.specs.Accesses.{Access, accessesOf, heldBy, union}
-use Rattle.verdicts.specs.Breaking.{brokenMask}
 use Rattle.verdicts.specs.Answers.{judgeTests}
 use Rattle.verdicts.specs.Demand.{Demand2}
 use Rattle.verdicts.proofs.DemandLaws.{query-demand}
-use Rattle.verdicts.proofs.Held.{held-accesses, held-operations, held-plan, held-union, plan-operations}
+use Rattle.verdicts.proofs.Held.{held-accesses, held-operations, plan-operations}
 use Rattle.verdicts.proofs.JudgeLaws.{judge-accepted, judge-passes}
 use Rattle.verdicts.proofs.Users.{user-below}
-use Rattle.verdicts.proofs.Verdict.{mask-same}
 use Rattle.ledger.specs.Ledger.{heldFor, joinedFor, wordsOf}
 use Rattle.ledger.specs.Answers.{countsHold, ledgerTests, tallyTests, submitTests, joinedAccesses, unionMask}
-use Rattle.ledger.specs.Answers.{submitAnswer, ledgerAfter, submitLedger, tallyAfter, submitTally}
-use Rattle.ledger.specs.Histories.{next, recordsAfter}
-use Rattle.ledger.specs.Demand.{SubmitAccepted, Submits, Continues}
-use Rattle.ledger.specs.Inner.Steps.{joinedWords}
+use Rattle.ledger.specs.Answers.{submitAnswer}
+use Rattle.ledger.specs.Demand.{SubmitAccepted, Submits}
 use Rattle.ledger.specs.declared.Tally.{Tally}
-use Rattle.ledger.specs.declared.Outcome.{Outcome}
 use Rattle.ledger.specs.declared.Submitted.{Submitted}
 use Rattle.ledger.specs.declared.Submitted.the-variants as submitted
-use Rattle.ledger.proofs.WordLaws.{held-own, joined-at}
+use Rattle.ledger.proofs.WordLaws.{held-own}
 
 -- The tests
 
@@ -100,7 +94,7 @@ module _ (book : List ℕ) (user : ℕ) (plan ledger : List ℕ) (tally : Tally)
 
   -- The reply
 
-  submit-answer :
+  pub submit-answer :
       Passes (submitTests book user plan ledger tally)
       → submitAnswer book user plan ledger tally
       ≡ cond (eqb (unionMask book user plan ledger) 0) submitted.Admitted
@@ -191,7 +185,7 @@ module _ (book : List ℕ) (user : ℕ) (plan ledger : List ℕ) (tally : Tally)
       held-own ledger user (accessWords (headOf book) plan) room x
       ∙ rw (held-accesses (headOf book) plan head (accepted-plan (headOf book) plan (accepted .plan-accepted)) x)
 
-  submit-means :
+  pub submit-means :
       SubmitAccepted book user plan ledger tally
       → Submits book user (joinedAccesses book user plan ledger) (submitAnswer book user plan ledger tally)
   submit-means given =
@@ -220,106 +214,3 @@ module _ (book : List ℕ) (user : ℕ) (plan ledger : List ℕ) (tally : Tally)
             satisfies-admitted = λ s. absurd (some (union-demand given .satisfies-zero s));
             otherwise = λ n. (unionMask book user plan ledger, refl, omega (arith, some), union-demand given);
           }
-
-  -- a submission to what a list has left makes the list one longer
-  pub continues :
-      (after : List ℕ) (counted : Tally)
-      → counted ≡ submitTally book user plan ledger tally
-      → after ≡ submitLedger book user plan ledger tally
-      → Continues book user plan ledger after tally counted
-  unfolding recordsAfter next
-  continues after counted et el list left = rw (left, el, et)
-
-  -- what Submit promises of its outcome and of the ledger on leaving
-  abbrev pub Promised : Outcome → List ℕ → Type 0
-  Promised r after =
-      (r .reply ≡ submitAnswer book user plan ledger tally)
-      × (r .tally ≡ submitTally book user plan ledger tally)
-      × (after ≡ submitLedger book user plan ledger tally)
-      × (SubmitAccepted book user plan ledger tally
-      → Submits book user (joinedAccesses book user plan ledger) (r .reply))
-      × Continues book user plan ledger after tally (r .tally)
-
-  promised :
-      (r : Outcome) (after : List ℕ)
-      → r .reply ≡ submitAnswer book user plan ledger tally
-      → r .tally ≡ submitTally book user plan ledger tally
-      → after ≡ submitLedger book user plan ledger tally
-      → Promised r after
-  promised r after er et el =
-      (er, et, el, λ given. rw er (submit-means given), continues after (r .tally) et el)
-
-  -- The outcomes
-
-  pub submit-refused :
-      (r : Refusal)
-      → firstFailing (submitTests book user plan ledger tally) ≡ tested.Refused r
-      → Promised (record { reply = submitted.Refused r; tally = tally }) ledger
-  unfolding submitTally tallyAfter submitLedger ledgerAfter
-  submit-refused r h =
-      let a = refused-answer r h in
-      promised (record { reply = submitted.Refused r; tally = tally }) ledger (sym a) (rw a) (rw a)
-
-  module _
-      (accepted : SubmitAccepted book user plan ledger tally)
-      (words : List ℕ)
-      (mask : ℕ)
-      (r : Outcome)
-      (words-are : words ≡ accessWords (headOf book) plan)
-      (mask-is : mask ≡ brokenMask book user (union (heldFor ledger user) (heldBy words)))
-    where
-      is-union : mask ≡ unionMask book user plan ledger
-      unfolding unionMask joinedAccesses union
-      is-union =
-          mask-is
-          ∙ mask-same book user (union (heldFor ledger user) (heldBy words)) (joinedAccesses book user plan ledger)
-          (λ x k.
-          rw (
-            words-are,
-            held-plan (headOf book) plan (accepted-head book (accepted .judge-accepted .book-accepted) .data-most) x k,
-          ))
-
-      answer-is :
-          (b : Bool)
-          → eqb mask 0 ≡ b
-          → submitAnswer book user plan ledger tally ≡ cond b submitted.Admitted (submitted.Declined mask)
-      answer-is b e =
-          rw (← e, is-union) (submit-answer (submit-passes accepted))
-
-      pub submit-admitted :
-          (after : List ℕ)
-          → mask ≡ 0
-          → r .reply ≡ submitted.Admitted
-          → r .tally .admitted ≡ tally .admitted + 1
-          → r .tally .declined ≡ tally .declined
-          → after ≡ joinedFor ledger user words
-          → Promised r after
-      unfolding submitTally tallyAfter submitLedger ledgerAfter
-      submit-admitted after z er ea ed el =
-          let a = answer-is true (eq-eqb mask 0 z) in
-          promised r after (er ∙ sym a) (rw a (λ i. record { admitted = ea i; declined = ed i }))
-          (rw a (el ∙ ap (joinedFor ledger user) words-are))
-
-      pub submit-declined :
-          (mask ≡ 0 → ⊥)
-          → r .reply ≡ submitted.Declined mask
-          → r .tally .admitted ≡ tally .admitted
-          → r .tally .declined ≡ tally .declined + 1
-          → Promised r ledger
-      unfolding submitTally tallyAfter submitLedger ledgerAfter
-      submit-declined z er ea ed =
-          let a = answer-is false (ne-eqb mask 0 z) in
-          promised r ledger (er ∙ sym a) (rw a (λ i. record { admitted = ea i; declined = ed i })) (rw a)
-
--- the mask of what a user holds joined with some words
-pub mask-joined :
-    (book : List ℕ) (user : ℕ) (ledger words : List ℕ)
-    → brokenMask book user (heldBy (joinedWords (wordsOf ledger user) words))
-    ≡ brokenMask book user (union (heldFor ledger user) (heldBy words))
-unfolding heldFor
-mask-joined book user ledger words =
-    mask-same book user (heldBy (joinedWords (wordsOf ledger user) words))
-    (union (heldBy (wordsOf ledger user)) (heldBy words))
-    (λ x k.
-    held-union (wordsOf ledger user) words (joinedWords (wordsOf ledger user) words)
-    (joined-at (wordsOf ledger user) words) x)

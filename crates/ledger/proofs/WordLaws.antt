@@ -10,7 +10,7 @@ use lib.Seq.{ext-getD, getD-set-same, getD-set-other}
 use lib.Bits.{bitOr, or-zero-r}
 use lib.Dec.{eqb, ltb}
 use borrow.Author.Tests.{eq-eqb, ne-eqb, eqb-true, eqb-false, ltb-true, ltb-false}
-use Rattle.book.specs.Lists.{from, upTo}
+use Rattle.book.specs.Lists.{upTo}
 use Rattle.book.proofs.Loops.{Filled}
 use Rattle.lineage.proofs.Steps.{getD-zeros}
 use Rattle.lineage.proofs.Words.{getD-from, length-from}
@@ -26,7 +26,7 @@ module _ (g : ℕ → ℕ) (n : ℕ) where
   unfolding upTo
   mapped-at j h = getD-from g 0 n j h ∙ ap g (zero-add j)
 
-  pub mapped-length : length (map g (upTo n)) ≡ n
+  mapped-length : length (map g (upTo n)) ≡ n
   unfolding upTo
   mapped-length = length-from g 0 n
 

@@ -14,8 +14,8 @@ use Rattle.verdicts.specs.Breaking.{breaks}
 use Rattle.verdicts.specs.Semantics.{SatisfiesPolicy}
 use Rattle.verdicts.specs.Demand.{JudgeAccepted, Demand2}
 use Rattle.ledger.specs.Ledger.{Ledger, heldFor}
-use Rattle.ledger.specs.Histories.{Submission, Entry, recordsAfter, log, notRefused, entriesOf}
-use Rattle.ledger.specs.Histories.{admittedPlans}
+use Rattle.ledger.specs.Histories.{Submission, Records, Entry, recordsAfter, log, isAdmitted, isDeclined}
+use Rattle.ledger.specs.Histories.{notRefused, entriesOf, admittedPlans}
 use Rattle.ledger.specs.declared.Tally.{Tally}
 use Rattle.ledger.specs.declared.Submitted.{Submitted}
 use Rattle.ledger.specs.declared.Submitted.the-variants.{Admitted, Declined}
@@ -40,19 +40,6 @@ pub record Submits (book : Book) (user : ℕ) (query : Accesses) (reply : Submit
 
 -- Every list of submissions
 
--- the ledger and the tally that a list leaves, with one book, from fresh
-abbrev pub Leaves : Book → List Submission → Ledger → Tally → Type 0
-Leaves book list ledger tally = recordsAfter book list ≡ record { ledger = ledger; tally = tally }
-
--- a submission to what a list has left makes the list one longer; so what is promised below of every list holds after
--- every call
-abbrev pub Continues :
-    (book : Book) (user : ℕ) (plan : Plan) (before after : Ledger) (tally counted : Tally) → Type 0
-Continues book user plan before after tally counted =
-    (list : List Submission)
-    → Leaves book list before tally
-    → Leaves book (record { user = user; plan = plan } ∷ list) after counted
-
 -- an access of one of some plans
 unfoldable pub inSome : Head → List Plan → Accesses
 inSome head plans x = any (λ plan. accessesOf head plan x) plans
@@ -70,13 +57,27 @@ pub record Holds (book : Book) (user : ℕ) (held : Accesses) (own : List Entry)
   -- the same in the words of source document 000
   pub satisfies : BookAccepted book → SatisfiesPolicy book user held
 
-pub record Promise (book : Book) (list : List Submission) : Type 0 where
+-- of what is kept, and of the submissions that led to it, each with its reply
+pub record Promise (book : Book) (s : Records) (entries : List Entry) : Type 0 where
   -- the ledger stays one of 1,024 words
-  pub whole : length (recordsAfter book list .ledger) ≡ 1024
-  pub each :
-      (user : ℕ)
-      → Holds book user (heldFor (recordsAfter book list .ledger) user) (entriesOf user (log book list))
+  pub whole : length (s .ledger) ≡ 1024
+  pub each : (user : ℕ) → Holds book user (heldFor (s .ledger) user) (entriesOf user entries)
+  -- the tally "counts admitted and declined plans for all users"
+  pub admitted-count : s .tally .admitted ≡ length (keep (λ e. isAdmitted (e .reply)) entries)
+  pub declined-count : s .tally .declined ≡ length (keep (λ e. isDeclined (e .reply)) entries)
   -- "admitted + declined is the number of submissions that were not refused"
-  pub counted :
-      recordsAfter book list .tally .admitted + recordsAfter book list .tally .declined
-      ≡ length (keep (λ e. notRefused (e .reply)) (log book list))
+  pub sum : s .tally .admitted + s .tally .declined ≡ length (keep (λ e. notRefused (e .reply)) entries)
+
+-- "For every list of submissions from a fresh ledger and tally with one book"
+abbrev pub EveryList : Book → Type 0
+EveryList book = (list : List Submission) → Promise book (recordsAfter book list) (log book list)
+
+-- a submission to what a list has left is the next of that list, and keeps the promise
+abbrev pub Continues :
+    (book : Book) (user : ℕ) (plan : Plan) (before after : Ledger) (tally counted : Tally) → Type 0
+Continues book user plan before after tally counted =
+    (list : List Submission)
+    → recordsAfter book list ≡ record { ledger = before; tally = tally }
+    → (recordsAfter book (record { user = user; plan = plan } ∷ list) ≡ record { ledger = after; tally = counted })
+    × Promise book (record { ledger = after; tally = counted })
+    (log book (record { user = user; plan = plan } ∷ list))

@@ -62,6 +62,11 @@ isAdmitted Admitted = true
 isAdmitted (Declined mask) = false
 isAdmitted (Refused refusal) = false
 
+unfoldable pub isDeclined : Submitted → Bool
+isDeclined Admitted = false
+isDeclined (Declined mask) = true
+isDeclined (Refused refusal) = false
+
 unfoldable pub notRefused : Submitted → Bool
 notRefused Admitted = true
 notRefused (Declined mask) = true

@@ -84,16 +84,24 @@ pub fn read(text: &str) -> Result<Case, String> {
             book: bytes("book")?,
             rule: number("rule")?,
         }),
-        "submit" => Ok(Case::Submit(Submit {
-            book: bytes("book")?,
-            user: number("user")?,
-            plan: bytes("plan")?,
-            ledger: words(&bytes("ledger")?)?,
-            admitted: number("admitted")?,
-            declined: number("declined")?,
-        })),
+        "submit" => Ok(Case::Submit(submit(bytes, number)?)),
         other => Err(format!("no call {other}")),
     }
+}
+
+/// A submission, by its fields of bytes and of numbers.
+fn submit(
+    bytes: impl Fn(&str) -> Result<Vec<u8>, String>,
+    number: impl Fn(&str) -> Result<u32, String>,
+) -> Result<Submit, String> {
+    Ok(Submit {
+        book: bytes("book")?,
+        user: number("user")?,
+        plan: bytes("plan")?,
+        ledger: words(&bytes("ledger")?)?,
+        admitted: number("admitted")?,
+        declined: number("declined")?,
+    })
 }
 
 fn words(bytes: &[u8]) -> Result<Vec<u64>, String> {

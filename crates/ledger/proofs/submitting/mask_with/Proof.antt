@@ -1,7 +1,7 @@
 -- The joined words hold the union (`mask-joined`). Assumes nothing.
 use mathlib.Core.Path.{_∙_}
 use borrow.Author.Needs.{needs}
-use Rattle.ledger.proofs.SubmitLaws.{mask-joined}
+use Rattle.ledger.proofs.CallLaws.{mask-joined}
 use Rattle.ledger.proofs.submitting.mask_with.Statement.{statement}
 use Rattle.ledger.proofs.submitting.mask_with.Tie as tie
 

@@ -3,7 +3,8 @@
 use native.Mathlib.Omega.{arith}
 use mathlib.Core.Path.{sym, _∙_}
 use borrow.Author.Needs.{needs}
-use Rattle.ledger.proofs.SubmitLaws.{submit-accepted, submit-refused, submit-admitted, submit-declined}
+use Rattle.ledger.proofs.SubmitLaws.{submit-accepted}
+use Rattle.ledger.proofs.CallLaws.{submit-refused, submit-admitted, submit-declined}
 use Rattle.ledger.proofs.submitting.submit.Statement.{statement}
 use Rattle.ledger.proofs.submitting.submit.Tie as tie
 

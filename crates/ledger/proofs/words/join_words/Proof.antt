@@ -1,6 +1,5 @@
 -- One word a turn (`Joined`), past the ledger's end none; at the end all are joined (`join-end`). Assumes nothing.
 use Prim.Native.Nat.{_*_, _-_}
-use native.Mathlib.Omega.{arith}
 use mathlib.Core.Path.{_≡_, refl}
 use mathlib.Core.Logic.{⊎-elim}
 use borrow.Author.Needs.{needs}

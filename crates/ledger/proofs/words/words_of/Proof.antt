@@ -1,6 +1,5 @@
 -- One word a turn (`Filled`), and at the end all of them (`filled-map`). Assumes nothing.
 use Prim.Native.Nat.{_+_, _*_, _-_}
-use native.Mathlib.Omega.{arith}
 use mathlib.Core.Path.{_≡_, refl}
 use lib.ListN.{getD}
 use borrow.Author.Needs.{needs}
