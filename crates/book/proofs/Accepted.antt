@@ -16,15 +16,15 @@ use Rattle.book.specs.Rule.{referenceCount, userCategory, excludedUserCo
 use Rattle.book.specs.Rule.{dataCategory, action, exclusionCount, exclusions, restrictionMask, inLeafSet}
 use Rattle.book.specs.Blocks.{headOf, ruleAt, blockCount, ruleCount}
 use Rattle.book.specs.Tests.{Passes}
-use Rattle.book.specs.Refusals.{BookAccepted, between, bookTests, blockByBlock, blockTests, checkTests}
+use Rattle.book.specs.Refusals.{BookAccepted, bookTests, blockByBlock, blockTests, checkTests}
 use Rattle.book.specs.Refusals.{contentTests, kindTests, lengthHolds, lengthTests}
-use Rattle.book.specs.Refusals.{usersOrdered}
+use Rattle.book.specs.Refusals.{usersOrdered, isAction}
 use Rattle.book.specs.Refusals.{dataOrdered, labelHolds, labelsHold, functionsHold, ruleCounts, ruleZeros}
 use Rattle.book.specs.Refusals.{ruleCounted, userNumbersHold, referenceHolds, numbersHold, leafSetsApart}
 use Rattle.book.specs.Refusals.{referencesApart, maskAllows, maskHolds, masksHold}
 use Rattle.book.proofs.Lists.{and-left, and-right, and-both, not-holds, or-holds, all-at}
 use Rattle.book.proofs.Hierarchies.{parent-falls}
-use Rattle.book.proofs.Tests.{between-true, length-true, rule-tests}
+use Rattle.book.proofs.Tests.{length-true, rule-tests}
 use Rattle.book.proofs.Tests.{users-bound, data-bound, columns-bound, functions-bound, rule-bounds}
 use Rattle.book.proofs.Tests.{users-passed, data-passed, columns-passed, functions-passed, rule-passed}
 use Rattle.book.proofs.Answers.{append-passed, last-passed, passed-flat}
@@ -54,8 +54,7 @@ pub record RuleHolds (head rule : List ℕ) : Type 0 where
   pub users-proper :
       all (properDescendant (userCount head) (userParent head) (userCategory rule)) (excludedUsers rule) ≡ true
   pub category-within : (i : ℕ) → i < referenceCount rule → dataCategory rule i < dataCount head
-  pub action-some : (i : ℕ) → i < referenceCount rule → 1 ≤ action rule i
-  pub action-most : (i : ℕ) → i < referenceCount rule → action rule i ≤ 3
+  pub action-holds : (i : ℕ) → i < referenceCount rule → isAction (action rule i) ≡ true
   pub exclusions-proper :
       (i : ℕ)
       → i < referenceCount rule
@@ -131,7 +130,7 @@ module _ (head rule : List ℕ) where
       → (i : ℕ)
       → i < referenceCount rule
       → (dataCategory rule i < dataCount head)
-      × ((1 ≤ action rule i) × (action rule i ≤ 3))
+      × (isAction (action rule i) ≡ true)
       × (dataProper i ≡ true)
   unfolding numbersHold referenceHolds dataProper
   reference-numbers h i l =
@@ -139,9 +138,9 @@ module _ (head rule : List ℕ) where
       all-at (referenceHolds head rule) (referenceCount rule)
       (and-right (userNumbersHold head rule) (all (referenceHolds head rule) (upTo (referenceCount rule))) h) i l in
       let a =
-      and-both (ltb (dataCategory rule i) (dataCount head)) (between 1 3 (action rule i) && dataProper i) held in
-      let b = and-both (between 1 3 (action rule i)) (dataProper i) (a .1) in
-      (ltb-true (dataCategory rule i) (dataCount head) (a .0), between-true 1 3 (action rule i) (b .0), b .1)
+      and-both (ltb (dataCategory rule i) (dataCount head)) (isAction (action rule i) && dataProper i) held in
+      let b = and-both (isAction (action rule i)) (dataProper i) (a .1) in
+      (ltb-true (dataCategory rule i) (dataCount head) (a .0), b .0, b .1)
 
   leaf-sets-apart :
       referencesApart head rule ≡ true
@@ -240,8 +239,7 @@ module _ (book : List ℕ) (accepted : BookAccepted book) where
         user-within = user .0;
         users-proper = user .1;
         category-within = λ i l. numbers i l .0;
-        action-some = λ i l. numbers i l .1 .0;
-        action-most = λ i l. numbers i l .1 .1;
+        action-holds = λ i l. numbers i l .1;
         exclusions-proper = λ i l. numbers i l .2;
         apart = leaf-sets-apart head rule (passed .2);
         masks-allowed = masks-within head rule (passed .3);

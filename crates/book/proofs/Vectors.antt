@@ -9,12 +9,12 @@ use Rattle.book.specs.Sets.{has}
 use Rattle.book.specs.Hierarchies.{upwardIn, upward, under, leaf, covers, properDescendant, ownedBy, support}
 use Rattle.book.specs.Hierarchies.{parentHolds}
 use Rattle.book.specs.Head.{isUser, isDataLeaf, supportOf, supports}
-use Rattle.book.specs.Rule.{inLeafSet}
+use Rattle.book.specs.Rule.{actionOf, inLeafSet}
 use Rattle.book.specs.Blocks.{weighted, checkSum, checkHolds}
 use Rattle.book.specs.Refusals.{between, zeros, lengthHolds, kindHolds, usersCounted, dataCounted, columnsCounted}
 use Rattle.book.specs.Refusals.{functionsCounted, ruleCounts, referenceEnd, ruleZeros, ruleCounted, usersOrdered}
 use Rattle.book.specs.Refusals.{dataOrdered, labelHolds, labelsHold, functionsHold, userNumbersHold}
-use Rattle.book.specs.Refusals.{referenceHolds, numbersHold, leafSetsApart, referencesApart, maskAllows}
+use Rattle.book.specs.Refusals.{isAction, referenceHolds, numbersHold, leafSetsApart, referencesApart, maskAllows}
 use Rattle.book.specs.Refusals.{maskHolds, masksHold, lengthTests, checkTests, kindTests}
 use Rattle.book.specs.Refusals.{usersBlockTests, dataBlockTests, columnsBlockTests, functionsBlockTests}
 use Rattle.book.specs.Refusals.{ruleBlockTests, blockTests, contentTests, blockByBlock, bookTests, sealTests}
@@ -36,9 +36,9 @@ starred-checks = refl
 
 pub shop-accepted : _≡_ {A = Checked} (checkAnswer shop) (Accepted 3)
 unfolding all any upTo from has upwardIn upward under leaf covers properDescendant ownedBy support parentHolds
-    isUser isDataLeaf supportOf supports inLeafSet weighted checkSum checkHolds between zeros lengthHolds kindHolds
+    isUser isDataLeaf supportOf supports actionOf inLeafSet weighted checkSum checkHolds between zeros lengthHolds kindHolds
     usersCounted dataCounted columnsCounted functionsCounted ruleCounts referenceEnd ruleZeros ruleCounted
-    usersOrdered dataOrdered labelHolds labelsHold functionsHold userNumbersHold referenceHolds numbersHold
+    usersOrdered dataOrdered labelHolds labelsHold functionsHold userNumbersHold isAction referenceHolds numbersHold
     leafSetsApart referencesApart maskAllows maskHolds masksHold usersBlockTests dataBlockTests columnsBlockTests
     functionsBlockTests ruleBlockTests blockTests checkTests kindTests contentTests lengthTests blockByBlock bookTests
     sealTests flat firstFailing refusedOr answered checkAnswer withCheck sealBytes padded block users categories columns functions

@@ -1,6 +1,6 @@
 -- The tests of the book check, in document 01's order: "Book check", 1 to 9, and Seal's 10. Assumes nothing.
 use Prim.Native.Nat.{ℕ, zero, suc, _+_, _*_, _-_, _/_, _%_}
-use mathlib.Core.Bool.{Bool, _&&_, _||_, not, cond}
+use mathlib.Core.Bool.{Bool, true, false, _&&_, _||_, not, cond}
 use mathlib.Core.List.{List, [], _∷_, _++_}
 use lib.ListN.{length, getD, take, drop}
 use lib.Dec.{eqb, ltb, leb}
@@ -13,6 +13,8 @@ use Rattle.book.specs.Rule.{referenceCount, userCategory, excludedUserCo
 use Rattle.book.specs.Rule.{dataCategory, action, exclusionCount, exclusions, restrictionMask, inLeafSet}
 use Rattle.book.specs.Blocks.{Book, Head, Block, Rule, blockAt, headOf, blockCount, checkHolds}
 use Rattle.book.specs.Tests.{Test, Passes}
+use Rattle.book.specs.declared.Action.{Action}
+use Rattle.book.specs.declared.Action.the-variants.{Projection, Condition, Access, Unknown}
 
 -- the refusals' numbers
 abbrev pub bookLength : ℕ
@@ -125,10 +127,16 @@ userNumbersHold head rule =
     ltb (userCategory rule) (userCount head)
     && all (properDescendant (userCount head) (userParent head) (userCategory rule)) (excludedUsers rule)
 
+unfoldable pub isAction : Action → Bool
+isAction Projection = true
+isAction Condition = true
+isAction Access = true
+isAction Unknown = false
+
 unfoldable pub referenceHolds : Head → Rule → ℕ → Bool
 referenceHolds head rule i =
     ltb (dataCategory rule i) (dataCount head)
-    && (between 1 3 (action rule i)
+    && (isAction (action rule i)
     && all (properDescendant (dataCount head) (dataParent head) (dataCategory rule i)) (exclusions rule i))
 
 unfoldable pub numbersHold : Head → Rule → Bool

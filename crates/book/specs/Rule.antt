@@ -1,12 +1,14 @@
 -- A rule block, byte by byte, and what its references and its users are. `rule` is the block's 512 bytes.
 -- Assumes nothing.
-use Prim.Native.Nat.{ℕ, _+_, _*_}
+use Prim.Native.Nat.{ℕ, zero, suc, _+_, _*_}
 use mathlib.Core.Bool.{Bool, _&&_}
 use mathlib.Core.List.{List}
 use lib.ListN.{getD, take, drop}
 use Rattle.book.specs.Hierarchies.{covers}
 use Rattle.book.specs.Blocks.{Head, Rule}
 use Rattle.book.specs.Head.{userParent, dataParent, isUser, isDataLeaf}
+use Rattle.book.specs.declared.Action.{Action}
+use Rattle.book.specs.declared.Action.the-variants.{Projection, Condition, Access, Unknown}
 
 -- "Byte 1: references n, 1 to 3."
 abbrev pub referenceCount : Rule → ℕ
@@ -31,8 +33,19 @@ restrictionCount rule = getD rule 8 0
 abbrev pub dataCategory : Rule → ℕ → ℕ
 dataCategory rule i = getD rule (16 + 16 * i) 0
 
-abbrev pub action : Rule → ℕ → ℕ
-action rule i = getD rule (17 + 16 * i) 0
+abbrev pub actionByte : Rule → ℕ → ℕ
+actionByte rule i = getD rule (17 + 16 * i) 0
+
+-- "action (1 projection, 2 condition, 3 access, meaning either)", and every other number
+unfoldable pub actionOf : (byte : ℕ) → Action
+actionOf zero = Unknown
+actionOf (suc zero) = Projection
+actionOf (suc (suc zero)) = Condition
+actionOf (suc (suc (suc zero))) = Access
+actionOf (suc (suc (suc (suc n)))) = Unknown
+
+abbrev pub action : Rule → ℕ → Action
+action rule i = actionOf (actionByte rule i)
 
 abbrev pub exclusionCount : Rule → ℕ → ℕ
 exclusionCount rule i = getD rule (18 + 16 * i) 0

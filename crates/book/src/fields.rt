@@ -1,6 +1,7 @@
 // The blocks of a book, and the fields of the head blocks and of a rule block, read at any index.
 // `head` is the first four blocks of a book, `rule` one rule block; both may have any length. The
 // numbers of a book are bytes, so an index is a u8.
+use crate::Action;
 use crate::Hierarchy;
 use crate::bytes::byte_at;
 use crate::bytes::part;
@@ -136,11 +137,18 @@ pub fn data_category(rule: &[u8], i: u8) -> usize
     byte_at(rule, 16 + 16 * at)
 }
 
-pub fn action(rule: &[u8], i: u8) -> usize
-    ensures { λ r. ⌜ (r ≡ action (now (rule .entry)) i) × (r ≤ 255) ⌝ }
+// The one place where an action's byte is read.
+pub fn action(rule: &[u8], i: u8) -> Action
+    ensures { λ r. ⌜ r ≡ action (now (rule .entry)) i ⌝ }
 {
     let at = i as usize;
-    byte_at(rule, 17 + 16 * at)
+    let byte = byte_at(rule, 17 + 16 * at);
+    match byte {
+        1 => Action::Projection,
+        2 => Action::Condition,
+        3 => Action::Access,
+        _ => Action::Unknown,
+    }
 }
 
 pub fn exclusion_count(rule: &[u8], i: u8) -> usize

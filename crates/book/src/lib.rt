@@ -48,6 +48,15 @@ pub enum Hierarchy {
     Data,
 }
 
+// The actions of source document 001: access is the parent of projection and condition. A byte that
+// names none of them is unknown.
+pub enum Action {
+    Projection,
+    Condition,
+    Access,
+    Unknown,
+}
+
 // The refusals' numbers.
 pub const BOOK_LENGTH: u32 = 1;
 

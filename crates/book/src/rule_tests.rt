@@ -1,5 +1,6 @@
 // The tests 4 and 7 to 9 of a rule block. Where a test leans on what blocks 0 and 1 have passed, its
 // promise says so.
+use crate::Action;
 use crate::COUNT_OR_ZERO;
 use crate::Hierarchy;
 use crate::MASK_OPERATION;
@@ -33,7 +34,7 @@ ghost use lib.Dec.{eqb};
 ghost use Rattle.book.specs.Lists.{all, upTo};
 ghost use Rattle.book.specs.Sets.{has};
 ghost use Rattle.book.specs.Rule.{restrictionMask};
-ghost use Rattle.book.specs.Refusals.{referenceEnd, ruleCounts, ruleZeros, zeros};
+ghost use Rattle.book.specs.Refusals.{isAction, referenceEnd, ruleCounts, ruleZeros, zeros};
 ghost use Rattle.book.specs.Inner.Testing.{AllowedTold, exclusionCountsHold, MasksTold, ReferredTo};
 ghost use Rattle.book.specs.Inner.Testing.{RuleTested, UserNumbersTold};
 
@@ -107,6 +108,17 @@ fn user_numbers_hold(t: &[u64], rule: &[u8]) -> bool
     (c < count_of(t, Hierarchy::Users)) & all_proper(under_users(t, c), c, excluded_users(rule))
 }
 
+fn is_action(action: Action) -> bool
+    ensures { λ r. ⌜ r ≡ isAction action ⌝ }
+{
+    match action {
+        Action::Projection => true,
+        Action::Condition => true,
+        Action::Access => true,
+        Action::Unknown => false,
+    }
+}
+
 // What a reference says: whether its numbers hold, and its leaves.
 pub struct Referred {
     pub holds: bool,
@@ -126,7 +138,7 @@ fn read_reference(t: &[u64], rule: &[u8], i: u8) -> Referred
     let c = data_category(rule, i);
     let list = exclusions(rule, i);
     let proper = all_proper(under_data(t, c), c, list);
-    let numbers = within(1, 3, action(rule, i)) & proper;
+    let numbers = is_action(action(rule, i)) & proper;
     Referred {
         holds: (c < count_of(t, Hierarchy::Data)) & numbers,
         leaves: covered_leaves(t, Hierarchy::Data, c, list),

@@ -16,12 +16,15 @@ use Rattle.book.specs.Rule.{action, referenceCount, restrictionCount, restricti
 use Rattle.book.proofs.Lists.{and-end}
 use Rattle.book.proofs.Members.{has-cond, has-below, has-low, has-zero}
 use Rattle.lineage.proofs.Tables.{Filled}
-use Rattle.verdicts.specs.Accesses.{actionFits, fits}
+use Rattle.book.specs.declared.Action.{Action}
+use Rattle.book.specs.declared.Action.the-variants.{Projection, Condition}
+use Rattle.verdicts.specs.Actions.{actionDone, actionFits}
+use Rattle.verdicts.specs.Accesses.{fits}
 use Rattle.verdicts.specs.Inner.Words.{maskTakes}
 use Rattle.verdicts.proofs.Marks.{has-if}
 use Rattle.search.specs.Inner.Places.{accessAt, nowhere}
 use Rattle.search.specs.Inner.Table.{meets, takesAt, meetsReference, takesOperation, TableHolds}
-use Rattle.search.specs.Inner.Table.{FittingWord, FittingWords, ReferenceWords, RestrictionWord}
+use Rattle.search.specs.Inner.Table.{inChannels, ChannelWord, ChannelWords, ReferenceWords, RestrictionWord}
 use Rattle.search.specs.Inner.Table.{RuleWord, RuleWords, LeafSets}
 use Rattle.search.proofs.PlaceLaws.{has-shift}
 use Rattle.search.proofs.Fours.{four-masks, four-tests}
@@ -86,26 +89,26 @@ spread-leaves leaves i l =
 pub all-ones : (i : ℕ) → i < 64 → has 18446744073709551615 i ≡ true
 all-ones i l = has-below 64 i ∙ lt-ltb i 64 l
 
--- there are two channels
-no-channel : (a : ℕ) → actionFits a 2 ≡ false
-unfolding actionFits
-no-channel zero = refl
-no-channel (suc zero) = refl
-no-channel (suc (suc zero)) = refl
-no-channel (suc (suc (suc zero))) = refl
-no-channel (suc (suc (suc (suc a)))) = refl
+-- the channels whose accesses fit an action
+channels :
+    (named : Action) (s : ℕ)
+    → inChannels (actionFits Projection named) (actionFits Condition named) s ≡ actionFits (actionDone s) named
+unfolding inChannels actionDone actionFits
+channels named zero = refl
+channels named (suc zero) = refl
+channels named (suc (suc s)) = refl
 
 -- the words of both channels, as far as w, and the last one
-pub record Fitting (action leaves : ℕ) (words : List ℕ) (w : ℕ) : Type 0 where
+pub record Channels (leaves : ℕ) (projected tested : Bool) (words : List ℕ) (w : ℕ) : Type 0 where
   pub short : w ≤ 16
   pub size : length words ≡ 33
-  pub first : (k : ℕ) → k < w → FittingWord action leaves k (getD words k 0)
-  pub second : (k : ℕ) → k < w → FittingWord action leaves (16 + k) (getD words (16 + k) 0)
+  pub first : (k : ℕ) → k < w → ChannelWord leaves projected tested k (getD words k 0)
+  pub second : (k : ℕ) → k < w → ChannelWord leaves projected tested (16 + k) (getD words (16 + k) 0)
   pub last : getD words 32 0 ≡ 0
 
-module _ (action leaves : ℕ) where
-  pub fitting-none : (words : List ℕ) → length words ≡ 33 → getD words 32 0 ≡ 0 → Fitting action leaves words 0
-  fitting-none words size last =
+module _ (leaves : ℕ) (projected tested : Bool) where
+  pub channels-none : (words : List ℕ) → length words ≡ 33 → getD words 32 0 ≡ 0 → Channels leaves projected tested words 0
+  channels-none words size last =
       record {
         short = omega arith;
         size = size;
@@ -119,26 +122,25 @@ module _ (action leaves : ℕ) where
       (c w k word new : ℕ) (fits : Bool)
       → w < 16
       → k ≡ 16 * c + w
-      → fits ≡ actionFits action c
+      → fits ≡ inChannels projected tested c
       → ((i : ℕ) → i < 64 → has word i ≡ has (leaves / 2 ^ (4 * w)) (i / 16))
       → new ≡ cond fits word 0
-      → FittingWord action leaves k new
+      → ChannelWord leaves projected tested k new
   channel-word c w k word new fits l at e told made i s =
       let d : k / 16 ≡ c = omega arith in
       let f : k % 16 * 4 ≡ 4 * w = omega arith in
       has-if fits word new i made ∙ rw (told i s, has-shift leaves (4 * w) (i / 16), d, f, e)
 
-  pub fitting-more :
-      (words : List ℕ) (w word one two : ℕ) (projected tested : Bool)
+  pub channels-more :
+      (words : List ℕ) (w word one two : ℕ)
       → w < 16
-      → projected ≡ actionFits action 0
-      → tested ≡ actionFits action 1
       → ((i : ℕ) → i < 64 → has word i ≡ has (leaves / 2 ^ (4 * w)) (i / 16))
       → one ≡ cond projected word 0
       → two ≡ cond tested word 0
-      → Fitting action leaves words w
-      → Fitting action leaves (set (set words w one) (16 + w) two) (w + 1)
-  fitting-more words w word one two projected tested l ep et told e1 e2 old =
+      → Channels leaves projected tested words w
+      → Channels leaves projected tested (set (set words w one) (16 + w) two) (w + 1)
+  unfolding inChannels
+  channels-more words w word one two l told e1 e2 old =
       record {
         short = omega arith;
         size = length-set (set words w one) (16 + w) two ∙ length-set words w one ∙ old .size;
@@ -150,7 +152,7 @@ module _ (action leaves : ℕ) where
               q,
               getD-set-same words w one 0 (omega (arith, old .size)),
             )
-            (channel-word 0 w w word one projected l (omega arith) ep told e1))
+            (channel-word 0 w w word one projected l (omega arith) refl told e1))
             (λ (q : k < w).
             rw (
               getD-set-other (set words w one) (16 + w) k two 0 (λ z. omega arith),
@@ -162,7 +164,7 @@ module _ (action leaves : ℕ) where
             ⊎-elim
             (λ (q : k ≡ w).
             rw (q, getD-set-same (set words w one) (16 + w) two 0 (omega (arith, length-set words w one, old .size)))
-            (channel-word 1 w (16 + w) word two tested l (omega arith) et told e2))
+            (channel-word 1 w (16 + w) word two tested l (omega arith) refl told e2))
             (λ (q : k < w).
             rw (
               getD-set-other (set words w one) (16 + w) (16 + k) two 0 (λ z. omega arith),
@@ -179,10 +181,11 @@ module _ (action leaves : ℕ) where
       below : (k : ℕ) → k < w + 1 → k ≤ w
       below k m = omega arith
 
-  pub fitting-end : (words : List ℕ) (w : ℕ) → 16 ≤ w → Fitting action leaves words w → FittingWords action leaves words
-  fitting-end words w past old k l = go (ltb k 16) refl (ltb k 32) refl
+  pub channels-end : (words : List ℕ) (w : ℕ) → 16 ≤ w → Channels leaves projected tested words w → ChannelWords leaves projected tested words
+  unfolding inChannels
+  channels-end words w past old k l = go (ltb k 16) refl (ltb k 32) refl
     where
-      go : (b : Bool) → ltb k 16 ≡ b → (c : Bool) → ltb k 32 ≡ c → FittingWord action leaves k (getD words k 0)
+      go : (b : Bool) → ltb k 16 ≡ b → (c : Bool) → ltb k 32 ≡ c → ChannelWord leaves projected tested k (getD words k 0)
       go true e c f =
           let low = ltb-true k 16 e in
           old .first k (omega arith)
@@ -194,7 +197,7 @@ module _ (action leaves : ℕ) where
       go false e false f =
           let high = ltb-false k 32 f in
           let z : k ≡ 32 = omega arith in
-          λ i s. rw (z, old .last, has-zero i, no-channel action)
+          λ i s. rw (z, old .last, has-zero i)
 
 module _ (rule : List ℕ) (leaves i p : ℕ) where
   pub meets-absent : referenceCount rule ≤ i → has 18446744073709551615 (p % 64) ≡ meetsReference rule leaves i p
@@ -203,30 +206,33 @@ module _ (rule : List ℕ) (leaves i p : ℕ) where
 
   -- the place of an absent reference meets none that is there
   pub meets-word :
-      (word w a : ℕ)
+      (word w : ℕ) (named : Action) (projected tested : Bool)
       → i < referenceCount rule
-      → a ≡ action rule i
+      → named ≡ action rule i
+      → projected ≡ actionFits Projection named
+      → tested ≡ actionFits Condition named
       → p ≤ nowhere
       → p / 64 ≡ w
-      → FittingWord a leaves w word
+      → ChannelWord leaves projected tested w word
       → has word (p % 64) ≡ meetsReference rule leaves i p
-  unfolding meetsReference
-  meets-word word w a h e l at said = said (p % 64) (omega arith) ∙ go (ltb p nowhere) refl
+  unfolding meetsReference actionDone actionFits
+  meets-word word w named projected tested h e ep et l at said =
+      said (p % 64) (omega arith) ∙ rw (ep, et, channels named (w / 16), e) (go (ltb p nowhere) refl)
     where
       go :
           (b : Bool)
           → ltb p nowhere ≡ b
-          → (actionFits a (w / 16) && has leaves (w % 16 * 4 + p % 64 / 16))
+          → (actionFits (actionDone (w / 16)) (action rule i) && has leaves (w % 16 * 4 + p % 64 / 16))
           ≡ cond (ltb i (referenceCount rule))
-          (ltb p nowhere && (actionFits (action rule i) (p / 1024) && has leaves (p / 16 % 64))) true
+          (ltb p nowhere && (actionFits (actionDone (p / 1024)) (action rule i) && has leaves (p / 16 % 64))) true
       go true m =
           let d : w % 16 * 4 + p % 64 / 16 ≡ p / 16 % 64 = omega arith in
           let s : w / 16 ≡ p / 1024 = omega arith in
-          rw (lt-ltb i (referenceCount rule) h, m, d, s, e)
+          rw (lt-ltb i (referenceCount rule) h, m, d, s)
       go false m =
           let past = ltb-false p nowhere m in
           let s : w / 16 ≡ 2 = omega arith in
-          rw (lt-ltb i (referenceCount rule) h, m, s, no-channel a)
+          rw (lt-ltb i (referenceCount rule) h, m, s)
 
 module _ (rule : List ℕ) (i j p : ℕ) where
   pub takes-absent : restrictionCount rule ≤ j → has 0 (p % 64) ≡ takesOperation rule i j p

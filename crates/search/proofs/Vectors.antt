@@ -8,7 +8,7 @@ use Rattle.book.specs.Lists.{flat, all, any, upTo, from}
 use Rattle.book.specs.Sets.{has}
 use Rattle.book.specs.Hierarchies.{upwardIn, upward, under, leaf, covers, ownedBy, support}
 use Rattle.book.specs.Head.{isUser, isDataLeaf, supportOf, supports}
-use Rattle.book.specs.Rule.{coversUser, inLeafSet}
+use Rattle.book.specs.Rule.{actionOf, coversUser, inLeafSet}
 use Rattle.book.specs.Blocks.{headOf, weighted, checkSum}
 use Rattle.book.specs.Tests.{firstFailing, refusedOr, answered}
 use Rattle.book.specs.Refusals.{BookAccepted, bookTests, sealTests}
@@ -20,7 +20,8 @@ use Rattle.book.proofs.Vectors.{shop-passes}
 use Rattle.lineage.specs.Rows.{kindOf, kindAt}
 use Rattle.lineage.specs.Paths.{through, pathsBy, pathsIn, paths, labels, takes, firstOperation, carries}
 use Rattle.lineage.specs.Accesses.{reaches, gives, isAccess}
-use Rattle.verdicts.specs.Accesses.{Access, accessesOf, keep, everyAccess, actionFits, fits, fitting}
+use Rattle.verdicts.specs.Actions.{actionDone, actionFits}
+use Rattle.verdicts.specs.Accesses.{Access, accessesOf, keep, everyAccess, fits, fitting}
 use Rattle.verdicts.specs.Breaking.{choicesFrom, operations, accepts, refusesAll, someChoiceRefused, breaks}
 use Rattle.search.specs.Obtainable.{labelled, operated, canBeHad}
 use Rattle.search.specs.Choices.{Candidate, choicesOf, weight, choicesByWeight, forUsers, candidates}
@@ -77,7 +78,7 @@ unfolding firsts two averages prices all any upTo from has upwardIn upward under
     isDataLeaf supportOf supports coversUser inLeafSet weighted checkSum withCheck sealBytes answered refusedOr
     sealTests firstFailing padded block users categories columns functions rule rule0 rule1 rule2 shop kindOf kindAt
     through pathsBy pathsIn paths labels takes firstOperation carries reaches gives isAccess accessesOf flat keep
-    everyAccess actionFits fits fitting choicesFrom operations accepts refusesAll someChoiceRefused breaks labelled
+    everyAccess actionOf actionDone actionFits fits fitting choicesFrom operations accepts refusesAll someChoiceRefused breaks labelled
     operated canBeHad choicesOf weight choicesByWeight forUsers candidates lowest columnFor functionFor columnRow applyRow
     lastRow rowsOf accessRows shownFrom shownPlan breaksAlone planBreaksAlone candidateAlone firstIn firstAlone
     firstInTurn
@@ -134,7 +135,7 @@ shop-outcomes :
 unfolding cases all any upTo from has upwardIn upward under leaf covers ownedBy support isUser isDataLeaf supportOf supports
     coversUser inLeafSet weighted checkSum withCheck sealBytes answered refusedOr sealTests firstFailing padded block users categories columns functions rule
     rule0 rule1 rule2 shop kindOf kindAt through pathsBy pathsIn paths labels takes firstOperation carries reaches
-    gives isAccess accessesOf flat keep everyAccess actionFits fits fitting choicesFrom operations accepts refusesAll
+    gives isAccess accessesOf flat keep everyAccess actionOf actionDone actionFits fits fitting choicesFrom operations accepts refusesAll
     someChoiceRefused breaks labelled operated canBeHad choicesOf weight choicesByWeight forUsers candidates lowest columnFor functionFor columnRow
     applyRow lastRow rowsOf accessRows shownFrom shownPlan breaksAlone planBreaksAlone candidateAlone firstIn
     firstAlone ruleTests bufferTests idlenessOf written outcome

@@ -2,6 +2,7 @@
 // reference the places that meet it, and for each restriction the operations that it takes there,
 // four times over.
 use crate::obtaining::four;
+use book::Action;
 use book::fields::action;
 use book::fields::reference_count;
 use book::fields::restriction_count;
@@ -11,7 +12,7 @@ use book::rules::covered_users;
 use book::rules::leaf_set;
 use book::sets::word_at;
 use book::sets::word_if;
-use verdicts::breaking::action_fits;
+use verdicts::actions::action_fits;
 use verdicts::breaking::all_if_zero;
 ghost use mathlib.Core.Path.{_≡_};
 ghost use Prim.Native.Nat.{ℕ, _/_, _≤_, _<_};
@@ -19,7 +20,7 @@ ghost use lib.ListN.{length};
 ghost use Rattle.book.specs.Blocks.{headOf};
 ghost use Rattle.book.specs.Inner.Words.{HeadWords};
 ghost use Rattle.book.specs.Sets.{has};
-ghost use Rattle.search.specs.Inner.Table.{FittingWords, ReferenceWords, RestrictionWord, RuleWords, LeafSets};
+ghost use Rattle.search.specs.Inner.Table.{ChannelWords, ReferenceWords, RestrictionWord, RuleWords, LeafSets};
 ghost use Rattle.search.specs.Inner.Table.{TableHolds, CoveredWord, CoversHold};
 
 // The first four leaves of a set, each with every operation.
@@ -33,12 +34,10 @@ pub fn spread(leaves: u64) -> u64
     65535 * marks
 }
 
-// The words of the places of some leaves under an action, with every operation.
-fn fitting_words(action: usize, leaves: u64) -> [u64; 33]
-    ensures { λ r. ⌜ FittingWords action leaves r ⌝ }
+// The words of the places of some leaves, with every operation: of projections, of conditions.
+fn channel_words(leaves: u64, projected: bool, tested: bool) -> [u64; 33]
+    ensures { λ r. ⌜ ChannelWords leaves projected tested r ⌝ }
 {
-    let projected = action_fits(action, 0);
-    let tested = action_fits(action, 1);
     let mut words = [0u64; 33];
     for w in 0..16usize {
         let word = spread(leaves >> (4 * w));
@@ -55,7 +54,10 @@ fn reference_words(rule: &[u8], leaves: u64, i: u8) -> [u64; 33]
     if reference_count(rule) <= i as usize {
         return [18446744073709551615; 33];
     }
-    fitting_words(action(rule, i), leaves)
+    let named = action(rule, i);
+    let projected = action_fits(Action::Projection, named);
+    let tested = action_fits(Action::Condition, named);
+    channel_words(leaves, projected, tested)
 }
 
 // The operations that restriction j takes at reference i, four times over.

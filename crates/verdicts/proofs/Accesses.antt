@@ -13,7 +13,9 @@ use Rattle.book.specs.Hierarchies.{leaf, covers}
 use Rattle.book.specs.Head.{dataCount, dataParent, isDataLeaf}
 use Rattle.book.specs.Rule.{action, dataCategory, exclusions, inLeafSet, referenceCount}
 use Rattle.book.proofs.Lists.{and-left, and-right, and-both, any-map, map-all, any-found, same-test}
-use Rattle.verdicts.specs.Accesses.{Access, Accesses, same, everyAccess, actionFits, fits, fitting}
+use Rattle.book.specs.declared.Action.{Action}
+use Rattle.verdicts.specs.Actions.{actionDone, actionFits}
+use Rattle.verdicts.specs.Accesses.{Access, Accesses, same, everyAccess, fits, fitting}
 use Rattle.verdicts.proofs.Quantifiers.{any-flat, flat-all, any-keep, all-below, at-any}
 
 -- Accesses by their parts
@@ -93,23 +95,12 @@ in-every head x p k h =
 
 -- Actions and leaf sets
 
--- an action is about projections, conditions or both
-pub action-channel : (a s : ℕ) → actionFits a s ≡ true → s < 2
-unfolding actionFits
-action-channel zero s h = absurd (false≢true h)
-action-channel (suc zero) s h = rw (eqb-true s 0 h) (omega arith)
-action-channel (suc (suc zero)) s h = rw (eqb-true s 1 h) (omega arith)
-action-channel (suc (suc (suc zero))) s h = ltb-true s 2 h
-action-channel (suc (suc (suc (suc a)))) s h = absurd (false≢true h)
-
-pub action-other :
-    (a s : ℕ) → (a ≡ 1 → ⊥) → (a ≡ 2 → ⊥) → (a ≡ 3 → ⊥) → false ≡ actionFits a s
-unfolding actionFits
-action-other zero s p q r = refl
-action-other (suc zero) s p q r = absurd (p refl)
-action-other (suc (suc zero)) s p q r = absurd (q refl)
-action-other (suc (suc (suc zero))) s p q r = absurd (r refl)
-action-other (suc (suc (suc (suc a)))) s p q r = refl
+-- what fits some action is a projection or a condition
+pub action-channel : (s : ℕ) (named : Action) → actionFits (actionDone s) named ≡ true → s < 2
+unfolding actionDone actionFits
+action-channel zero named h = omega arith
+action-channel (suc zero) named h = omega arith
+action-channel (suc (suc s)) named h = absurd (false≢true h)
 
 pub leaf-below : (head : List ℕ) (d : ℕ) → isDataLeaf head d ≡ true → d < dataCount head
 unfolding isDataLeaf leaf
@@ -130,8 +121,9 @@ module _ (head rule : List ℕ) (i : ℕ) (x : Access) where
   pub fits-bounds : fits head rule i x ≡ true → (x .channel < 2) × (x .leaf < dataCount head)
   unfolding fits
   fits-bounds h =
-      let b = and-both (actionFits (action rule i) (x .channel)) (inLeafSet head rule i (x .leaf)) h in
-      (action-channel (action rule i) (x .channel) (b .0), leaf-set-below head rule i (x .leaf) (b .1))
+      let b =
+      and-both (actionFits (actionDone (x .channel)) (action rule i)) (inLeafSet head rule i (x .leaf)) h in
+      (action-channel (x .channel) (action rule i) (b .0), leaf-set-below head rule i (x .leaf) (b .1))
 
   pub fits-known : fits head rule i x ≡ true → x .operation < 16 → known head x ≡ true
   unfolding known
@@ -196,7 +188,7 @@ module _ (head rule : List ℕ) (apart : Apart head rule) (y : Access) where
       (λ e. rw (eqb-true i j e) at h)
     where
       leaf : (n : ℕ) → fits head rule n y ≡ true → inLeafSet head rule n (y .leaf) ≡ true
-      leaf n t = and-right (actionFits (action rule n) (y .channel)) (inLeafSet head rule n (y .leaf)) t
+      leaf n t = and-right (actionFits (actionDone (y .channel)) (action rule n)) (inLeafSet head rule n (y .leaf)) t
 
       differ : (b : Bool) → ltb i j ≡ b → (i ≡ j → ⊥) → (i < j) ⊎ (j < i)
       differ true e n = inl (ltb-true i j e)

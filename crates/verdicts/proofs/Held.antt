@@ -79,6 +79,13 @@ held-union a b c joined x =
     over true o p q = and-or o p q
     over false o p q = refl
 
+pub held-channel : (words : List ℕ) (x : Access) → heldBy words x ≡ true → x .channel < 2
+unfolding heldBy
+held-channel words x h =
+    ltb-true (x .channel) 2
+    (and-left (ltb (x .channel) 2)
+    (ltb (x .operation) 16 && has (getD words (16 * x .channel + x .operation) 0) (x .leaf)) h)
+
 pub held-operations : (words : List ℕ) (x : Access) → heldBy words x ≡ true → x .operation < 16
 unfolding heldBy
 held-operations words x h =
@@ -120,8 +127,8 @@ given-small Output s h = omega (arith, eqb-true s 0 h)
 given-small Condition s h = omega (arith, eqb-true s 1 h)
 given-small Unknown s h = absurd (false≢true h)
 
--- an accepted plan
-module _ (head plan : List ℕ) (book : HeadHolds head) (holds : PlanHolds head plan) where
+-- any plan
+module _ (head plan : List ℕ) where
   -- the row that gives an access
   given-by :
       (x : Access)
@@ -138,20 +145,27 @@ module _ (head plan : List ℕ) (book : HeadHolds head) (holds : PlanHolds head 
       let reached = reaches head plan (rowA plan (w .0)) (x .leaf) (x .operation) in
       (w .0, and-left given reached (w .1), and-right given reached (w .1))
 
+  pub plan-channel : (x : Access) → accessesOf head plan x ≡ true → x .channel < 2
+  plan-channel x h =
+      let row = given-by x h in
+      given-small (kindAt plan (row .0)) (x .channel) (row .1)
+
+-- an accepted plan
+module _ (head plan : List ℕ) (book : HeadHolds head) (holds : PlanHolds head plan) where
   pub plan-operations : (x : Access) → accessesOf head plan x ≡ true → x .operation < 16
   plan-operations x h =
-      let row = given-by x h in
+      let row = given-by head plan x h in
       had-small head (x .leaf) (x .operation) book
       (reaches-had head plan holds (rowA plan (row .0)) (x .leaf) (x .operation) (row .2))
 
   plan-bounds : (x : Access) → accessesOf head plan x ≡ true → (x .channel < 2) × (x .leaf < 64)
   plan-bounds x h =
-      let row = given-by x h in
+      let row = given-by head plan x h in
       let below =
       leaf-below head (x .leaf)
       (reaches-leaf head plan holds (rowA plan (row .0)) (x .leaf) (x .operation) book (row .2)) in
       let few = book .data-most in
-      (given-small (kindAt plan (row .0)) (x .channel) (row .1), omega arith)
+      (plan-channel head plan x h, omega arith)
 
   -- a word of a plan has members below 64 only
   word-small : (s d k : ℕ) → s < 2 → k < 16 → 64 ≤ d → has (getD (accessWords head plan) (16 * s + k) 0) d ≡ false

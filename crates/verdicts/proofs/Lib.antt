@@ -12,6 +12,8 @@ pub mod Verdict
 pub mod JudgeLaws
 pub mod DemandLaws
 pub mod Held
+pub mod ActionHierarchy
+pub mod Unchanged
 pub mod Sound
 pub mod Gate
 pub mod Vectors

@@ -1,5 +1,5 @@
 -- Accesses, and which of them fit a reference of a rule. Document 01, "Breaking a rule". Assumes nothing.
-use Prim.Native.Nat.{ℕ, zero, suc, _+_, _*_}
+use Prim.Native.Nat.{ℕ, _+_, _*_}
 use mathlib.Core.Bool.{Bool, true, false, _&&_, _||_}
 use mathlib.Core.List.{List, [], _∷_, map}
 use lib.ListN.{getD}
@@ -11,6 +11,7 @@ use Rattle.book.specs.Head.{dataCount}
 use Rattle.book.specs.Rule.{action, inLeafSet}
 use Rattle.lineage.specs.Rows.{Plan}
 use Rattle.lineage.specs.Accesses.{isAccess}
+use Rattle.verdicts.specs.Actions.{actionDone, actionFits}
 
 -- an access: 0 projection or 1 condition, a label, an operation
 pub record Access : Type 0 where
@@ -53,17 +54,9 @@ everyAccess head =
     flat (λ s. flat (λ d. map (λ k. record { channel = s; leaf = d; operation = k }) (upTo 16)) (upTo (dataCount head)))
     (upTo 2)
 
--- "1 projection, 2 condition, 3 access, meaning either"
-unfoldable pub actionFits : (action channel : ℕ) → Bool
-actionFits zero s = false
-actionFits (suc zero) s = eqb s 0
-actionFits (suc (suc zero)) s = eqb s 1
-actionFits (suc (suc (suc zero))) s = ltb s 2
-actionFits (suc (suc (suc (suc a)))) s = false
-
 -- "with fitting action and covered leaf"
 unfoldable pub fits : (head : Head) (rule : Rule) (reference : ℕ) → Access → Bool
-fits head rule i x = actionFits (action rule i) (x .channel) && inLeafSet head rule i (x .leaf)
+fits head rule i x = actionFits (actionDone (x .channel)) (action rule i) && inLeafSet head rule i (x .leaf)
 
 -- the accesses of a set that fit reference i
 unfoldable pub fitting : (head : Head) (rule : Rule) → Accesses → (reference : ℕ) → List Access

@@ -1,4 +1,6 @@
+pub mod Actions
 pub mod Accesses
+pub mod ActionCases
 pub mod Breaking
 pub mod Semantics
 pub mod Demand

@@ -1,5 +1,7 @@
 // One rule against a set of accesses, given as 32 words: for each reference the operations with
 // which some access of the set fits it, and then at most 256 choices of the first two.
+use crate::actions::action_fits;
+use book::Action;
 use book::fields::action;
 use book::fields::reference_count;
 use book::fields::restriction_count;
@@ -12,20 +14,9 @@ ghost use mathlib.Core.Bool.{_&&_};
 ghost use Prim.Native.Nat.{ℕ, _<_};
 ghost use lib.Dec.{ltb};
 ghost use Rattle.book.specs.Sets.{has};
-ghost use Rattle.verdicts.specs.Accesses.{actionFits, heldBy};
+ghost use Rattle.verdicts.specs.Accesses.{heldBy};
 ghost use Rattle.verdicts.specs.Inner.Words.{maskTakes, OfferedIfSound, RefusedIfSound};
 ghost use Rattle.verdicts.specs.Inner.Words.{Beside, refusedBeside, someRefused, TakenIfWhole};
-
-pub fn action_fits(action: usize, channel: usize) -> bool
-    ensures { λ r. ⌜ r ≡ actionFits action channel ⌝ }
-{
-    match action {
-        1 => channel == 0,
-        2 => channel == 1,
-        3 => channel < 2,
-        _ => false,
-    }
-}
 
 // The operations with which some access of the words fits reference i; of an absent reference,
 // operation 0 alone.
@@ -36,9 +27,9 @@ fn offered(t: &[u64], rule: &[u8], words: [u64; 32], i: u8) -> u64
         return 1;
     }
     let leaves = leaf_set(t, rule, i);
-    let wanted = action(rule, i);
-    let projected = word_if(action_fits(wanted, 0), leaves);
-    let tested = word_if(action_fits(wanted, 1), leaves);
+    let named = action(rule, i);
+    let projected = word_if(action_fits(Action::Projection, named), leaves);
+    let tested = word_if(action_fits(Action::Condition, named), leaves);
     let mut found = 0u64;
     for k in 0..16usize {
         let met = (words[k] & projected) | (words[16 + k] & tested);

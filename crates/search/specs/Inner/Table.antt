@@ -1,8 +1,8 @@
 -- The tables of the search: 128 words for each rule, and what they say of the book. No call's promise leans on this
 -- file. Assumes nothing.
-use Prim.Native.Nat.{ℕ, _+_, _-_, _*_, _/_, _%_, _≤_, _<_}
+use Prim.Native.Nat.{ℕ, zero, suc, _+_, _-_, _*_, _/_, _%_, _≤_, _<_}
 use mathlib.Core.Path.{_≡_}
-use mathlib.Core.Bool.{Bool, true, _&&_, cond}
+use mathlib.Core.Bool.{Bool, true, false, _&&_, cond}
 use mathlib.Core.List.{List}
 use lib.ListN.{getD}
 use lib.Dec.{eqb, ltb}
@@ -11,7 +11,8 @@ use Rattle.book.specs.Sets.{has, WordOf}
 use Rattle.book.specs.Blocks.{headOf, ruleAt}
 use Rattle.book.specs.Head.{functionCount, operation}
 use Rattle.book.specs.Rule.{action, referenceCount, restrictionCount, restrictionMask, coversUser, inLeafSet}
-use Rattle.verdicts.specs.Accesses.{actionFits, fits}
+use Rattle.verdicts.specs.Actions.{actionDone, actionFits}
+use Rattle.verdicts.specs.Accesses.{fits}
 use Rattle.verdicts.specs.Inner.Words.{maskTakes}
 use Rattle.search.specs.Obtainable.{labelled, operated, canBeHad}
 use Rattle.search.specs.Inner.Places.{accessAt, nowhere}
@@ -28,7 +29,7 @@ takesAt t q i j p = has (getD t (128 * q + 99 + 8 * i + j) 0) (p % 64)
 unfoldable pub meetsReference : List ℕ → ℕ → ℕ → ℕ → Bool
 meetsReference rule leaves i p =
     cond (ltb i (referenceCount rule))
-    (ltb p nowhere && (actionFits (action rule i) (p / 1024) && has leaves (p / 16 % 64))) true
+    (ltb p nowhere && (actionFits (actionDone (p / 1024)) (action rule i) && has leaves (p / 16 % 64))) true
 
 -- the operation of a place against restriction j of a rule
 unfoldable pub takesOperation : List ℕ → ℕ → ℕ → ℕ → Bool
@@ -40,13 +41,20 @@ takesOperation rule i j p = ltb j (restrictionCount rule) && maskTakes (restrict
 abbrev pub inFour : ℕ → ℕ → ℕ → ℕ → ℕ → Bool
 inFour a b c d i = has (cond (ltb i 16) a (cond (ltb i 32) b (cond (ltb i 48) c d))) (i % 16)
 
--- word w of the places of some leaves under an action, with every operation
-abbrev pub FittingWord : ℕ → ℕ → ℕ → ℕ → Type 0
-FittingWord action leaves w word =
-    (i : ℕ) → i < 64 → has word i ≡ (actionFits action (w / 16) && has leaves (w % 16 * 4 + i / 16))
+-- projections, conditions or both: channel s is among them
+unfoldable pub inChannels : (projected tested : Bool) (channel : ℕ) → Bool
+inChannels projected tested zero = projected
+inChannels projected tested (suc zero) = tested
+inChannels projected tested (suc (suc s)) = false
 
-abbrev pub FittingWords : ℕ → ℕ → List ℕ → Type 0
-FittingWords action leaves words = (w : ℕ) → w < 33 → FittingWord action leaves w (getD words w 0)
+-- word w of the places of some leaves in these channels, with every operation
+abbrev pub ChannelWord : ℕ → Bool → Bool → ℕ → ℕ → Type 0
+ChannelWord leaves projected tested w word =
+    (i : ℕ) → i < 64 → has word i ≡ (inChannels projected tested (w / 16) && has leaves (w % 16 * 4 + i / 16))
+
+abbrev pub ChannelWords : ℕ → Bool → Bool → List ℕ → Type 0
+ChannelWords leaves projected tested words =
+    (w : ℕ) → w < 33 → ChannelWord leaves projected tested w (getD words w 0)
 
 -- word w of the places that meet reference i of a rule
 abbrev pub ReferenceWord : List ℕ → ℕ → ℕ → ℕ → ℕ → Type 0

@@ -36,8 +36,8 @@ returns-2 c head w =
         ← (category .data-category .ensures .0),
         ← (list .exclusions .ensures),
         ← all,
-        ← (action .action .ensures .0),
-        ← (c .before .before .within .ensures),
+        ← (action .action .ensures),
+        ← (c .before .before .is-action .ensures),
         ← (n .ensures head (w .words)),
       ),
       λ d.

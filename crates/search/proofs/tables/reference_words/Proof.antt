@@ -15,11 +15,22 @@ returns c w l p h e =
 
 returns-2 : tie.Need-returns-2
 returns-2 c w l p h e =
-    let a = c .before .before .before .before .before .args in
-    let wanted = c .before .action in
-    meets-word (a .rule .now) (a .leaves) (a .i) p (getD (c .fitting-words .result) w 0) w (wanted .result)
-    (omega arith) (wanted .ensures .0) h e (c .fitting-words .ensures w l)
+    let a = c .before .before .before .before .before .before .before .args in
+    let tested = c .before .action-fits2 in
+    let projected = c .before .before .action-fits in
+    let named = c .before .before .before .action in
+    meets-word (a .rule .now) (a .leaves) (a .i) p (getD (c .channel-words .result) w 0) w (named .result)
+    (projected .result) (tested .result) (omega arith) (named .ensures) (projected .ensures) (tested .ensures) h e
+    (c .channel-words .ensures w l)
 
 pub reference-words-spec : {M : Type 1} → statement M
 reference-words-spec =
-    tie.close (tie.spec (λ c κs. search needs) returns (λ c κs. search needs) (λ c κs. search needs) returns-2)
+    tie.close
+    (tie.spec
+    (λ c κs. search needs)
+    returns
+    (λ c κs. search needs)
+    (λ c κs. search needs)
+    (λ c κs. search needs)
+    (λ c κs. search needs)
+    returns-2)

@@ -15,11 +15,11 @@ use Rattle.verdicts.proofs.breaking.offered.Statement.{statement}
 use Rattle.verdicts.proofs.breaking.offered.Tie as tie
 
 abbrev Inv-loop : tie.InvT-loop
-Inv-loop t rule i words leaves wanted projected tested found₀ k₀ found k =
+Inv-loop t rule i words leaves projected tested found₀ k₀ found k =
     (k ≤ 16) × ((head : Head) → HeadWords head t → RuleSound head rule → Marks (offers head rule (heldBy words) i) k found)
 
 abbrev μ-loop : tie.MeasureT-loop
-μ-loop t rule i words leaves wanted projected tested found₀ k₀ found k = 16 - k
+μ-loop t rule i words leaves projected tested found₀ k₀ found k = 16 - k
 
 returns : tie.Need-returns Inv-loop μ-loop
 returns c head held sound k =
@@ -42,7 +42,7 @@ loop-again c =
     let second = made .before .action-fits2 in
     let projected = made .before .before .word-if in
     let first = made .before .before .before .action-fits in
-    let wanted = made .before .before .before .before .action in
+    let named = made .before .before .before .before .action in
     let leaves = made .before .before .before .before .before .leaf-set in
     let a = made .before .before .before .before .before .before .before .before .before .before .args in (
       search needs,
@@ -57,7 +57,7 @@ loop-again c =
           (l .inv .1 head held sound) (one .ensures) (c .word-if3 .ensures)
           (offers-met head (a .rule .now) (a .t3) (a .i) (l .k) small (leaves .result) (projected .result)
           (tested .result) (first .result) (second .result) (sound .leaves) (leaves .ok) (leaves .ensures head held)
-          (rw (wanted .ensures .0) at (first .ensures)) (rw (wanted .ensures .0) at (second .ensures))
+          (rw (named .ensures) at (first .ensures)) (rw (named .ensures) at (second .ensures))
           (projected .ensures) (tested .ensures)),
     )
 
