@@ -5,7 +5,6 @@ use mathlib.Core.Path.{_≡_, refl}
 use borrow.Author.Tests.{le-leb, lt-leb}
 use Rattle.book.specs.Rule.{actionOf}
 use Rattle.book.specs.Refusals.{between, isAction}
-use Rattle.book.specs.declared.Action.{Action}
 use Rattle.book.specs.declared.Action.the-variants.{Unknown}
 
 pub action-other : (n : ℕ) → (n ≡ 1 → ⊥) → (n ≡ 2 → ⊥) → (n ≡ 3 → ⊥) → actionOf n ≡ Unknown
