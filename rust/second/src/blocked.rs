@@ -6,7 +6,7 @@ use crate::alike::{self, Candidate};
 use crate::book::Book;
 use crate::breaking::broken;
 use crate::choice;
-use crate::rule::{Reference, Rule};
+use crate::rule::{action_fits, Reference, Rule};
 use std::collections::BTreeSet;
 
 /// What an association has for one reference: "one covered leaf that some column carries, and one
@@ -44,7 +44,7 @@ pub fn data(book: &Book, reference: &Reference) -> Vec<Datum> {
     };
     let fitting = ACTIONS
         .into_iter()
-        .filter(|action| reference.actions.contains(action));
+        .filter(|&action| action_fits(action, reference.action));
     fitting.flat_map(of).collect()
 }
 

@@ -5,7 +5,7 @@ use crate::book::Book;
 use crate::hierarchy::Hierarchy;
 use crate::operation::{self, Operation};
 use crate::refusal::*;
-use crate::rule::{actions, Reference, Restriction, Rule};
+use crate::rule::{Reference, Restriction, Rule, RuleAction};
 use std::collections::BTreeSet;
 use std::ops::{Range, RangeInclusive};
 
@@ -206,8 +206,8 @@ fn covered(all: &Hierarchy, category: usize, excluded: Vec<usize>) -> Option<BTr
 /// meaning either), excluded categories 0 to 8, then their list."
 fn reference(block: &[u8], start: usize, data: &Hierarchy) -> Option<Reference> {
     let leaves = covered(data, number(block, start), list(block, start + 2))?;
-    let actions = actions(block[start + 1])?;
-    Some(Reference { actions, leaves })
+    let action = RuleAction::of(block[start + 1])?;
+    Some(Reference { action, leaves })
 }
 
 /// "The leaf sets of a rule's references share no leaf; an empty set is allowed."
