@@ -1,7 +1,7 @@
 //! Rules made from a rule: equal to it, stronger, weaker, several that cover it together, several
 //! that can't all be kept with it, or some that stop a part of its data where they are raw.
 
-use crate::draft::{below, leaves, under, Draft, Reference, Rule};
+use crate::draft::{below, leaves, under, Draft, Reference, Rule, ACCESS, CONDITION, PROJECTION};
 use crate::random::Random;
 
 /// One or more relatives of a rule, all sound where the rule is.
@@ -111,7 +111,7 @@ fn by_action(random: &mut Random, rule: &Rule) -> Vec<Rule> {
         new.references[place].action = action;
         new
     };
-    vec![with(1), with(2)]
+    vec![with(PROJECTION), with(CONDITION)]
 }
 
 /// One rule for each child of a reference's category.
@@ -190,7 +190,7 @@ fn patches(random: &mut Random, draft: &Draft, rule: &Rule) -> Vec<Rule> {
     let mut rules = Vec::new();
     for _ in 0..random.between(1, 3) {
         let leaf = random.pick(&leaves);
-        let action = random.one(&[1, 2]);
+        let action = random.one(&[PROJECTION, CONDITION]);
         rules.extend(leaf.map(|leaf| patch(leaf, action)));
     }
     rules
@@ -227,7 +227,7 @@ fn deal_out(random: &mut Random, draft: &Draft, rule: &Rule) -> Vec<Rule> {
 pub fn raw_stopped(random: &mut Random, draft: &Draft, rule: &Rule) -> Vec<Rule> {
     let mut wide = rule.clone();
     wide.restrictions.truncate(random.below(2));
-    wide.references.iter_mut().for_each(|of| of.action = 3);
+    wide.references.iter_mut().for_each(|of| of.action = ACCESS);
     let mut rules = Vec::new();
     for place in 0..wide.references.len() {
         let part = early_part(random, draft, &keep(&wide, &[place]));
@@ -283,7 +283,7 @@ fn early_part(random: &mut Random, draft: &Draft, rule: &Rule) -> Rule {
             part.user = low.unwrap_or(rule.user);
             part.excluded.clear();
         }
-        _ => of.action = 1,
+        _ => of.action = PROJECTION,
     }
     part
 }

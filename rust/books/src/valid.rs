@@ -1,6 +1,6 @@
 //! Random books that are to be accepted.
 
-use crate::draft::{below, leaves, under, Draft, Reference, Rule};
+use crate::draft::{below, leaves, under, Draft, Reference, Rule, ACCESS, CONDITION, PROJECTION};
 use crate::random::Random;
 use crate::relatives;
 
@@ -259,7 +259,7 @@ fn reference(random: &mut Random, draft: &Draft, earlier: &[Reference]) -> Refer
     excluded.truncate(8);
     Reference {
         category,
-        action: random.one(&[1, 2, 3, 3]),
+        action: random.one(&[PROJECTION, CONDITION, ACCESS, ACCESS]),
         excluded,
     }
 }
