@@ -3,7 +3,8 @@
 //! That the rule is broken is the engine's word. What breaks it is found here by a second look, which
 //! decides nothing.
 
-use crate::contents::{Contents, Reference, Rule};
+use crate::action::RuleAction;
+use crate::contents::{Contents, Rule};
 use crate::hierarchy::leaves;
 use pspec::{Access, Action};
 
@@ -15,8 +16,9 @@ pub fn breaking(rule: &Rule, contents: &Contents, accesses: &[Access]) -> Vec<Ve
         .iter()
         .map(|reference| {
             let leaves = leaves(&contents.parents(), reference.category, &reference.excluded);
-            let fits =
-                |access: &&Access| acts(reference, **access) && leaves.contains(&access.leaf);
+            let fits = |access: &&Access| {
+                acts(access.action, reference.action) && leaves.contains(&access.leaf)
+            };
             accesses.iter().filter(fits).copied().collect()
         })
         .collect();
@@ -28,11 +30,15 @@ pub fn breaking(rule: &Rule, contents: &Contents, accesses: &[Access]) -> Vec<Ve
     fitting.iter().zip(taking_part).map(taken).collect()
 }
 
-/// Does an access have the action of a reference?
-fn acts(reference: &Reference, access: Access) -> bool {
-    match access.action {
-        Action::Projection => reference.action != 2,
-        Action::Condition => reference.action != 1,
+/// Does an access of this action fit a rule's action? Like fits like, and both fit access.
+fn acts(action: Action, named: RuleAction) -> bool {
+    match (action, named) {
+        (Action::Projection, RuleAction::Projection) => true,
+        (Action::Projection, RuleAction::Condition) => false,
+        (Action::Projection, RuleAction::Access) => true,
+        (Action::Condition, RuleAction::Projection) => false,
+        (Action::Condition, RuleAction::Condition) => true,
+        (Action::Condition, RuleAction::Access) => true,
     }
 }
 
@@ -60,4 +66,20 @@ fn operations(rule: &Rule, fitting: &[Vec<Access>]) -> [u16; 3] {
         }
     }
     part
+}
+
+#[cfg(test)]
+mod tests {
+    use super::*;
+
+    #[test]
+    fn the_six_cases() {
+        let [projection, condition] = [Action::Projection, Action::Condition];
+        assert!(acts(projection, RuleAction::Projection));
+        assert!(!acts(projection, RuleAction::Condition));
+        assert!(acts(projection, RuleAction::Access));
+        assert!(!acts(condition, RuleAction::Projection));
+        assert!(acts(condition, RuleAction::Condition));
+        assert!(acts(condition, RuleAction::Access));
+    }
 }

@@ -1,5 +1,6 @@
 //! What a book says, by its numbers, and its blocks.
 
+use crate::action::RuleAction;
 use pspec::{seal, Book, Refusal, BLOCK};
 
 /// The most operations that a book has.
@@ -45,12 +46,12 @@ pub struct Rule {
 }
 
 /// A reference of a rule.
-#[derive(Clone, Debug, Default, PartialEq, Eq)]
+#[derive(Clone, Debug, PartialEq, Eq)]
 pub struct Reference {
     /// The data category.
     pub category: u8,
-    /// 1 projection, 2 condition, 3 access.
-    pub action: u8,
+    /// The action that it names.
+    pub action: RuleAction,
     /// The excluded categories.
     pub excluded: Vec<u8>,
 }
@@ -142,7 +143,7 @@ impl Rule {
             .zip(block[16..64].chunks_exact_mut(16))
         {
             place[0] = reference.category;
-            place[1] = reference.action;
+            place[1] = reference.action.byte();
             put_list(&mut place[2..], &reference.excluded);
         }
         for (masks, place) in self
@@ -171,9 +172,10 @@ impl Rule {
 
 impl Reference {
     fn read(place: &[u8]) -> Reference {
+        let action = RuleAction::of_byte(place[1]);
         Reference {
             category: place[0],
-            action: place[1],
+            action: action.expect("the book is accepted"),
             excluded: list(&place[2..]),
         }
     }

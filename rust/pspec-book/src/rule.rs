@@ -7,13 +7,11 @@
 //!
 //! A rule is written on one line. Restrictions are joined by `or`; `=> forbid` has none.
 
+use crate::action::RuleAction;
 use crate::contents::{bits, Reference, Rule, OPERATIONS};
 use crate::mistake::{mistake, Mistake};
 use crate::names::Names;
 use crate::text::{is_name, Cursor, Line};
-
-/// The actions; the first has number 1.
-const ACTIONS: [&str; 3] = ["projection", "condition", "access"];
 
 /// What is expected where a category stands.
 const USER: &str = "a user category that the policy names";
@@ -112,8 +110,7 @@ fn references(cursor: &mut Cursor, names: &Names) -> Result<Vec<Reference>, Mist
 fn reference(cursor: &mut Cursor, names: &Names) -> Result<Reference, Mistake> {
     let wrong = cursor.found("projection, condition or access");
     let word = cursor.name("projection, condition or access")?;
-    let action = ACTIONS.iter().position(|&action| action == word);
-    let action = action.ok_or(wrong)? as u8 + 1;
+    let action = RuleAction::of_word(word).ok_or(wrong)?;
     let lower = cursor.known(&names.data, DATA)?;
     let mut excluded = Vec::new();
     if cursor.take("exclude") {
@@ -226,7 +223,7 @@ fn with_excluded(category: u8, excluded: &[u8], list: &[String]) -> String {
 
 /// The text of a reference.
 pub fn reference_text(reference: &Reference, names: &Names) -> String {
-    let action = ACTIONS[usize::from(reference.action) - 1];
+    let action = reference.action.word();
     let data = with_excluded(reference.category, &reference.excluded, &names.data);
     format!("{action} {data}")
 }

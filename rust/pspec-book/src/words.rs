@@ -1,5 +1,6 @@
 //! Rules and accesses as sentences, for who does not read the notation.
 
+use crate::action::RuleAction;
 use crate::contents::{bits, Reference, Rule};
 use crate::hierarchy::is_leaf;
 use crate::named::NamedBook;
@@ -53,9 +54,9 @@ fn references(rule: &Rule, names: &Names) -> String {
     let mut groups: Vec<(&str, Vec<String>)> = Vec::new();
     for of in &rule.references {
         let verb = match of.action {
-            1 => "put out",
-            2 => "decide by",
-            _ => "use",
+            RuleAction::Projection => "put out",
+            RuleAction::Condition => "decide by",
+            RuleAction::Access => "use",
         };
         add(&mut groups, verb, data(of, names));
     }
