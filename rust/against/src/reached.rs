@@ -1,5 +1,6 @@
 //! What was reached.
 
+use crate::actions::{verdict_depends, PAIRS};
 use crate::answer::Answer;
 use crate::engine::unpacked;
 use books::draft::BLOCK;
@@ -52,6 +53,8 @@ pub struct Reached {
     pub closed_by_several: u64,
     /// Judged plans that break some rule.
     pub broken: u64,
+    /// Judged plans whose verdict depends on each of [`PAIRS`].
+    pub pairs: [u64; 6],
     /// Submitted plans that are admitted.
     pub admitted: u64,
     /// Submitted plans that are declined.
@@ -85,15 +88,24 @@ impl Reached {
                 *self.refusals.entry(of).or_default() += 1;
             }
             Answer::Needed(user, rows) => self.count_needed(case, user, rows),
-            Answer::Broken(mask) if mask != 0 => self.broken += 1,
+            Answer::Broken(mask) => self.count_judged(case, mask),
             Answer::GaveUp => self.given_up += 1,
             Answer::Idle => self.count_idle(case),
             Answer::Open => self.open += 1,
             Answer::Closed(value) => self.count_closed(case, value),
             Answer::Admitted => self.admitted += 1,
             Answer::Declined(_) => self.count_declined(case),
-            Answer::Rules(_) | Answer::Done | Answer::Broken(_) => {}
+            Answer::Rules(_) | Answer::Done => {}
             Answer::NotIdle | Answer::NotClosed | Answer::Stated(_) => {}
+        }
+    }
+
+    fn count_judged(&mut self, case: &Case, mask: u32) {
+        self.broken += u64::from(mask != 0);
+        if let Case::Judge { book, user, plan } = case {
+            let depends = verdict_depends(book, *user as usize, plan);
+            let pairs = self.pairs.iter_mut().zip(depends.unwrap_or_default());
+            pairs.for_each(|(n, depends)| *n += u64::from(depends));
         }
     }
 
@@ -136,6 +148,13 @@ impl Reached {
             let alone = second::judge(&given.book, given.user, &given.plan);
             self.declined_for_held += u64::from(alone == Ok(0));
         }
+    }
+
+    /// The verdicts that depend on each pair, in words.
+    fn by_pair(&self) -> String {
+        let each = PAIRS.iter().zip(self.pairs);
+        let each = each.map(|((action, named), n)| format!("{action:?} against {named:?}: {n}"));
+        each.collect::<Vec<_>>().join(", ")
     }
 
     /// How often a refusal was reached, by any call.
@@ -238,6 +257,7 @@ impl fmt::Display for Reached {
             write!(f, " {number}: {}", self.refused(number))?;
         }
         writeln!(f, "\nplans that break a rule: {}", self.broken)?;
+        writeln!(f, "verdicts that depend on {}", self.by_pair())?;
         write!(
             f,
             "rules: {} needed ({} with fewer functions than document 01's order shows), \

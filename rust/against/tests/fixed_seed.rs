@@ -37,6 +37,7 @@ fn no_difference_and_everything_reached() {
         reached.mixed_histories,
     ];
     assert!(often.iter().all(|&n| n >= 5), "{reached}");
+    assert!(reached.pairs.iter().all(|&n| n >= 5), "{reached}");
     assert!(reached.fewer_functions * 100 > reached.needed, "{reached}");
     assert_eq!(reached.refusals_of("blocked"), BLOCKED_REFUSALS);
     assert_eq!(reached.refusals_of("submit"), SUBMIT_REFUSALS);
