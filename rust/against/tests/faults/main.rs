@@ -1,16 +1,20 @@
 //! Faulty engines: the random cases tell each from the second implementation, and what is printed
 //! of a difference shows it again.
 
+mod actions;
 mod base;
 mod blocked;
 mod order;
 mod submit;
 
+use against::actions::PAIRS;
 use against::engine::{Blocking, Idleness, Search, Second, STEPS};
 use against::run::try_case;
 use against::{run, text, Difference, Engine, Limit, Reached};
 use books::submissions::Submit;
-use second::Refusal;
+use second::access::Access;
+use second::book::Book;
+use second::{shown, Refusal};
 use std::fmt::Debug;
 
 const GOOD: Second = Second {
@@ -85,6 +89,15 @@ impl<F: Faulty> Engine for FaultyEngine<F> {
     }
 }
 
+/// What Idle answers where it shows a user and a choice; the plan is written to the buffer's front.
+fn show(book: &Book, found: (usize, Vec<Access>), buffer: &mut [u8]) -> (u32, u32) {
+    let (user, choice) = found;
+    let rows = shown::plan(book, &choice);
+    let plan = shown::bytes(&rows);
+    buffer[..plan.len()].copy_from_slice(&plan);
+    (user as u32, rows.len() as u32)
+}
+
 fn is_found_and_shown_again(fault: impl Faulty + Copy + Debug) {
     let engines: [&dyn Engine; 2] = [&FaultyEngine(fault), &GOOD];
     let mut cases = 0;
@@ -107,6 +120,15 @@ fn assert_shown_again(engines: [&dyn Engine; 2], difference: &Difference) {
 #[test]
 fn each_fault_is_found_and_shown_again() {
     base::FAULTS.into_iter().for_each(is_found_and_shown_again);
+}
+
+#[test]
+fn each_fault_of_actions_is_found_and_shown_again() {
+    for pair in PAIRS {
+        is_found_and_shown_again(actions::InJudge(pair));
+        is_found_and_shown_again(actions::InIdle(pair));
+        is_found_and_shown_again(actions::InBlocked(pair));
+    }
 }
 
 #[test]

@@ -1,12 +1,12 @@
 //! Faults of the order in which Idle takes its choices (document 02, N2).
 
-use crate::{Faulty, GOOD};
+use crate::{show, Faulty, GOOD};
 use against::engine::Idleness;
 use against::Engine;
 use second::access::{Access, Action};
 use second::book::Book;
 use second::idle::functions;
-use second::{breaking, choice, idle, reading, shown};
+use second::{breaking, choice, idle, reading};
 use std::collections::BTreeSet;
 
 #[derive(Clone, Copy, Debug, PartialEq, Eq)]
@@ -44,14 +44,11 @@ impl Faulty for Fault {
             return Some(answer);
         };
         let book = reading::read(book).expect("it is accepted");
-        let Some((user, choice)) = self.first(alone(&book, rule as usize)) else {
+        let Some(first) = self.first(alone(&book, rule as usize)) else {
             return Some(answer);
         };
-        let rows = shown::plan(&book, &choice);
-        let plan = shown::bytes(&rows);
         buffer.copy_from_slice(&before);
-        buffer[..plan.len()].copy_from_slice(&plan);
-        Some(Ok(Some((user as u32, rows.len() as u32))))
+        Some(Ok(Some(show(&book, first, buffer))))
     }
 }
 
