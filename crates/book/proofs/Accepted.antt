@@ -18,7 +18,7 @@ use Rattle.book.specs.Blocks.{headOf, ruleAt, blockCount, ruleCount}
 use Rattle.book.specs.Tests.{Passes}
 use Rattle.book.specs.Refusals.{BookAccepted, bookTests, blockByBlock, blockTests, checkTests}
 use Rattle.book.specs.Refusals.{contentTests, kindTests, lengthHolds, lengthTests}
-use Rattle.book.specs.Refusals.{usersOrdered, isAction}
+use Rattle.book.specs.Refusals.{usersOrdered, namesAction}
 use Rattle.book.specs.Refusals.{dataOrdered, labelHolds, labelsHold, functionsHold, ruleCounts, ruleZeros}
 use Rattle.book.specs.Refusals.{ruleCounted, userNumbersHold, referenceHolds, numbersHold, leafSetsApart}
 use Rattle.book.specs.Refusals.{referencesApart, maskAllows, maskHolds, masksHold}
@@ -54,7 +54,7 @@ pub record RuleHolds (head rule : List ℕ) : Type 0 where
   pub users-proper :
       all (properDescendant (userCount head) (userParent head) (userCategory rule)) (excludedUsers rule) ≡ true
   pub category-within : (i : ℕ) → i < referenceCount rule → dataCategory rule i < dataCount head
-  pub action-holds : (i : ℕ) → i < referenceCount rule → isAction (action rule i) ≡ true
+  pub action-holds : (i : ℕ) → i < referenceCount rule → namesAction (action rule i) ≡ true
   pub exclusions-proper :
       (i : ℕ)
       → i < referenceCount rule
@@ -130,7 +130,7 @@ module _ (head rule : List ℕ) where
       → (i : ℕ)
       → i < referenceCount rule
       → (dataCategory rule i < dataCount head)
-      × (isAction (action rule i) ≡ true)
+      × (namesAction (action rule i) ≡ true)
       × (dataProper i ≡ true)
   unfolding numbersHold referenceHolds dataProper
   reference-numbers h i l =
@@ -138,8 +138,8 @@ module _ (head rule : List ℕ) where
       all-at (referenceHolds head rule) (referenceCount rule)
       (and-right (userNumbersHold head rule) (all (referenceHolds head rule) (upTo (referenceCount rule))) h) i l in
       let a =
-      and-both (ltb (dataCategory rule i) (dataCount head)) (isAction (action rule i) && dataProper i) held in
-      let b = and-both (isAction (action rule i)) (dataProper i) (a .1) in
+      and-both (ltb (dataCategory rule i) (dataCount head)) (namesAction (action rule i) && dataProper i) held in
+      let b = and-both (namesAction (action rule i)) (dataProper i) (a .1) in
       (ltb-true (dataCategory rule i) (dataCount head) (a .0), b .0, b .1)
 
   leaf-sets-apart :

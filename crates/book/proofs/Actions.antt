@@ -4,10 +4,10 @@ use native.Mathlib.Omega.{arith}
 use mathlib.Core.Path.{_≡_, refl}
 use borrow.Author.Tests.{le-leb, lt-leb}
 use Rattle.book.specs.Rule.{actionOf}
-use Rattle.book.specs.Refusals.{between, isAction}
-use Rattle.book.specs.declared.Action.the-variants.{Unknown}
+use Rattle.book.specs.Refusals.{between, namesAction}
+use Rattle.book.specs.declared.ActionByte.the-variants.{NamesNone}
 
-pub action-other : (n : ℕ) → (n ≡ 1 → ⊥) → (n ≡ 2 → ⊥) → (n ≡ 3 → ⊥) → actionOf n ≡ Unknown
+pub action-other : (n : ℕ) → (n ≡ 1 → ⊥) → (n ≡ 2 → ⊥) → (n ≡ 3 → ⊥) → actionOf n ≡ NamesNone
 unfolding actionOf
 action-other zero p q r = refl
 action-other (suc zero) p q r = absurd (p refl)
@@ -16,8 +16,8 @@ action-other (suc (suc (suc zero))) p q r = absurd (r refl)
 action-other (suc (suc (suc (suc n)))) p q r = refl
 
 -- refusal 7 by the byte: it names an action exactly when it is 1 to 3
-pub action-number : (n : ℕ) → isAction (actionOf n) ≡ between 1 3 n
-unfolding actionOf isAction between
+pub action-number : (n : ℕ) → namesAction (actionOf n) ≡ between 1 3 n
+unfolding actionOf namesAction between
 action-number zero = refl
 action-number (suc zero) = refl
 action-number (suc (suc zero)) = refl

@@ -13,8 +13,8 @@ use Rattle.book.specs.Rule.{referenceCount, userCategory, excludedUserCo
 use Rattle.book.specs.Rule.{dataCategory, action, exclusionCount, exclusions, restrictionMask, inLeafSet}
 use Rattle.book.specs.Blocks.{Book, Head, Block, Rule, blockAt, headOf, blockCount, checkHolds}
 use Rattle.book.specs.Tests.{Test, Passes}
-use Rattle.book.specs.declared.Action.{Action}
-use Rattle.book.specs.declared.Action.the-variants.{Projection, Condition, Access, Unknown}
+use Rattle.book.specs.declared.ActionByte.{ActionByte}
+use Rattle.book.specs.declared.ActionByte.the-variants.{Names, NamesNone}
 
 -- the refusals' numbers
 abbrev pub bookLength : ℕ
@@ -127,16 +127,14 @@ userNumbersHold head rule =
     ltb (userCategory rule) (userCount head)
     && all (properDescendant (userCount head) (userParent head) (userCategory rule)) (excludedUsers rule)
 
-unfoldable pub isAction : Action → Bool
-isAction Projection = true
-isAction Condition = true
-isAction Access = true
-isAction Unknown = false
+unfoldable pub namesAction : ActionByte → Bool
+namesAction (Names action) = true
+namesAction NamesNone = false
 
 unfoldable pub referenceHolds : Head → Rule → ℕ → Bool
 referenceHolds head rule i =
     ltb (dataCategory rule i) (dataCount head)
-    && (isAction (action rule i)
+    && (namesAction (action rule i)
     && all (properDescendant (dataCount head) (dataParent head) (dataCategory rule i)) (exclusions rule i))
 
 unfoldable pub numbersHold : Head → Rule → Bool

@@ -7,8 +7,9 @@ use lib.ListN.{getD, take, drop}
 use Rattle.book.specs.Hierarchies.{covers}
 use Rattle.book.specs.Blocks.{Head, Rule}
 use Rattle.book.specs.Head.{userParent, dataParent, isUser, isDataLeaf}
-use Rattle.book.specs.declared.Action.{Action}
-use Rattle.book.specs.declared.Action.the-variants.{Projection, Condition, Access, Unknown}
+use Rattle.book.specs.declared.Action.the-variants.{Projection, Condition, Access}
+use Rattle.book.specs.declared.ActionByte.{ActionByte}
+use Rattle.book.specs.declared.ActionByte.the-variants.{Names, NamesNone}
 
 -- "Byte 1: references n, 1 to 3."
 abbrev pub referenceCount : Rule → ℕ
@@ -33,19 +34,19 @@ restrictionCount rule = getD rule 8 0
 abbrev pub dataCategory : Rule → ℕ → ℕ
 dataCategory rule i = getD rule (16 + 16 * i) 0
 
-abbrev pub actionByte : Rule → ℕ → ℕ
-actionByte rule i = getD rule (17 + 16 * i) 0
+abbrev pub actionNumber : Rule → ℕ → ℕ
+actionNumber rule i = getD rule (17 + 16 * i) 0
 
--- "action (1 projection, 2 condition, 3 access, meaning either)", and every other number
-unfoldable pub actionOf : (byte : ℕ) → Action
-actionOf zero = Unknown
-actionOf (suc zero) = Projection
-actionOf (suc (suc zero)) = Condition
-actionOf (suc (suc (suc zero))) = Access
-actionOf (suc (suc (suc (suc n)))) = Unknown
+-- "action (1 projection, 2 condition, 3 access, meaning either)"; every other number names none
+unfoldable pub actionOf : ℕ → ActionByte
+actionOf zero = NamesNone
+actionOf (suc zero) = Names Projection
+actionOf (suc (suc zero)) = Names Condition
+actionOf (suc (suc (suc zero))) = Names Access
+actionOf (suc (suc (suc (suc n)))) = NamesNone
 
-abbrev pub action : Rule → ℕ → Action
-action rule i = actionOf (actionByte rule i)
+abbrev pub action : Rule → ℕ → ActionByte
+action rule i = actionOf (actionNumber rule i)
 
 abbrev pub exclusionCount : Rule → ℕ → ℕ
 exclusionCount rule i = getD rule (18 + 16 * i) 0

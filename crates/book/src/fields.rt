@@ -2,6 +2,7 @@
 // `head` is the first four blocks of a book, `rule` one rule block; both may have any length. The
 // numbers of a book are bytes, so an index is a u8.
 use crate::Action;
+use crate::ActionByte;
 use crate::Hierarchy;
 use crate::bytes::byte_at;
 use crate::bytes::part;
@@ -138,16 +139,16 @@ pub fn data_category(rule: &[u8], i: u8) -> usize
 }
 
 // The one place where an action's byte is read.
-pub fn action(rule: &[u8], i: u8) -> Action
+pub fn action(rule: &[u8], i: u8) -> ActionByte
     ensures { λ r. ⌜ r ≡ action (now (rule .entry)) i ⌝ }
 {
     let at = i as usize;
     let byte = byte_at(rule, 17 + 16 * at);
     match byte {
-        1 => Action::Projection,
-        2 => Action::Condition,
-        3 => Action::Access,
-        _ => Action::Unknown,
+        1 => ActionByte::Names(Action::Projection),
+        2 => ActionByte::Names(Action::Condition),
+        3 => ActionByte::Names(Action::Access),
+        _ => ActionByte::NamesNone,
     }
 }
 

@@ -48,13 +48,17 @@ pub enum Hierarchy {
     Data,
 }
 
-// The actions of source document 001: access is the parent of projection and condition. A byte that
-// names none of them is unknown.
+// The actions of source document 001: access is the parent of projection and condition.
 pub enum Action {
     Projection,
     Condition,
     Access,
-    Unknown,
+}
+
+// What the action byte of a reference says.
+pub enum ActionByte {
+    Names(Action),
+    NamesNone,
 }
 
 // The refusals' numbers.

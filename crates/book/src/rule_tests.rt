@@ -1,6 +1,6 @@
 // The tests 4 and 7 to 9 of a rule block. Where a test leans on what blocks 0 and 1 have passed, its
 // promise says so.
-use crate::Action;
+use crate::ActionByte;
 use crate::COUNT_OR_ZERO;
 use crate::Hierarchy;
 use crate::MASK_OPERATION;
@@ -34,7 +34,7 @@ ghost use lib.Dec.{eqb};
 ghost use Rattle.book.specs.Lists.{all, upTo};
 ghost use Rattle.book.specs.Sets.{has};
 ghost use Rattle.book.specs.Rule.{restrictionMask};
-ghost use Rattle.book.specs.Refusals.{isAction, referenceEnd, ruleCounts, ruleZeros, zeros};
+ghost use Rattle.book.specs.Refusals.{namesAction, referenceEnd, ruleCounts, ruleZeros, zeros};
 ghost use Rattle.book.specs.Inner.Testing.{AllowedTold, exclusionCountsHold, MasksTold, ReferredTo};
 ghost use Rattle.book.specs.Inner.Testing.{RuleTested, UserNumbersTold};
 
@@ -108,14 +108,12 @@ fn user_numbers_hold(t: &[u64], rule: &[u8]) -> bool
     (c < count_of(t, Hierarchy::Users)) & all_proper(under_users(t, c), c, excluded_users(rule))
 }
 
-fn is_action(action: Action) -> bool
-    ensures { λ r. ⌜ r ≡ isAction action ⌝ }
+fn names_action(byte: ActionByte) -> bool
+    ensures { λ r. ⌜ r ≡ namesAction byte ⌝ }
 {
-    match action {
-        Action::Projection => true,
-        Action::Condition => true,
-        Action::Access => true,
-        Action::Unknown => false,
+    match byte {
+        ActionByte::Names(_) => true,
+        ActionByte::NamesNone => false,
     }
 }
 
@@ -138,7 +136,7 @@ fn read_reference(t: &[u64], rule: &[u8], i: u8) -> Referred
     let c = data_category(rule, i);
     let list = exclusions(rule, i);
     let proper = all_proper(under_data(t, c), c, list);
-    let numbers = is_action(action(rule, i)) & proper;
+    let numbers = names_action(action(rule, i)) & proper;
     Referred {
         holds: (c < count_of(t, Hierarchy::Data)) & numbers,
         leaves: covered_leaves(t, Hierarchy::Data, c, list),

@@ -13,7 +13,7 @@ use Rattle.book.specs.Blocks.{weighted, checkSum, checkHolds}
 use Rattle.book.specs.Refusals.{between, zeros, lengthHolds, kindHolds, usersCounted, dataCounted, columnsCounted}
 use Rattle.book.specs.Refusals.{functionsCounted, ruleCounts, referenceEnd, ruleZeros, ruleCounted, usersOrdered}
 use Rattle.book.specs.Refusals.{dataOrdered, labelHolds, labelsHold, functionsHold, userNumbersHold}
-use Rattle.book.specs.Refusals.{isAction, referenceHolds, numbersHold, leafSetsApart, referencesApart, maskAllows}
+use Rattle.book.specs.Refusals.{namesAction, referenceHolds, numbersHold, leafSetsApart, referencesApart, maskAllows}
 use Rattle.book.specs.Refusals.{maskHolds, masksHold, lengthTests, checkTests, kindTests}
 use Rattle.book.specs.Refusals.{usersBlockTests, dataBlockTests, columnsBlockTests, functionsBlockTests}
 use Rattle.book.specs.Refusals.{ruleBlockTests, blockTests, contentTests, blockByBlock, bookTests, sealTests}
@@ -25,7 +25,7 @@ use Rattle.lineage.specs.Paths.{through, pathsBy, pathsIn, paths, labels, takes
 use Rattle.lineage.specs.Accesses.{reaches, gives, isAccess, wordOf, accessWords}
 use Rattle.lineage.specs.Answers.{planLengthHolds, rowTests, planTests}
 use Rattle.lineage.proofs.Vectors.{output, plan, state, price, avg}
-use Rattle.verdicts.specs.Actions.{actionDone, actionFits}
+use Rattle.verdicts.specs.Actions.{actionFits, channelFits}
 use Rattle.verdicts.specs.Accesses.{accessesOf, heldBy, union, keep, everyAccess, fits, fitting}
 use Rattle.verdicts.specs.Breaking.{choicesFrom, operations, accepts, refusesAll, someChoiceRefused, breaks}
 use Rattle.verdicts.specs.Breaking.{brokenMask}
@@ -70,13 +70,13 @@ pub shop-days :
 unfolding days submissions plan all any upTo from has upwardIn upward under leaf covers properDescendant ownedBy support
     parentHolds isUser isDataLeaf supportOf supports coversUser inLeafSet weighted checkSum checkHolds between zeros
     lengthHolds kindHolds usersCounted dataCounted columnsCounted functionsCounted ruleCounts referenceEnd ruleZeros
-    ruleCounted usersOrdered dataOrdered labelHolds labelsHold functionsHold userNumbersHold isAction referenceHolds
+    ruleCounted usersOrdered dataOrdered labelHolds labelsHold functionsHold userNumbersHold namesAction referenceHolds
     numbersHold leafSetsApart referencesApart maskAllows maskHolds masksHold usersBlockTests dataBlockTests
     columnsBlockTests functionsBlockTests ruleBlockTests blockTests checkTests kindTests contentTests lengthTests
     blockByBlock bookTests sealTests firstFailing refusedOr answered withCheck sealBytes padded block users categories
     columns functions rule rule0 rule1 rule2 shop kindOf kindAt isValue names soundAs rowHolds planLengthHolds
     rowTests planTests through pathsBy pathsIn paths labels takes firstOperation carries reaches gives isAccess
-    wordOf accessesOf flat keep everyAccess actionOf actionDone actionFits fits fitting choicesFrom operations accepts refusesAll
+    wordOf accessesOf flat keep everyAccess actionOf actionFits channelFits fits fitting choicesFrom operations accepts refusesAll
     someChoiceRefused breaks brokenMask userTests judgeTests
     accessWords heldBy union wordsOf heldFor joinedFor ledgerTests countsHold tallyTests submitTests joinedAccesses
     unionMask submitAnswer ledgerAfter submitLedger tallyAfter submitTally replyTo next recordsAfter log

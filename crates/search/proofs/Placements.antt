@@ -12,7 +12,7 @@ use Rattle.book.specs.Blocks.{headOf, ruleAt}
 use Rattle.book.specs.Rule.{inLeafSet, action, referenceCount, restrictionCount, restrictionMask}
 use Rattle.book.proofs.Lists.{and-true, and-right, and-both, and-or, or-left, or-right, same-test}
 use Rattle.book.proofs.Lists.{any-same, any-append, any-from-same, any-one}
-use Rattle.verdicts.specs.Actions.{actionDone, actionFits}
+use Rattle.verdicts.specs.Actions.{channelFits}
 use Rattle.verdicts.specs.Accesses.{Access, Accesses, fits, members, same}
 use Rattle.verdicts.specs.Inner.Words.{RuleSound, beside, maskTakes, offersOrNone}
 use Rattle.verdicts.specs.Breaking.{someChoiceRefused}
@@ -561,9 +561,9 @@ module _
           let g = sj .1 (omega arith) .1 in
           let z = accessAt p in
           apart i j (z .leaf) li lj
-          (and-right (actionFits (actionDone (z .channel)) (action (ruleAt book q) i))
+          (and-right (channelFits (z .channel) (action (ruleAt book q) i))
           (inLeafSet (headOf book) (ruleAt book q) i (z .leaf)) f)
-          (and-right (actionFits (actionDone (z .channel)) (action (ruleAt book q) j))
+          (and-right (channelFits (z .channel) (action (ruleAt book q) j))
           (inLeafSet (headOf book) (ruleAt book q) j (z .leaf)) g)
 
       -- a place for an absent reference

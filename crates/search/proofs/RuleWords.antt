@@ -13,12 +13,12 @@ use borrow.Author.Tests.{eqb-true, eqb-false, lt-ltb, le-ltb, ltb-true, ltb-fals
 use Rattle.book.specs.Sets.{has, WordOf}
 use Rattle.book.specs.Blocks.{headOf, ruleAt}
 use Rattle.book.specs.Rule.{action, referenceCount, restrictionCount, restrictionMask, inLeafSet}
+use Rattle.book.specs.declared.ActionByte.{ActionByte}
+use Rattle.book.specs.declared.ActionByte.the-variants.{Names, NamesNone}
 use Rattle.book.proofs.Lists.{and-end}
 use Rattle.book.proofs.Members.{has-cond, has-below, has-low, has-zero}
 use Rattle.lineage.proofs.Tables.{Filled}
-use Rattle.book.specs.declared.Action.{Action}
-use Rattle.book.specs.declared.Action.the-variants.{Projection, Condition}
-use Rattle.verdicts.specs.Actions.{actionDone, actionFits}
+use Rattle.verdicts.specs.Actions.{channelFits}
 use Rattle.verdicts.specs.Accesses.{fits}
 use Rattle.verdicts.specs.Inner.Words.{maskTakes}
 use Rattle.verdicts.proofs.Marks.{has-if}
@@ -90,13 +90,18 @@ pub all-ones : (i : ℕ) → i < 64 → has 18446744073709551615 i ≡ true
 all-ones i l = has-below 64 i ∙ lt-ltb i 64 l
 
 -- the channels whose accesses fit an action
-channels :
-    (named : Action) (s : ℕ)
-    → inChannels (actionFits Projection named) (actionFits Condition named) s ≡ actionFits (actionDone s) named
-unfolding inChannels actionDone actionFits
-channels named zero = refl
-channels named (suc zero) = refl
-channels named (suc (suc s)) = refl
+channels : (byte : ActionByte) (s : ℕ) → inChannels (channelFits 0 byte) (channelFits 1 byte) s ≡ channelFits s byte
+unfolding inChannels channelFits
+channels byte zero = refl
+channels byte (suc zero) = refl
+channels (Names action) (suc (suc s)) = refl
+channels NamesNone (suc (suc s)) = refl
+
+-- there are two
+no-channel : (byte : ActionByte) → channelFits 2 byte ≡ false
+unfolding channelFits
+no-channel (Names action) = refl
+no-channel NamesNone = refl
 
 -- the words of both channels, as far as w, and the last one
 pub record Channels (leaves : ℕ) (projected tested : Bool) (words : List ℕ) (w : ℕ) : Type 0 where
@@ -206,25 +211,25 @@ module _ (rule : List ℕ) (leaves i p : ℕ) where
 
   -- the place of an absent reference meets none that is there
   pub meets-word :
-      (word w : ℕ) (named : Action) (projected tested : Bool)
+      (word w : ℕ) (byte : ActionByte) (projected tested : Bool)
       → i < referenceCount rule
-      → named ≡ action rule i
-      → projected ≡ actionFits Projection named
-      → tested ≡ actionFits Condition named
+      → byte ≡ action rule i
+      → projected ≡ channelFits 0 byte
+      → tested ≡ channelFits 1 byte
       → p ≤ nowhere
       → p / 64 ≡ w
       → ChannelWord leaves projected tested w word
       → has word (p % 64) ≡ meetsReference rule leaves i p
-  unfolding meetsReference actionDone actionFits
-  meets-word word w named projected tested h e ep et l at said =
-      said (p % 64) (omega arith) ∙ rw (ep, et, channels named (w / 16), e) (go (ltb p nowhere) refl)
+  unfolding meetsReference
+  meets-word word w byte projected tested h e ep et l at said =
+      said (p % 64) (omega arith) ∙ rw (ep, et, channels byte (w / 16), e) (go (ltb p nowhere) refl)
     where
       go :
           (b : Bool)
           → ltb p nowhere ≡ b
-          → (actionFits (actionDone (w / 16)) (action rule i) && has leaves (w % 16 * 4 + p % 64 / 16))
+          → (channelFits (w / 16) (action rule i) && has leaves (w % 16 * 4 + p % 64 / 16))
           ≡ cond (ltb i (referenceCount rule))
-          (ltb p nowhere && (actionFits (actionDone (p / 1024)) (action rule i) && has leaves (p / 16 % 64))) true
+          (ltb p nowhere && (channelFits (p / 1024) (action rule i) && has leaves (p / 16 % 64))) true
       go true m =
           let d : w % 16 * 4 + p % 64 / 16 ≡ p / 16 % 64 = omega arith in
           let s : w / 16 ≡ p / 1024 = omega arith in
@@ -232,7 +237,7 @@ module _ (rule : List ℕ) (leaves i p : ℕ) where
       go false m =
           let past = ltb-false p nowhere m in
           let s : w / 16 ≡ 2 = omega arith in
-          rw (lt-ltb i (referenceCount rule) h, m, s)
+          rw (lt-ltb i (referenceCount rule) h, m, s, no-channel (action rule i))
 
 module _ (rule : List ℕ) (i j p : ℕ) where
   pub takes-absent : restrictionCount rule ≤ j → has 0 (p % 64) ≡ takesOperation rule i j p

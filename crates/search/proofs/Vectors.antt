@@ -20,7 +20,7 @@ use Rattle.book.proofs.Vectors.{shop-passes}
 use Rattle.lineage.specs.Rows.{kindOf, kindAt}
 use Rattle.lineage.specs.Paths.{through, pathsBy, pathsIn, paths, labels, takes, firstOperation, carries}
 use Rattle.lineage.specs.Accesses.{reaches, gives, isAccess}
-use Rattle.verdicts.specs.Actions.{actionDone, actionFits}
+use Rattle.verdicts.specs.Actions.{actionFits, channelFits}
 use Rattle.verdicts.specs.Accesses.{Access, accessesOf, keep, everyAccess, fits, fitting}
 use Rattle.verdicts.specs.Breaking.{choicesFrom, operations, accepts, refusesAll, someChoiceRefused, breaks}
 use Rattle.search.specs.Obtainable.{labelled, operated, canBeHad}
@@ -78,7 +78,7 @@ unfolding firsts two averages prices all any upTo from has upwardIn upward under
     isDataLeaf supportOf supports coversUser inLeafSet weighted checkSum withCheck sealBytes answered refusedOr
     sealTests firstFailing padded block users categories columns functions rule rule0 rule1 rule2 shop kindOf kindAt
     through pathsBy pathsIn paths labels takes firstOperation carries reaches gives isAccess accessesOf flat keep
-    everyAccess actionOf actionDone actionFits fits fitting choicesFrom operations accepts refusesAll someChoiceRefused breaks labelled
+    everyAccess actionOf actionFits channelFits fits fitting choicesFrom operations accepts refusesAll someChoiceRefused breaks labelled
     operated canBeHad choicesOf weight choicesByWeight forUsers candidates lowest columnFor functionFor columnRow applyRow
     lastRow rowsOf accessRows shownFrom shownPlan breaksAlone planBreaksAlone candidateAlone firstIn firstAlone
     firstInTurn
@@ -135,7 +135,7 @@ shop-outcomes :
 unfolding cases all any upTo from has upwardIn upward under leaf covers ownedBy support isUser isDataLeaf supportOf supports
     coversUser inLeafSet weighted checkSum withCheck sealBytes answered refusedOr sealTests firstFailing padded block users categories columns functions rule
     rule0 rule1 rule2 shop kindOf kindAt through pathsBy pathsIn paths labels takes firstOperation carries reaches
-    gives isAccess accessesOf flat keep everyAccess actionOf actionDone actionFits fits fitting choicesFrom operations accepts refusesAll
+    gives isAccess accessesOf flat keep everyAccess actionOf actionFits channelFits fits fitting choicesFrom operations accepts refusesAll
     someChoiceRefused breaks labelled operated canBeHad choicesOf weight choicesByWeight forUsers candidates lowest columnFor functionFor columnRow
     applyRow lastRow rowsOf accessRows shownFrom shownPlan breaksAlone planBreaksAlone candidateAlone firstIn
     firstAlone ruleTests bufferTests idlenessOf written outcome

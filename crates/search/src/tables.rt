@@ -2,7 +2,6 @@
 // reference the places that meet it, and for each restriction the operations that it takes there,
 // four times over.
 use crate::obtaining::four;
-use book::Action;
 use book::fields::action;
 use book::fields::reference_count;
 use book::fields::restriction_count;
@@ -12,7 +11,8 @@ use book::rules::covered_users;
 use book::rules::leaf_set;
 use book::sets::word_at;
 use book::sets::word_if;
-use verdicts::actions::action_fits;
+use verdicts::actions::Channel;
+use verdicts::actions::channel_fits;
 use verdicts::breaking::all_if_zero;
 ghost use mathlib.Core.Path.{_≡_};
 ghost use Prim.Native.Nat.{ℕ, _/_, _≤_, _<_};
@@ -55,8 +55,8 @@ fn reference_words(rule: &[u8], leaves: u64, i: u8) -> [u64; 33]
         return [18446744073709551615; 33];
     }
     let named = action(rule, i);
-    let projected = action_fits(Action::Projection, named);
-    let tested = action_fits(Action::Condition, named);
+    let projected = channel_fits(Channel::Projection, named);
+    let tested = channel_fits(Channel::Condition, named);
     channel_words(leaves, projected, tested)
 }
 

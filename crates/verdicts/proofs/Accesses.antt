@@ -12,9 +12,13 @@ use Rattle.book.specs.Lists.{flat, any, all, upTo}
 use Rattle.book.specs.Hierarchies.{leaf, covers}
 use Rattle.book.specs.Head.{dataCount, dataParent, isDataLeaf}
 use Rattle.book.specs.Rule.{action, dataCategory, exclusions, inLeafSet, referenceCount}
-use Rattle.book.proofs.Lists.{and-left, and-right, and-both, any-map, map-all, any-found, same-test}
 use Rattle.book.specs.declared.Action.{Action}
-use Rattle.verdicts.specs.Actions.{actionDone, actionFits}
+use Rattle.book.specs.declared.ActionByte.{ActionByte}
+use Rattle.book.specs.declared.ActionByte.the-variants.{Names, NamesNone}
+use Rattle.book.proofs.Lists.{and-left, and-right, and-both, any-map, map-all, any-found, same-test}
+use Rattle.verdicts.specs.declared.actions.Channel.{Channel}
+use Rattle.verdicts.specs.declared.actions.Channel.the-variants as done
+use Rattle.verdicts.specs.Actions.{actionFits, channelFits, numberOf}
 use Rattle.verdicts.specs.Accesses.{Access, Accesses, same, everyAccess, fits, fitting}
 use Rattle.verdicts.proofs.Quantifiers.{any-flat, flat-all, any-keep, all-below, at-any}
 
@@ -95,12 +99,18 @@ in-every head x p k h =
 
 -- Actions and leaf sets
 
+pub names-fits : (does : Channel) (action : Action) → channelFits (numberOf does) (Names action) ≡ actionFits does action
+unfolding channelFits
+names-fits done.Projection action = refl
+names-fits done.Condition action = refl
+
 -- what fits some action is a projection or a condition
-pub action-channel : (s : ℕ) (named : Action) → actionFits (actionDone s) named ≡ true → s < 2
-unfolding actionDone actionFits
-action-channel zero named h = omega arith
-action-channel (suc zero) named h = omega arith
-action-channel (suc (suc s)) named h = absurd (false≢true h)
+pub action-channel : (s : ℕ) (byte : ActionByte) → channelFits s byte ≡ true → s < 2
+unfolding channelFits
+action-channel zero byte h = omega arith
+action-channel (suc zero) byte h = omega arith
+action-channel (suc (suc s)) (Names action) h = absurd (false≢true h)
+action-channel (suc (suc s)) NamesNone h = absurd (false≢true h)
 
 pub leaf-below : (head : List ℕ) (d : ℕ) → isDataLeaf head d ≡ true → d < dataCount head
 unfolding isDataLeaf leaf
@@ -121,8 +131,7 @@ module _ (head rule : List ℕ) (i : ℕ) (x : Access) where
   pub fits-bounds : fits head rule i x ≡ true → (x .channel < 2) × (x .leaf < dataCount head)
   unfolding fits
   fits-bounds h =
-      let b =
-      and-both (actionFits (actionDone (x .channel)) (action rule i)) (inLeafSet head rule i (x .leaf)) h in
+      let b = and-both (channelFits (x .channel) (action rule i)) (inLeafSet head rule i (x .leaf)) h in
       (action-channel (x .channel) (action rule i) (b .0), leaf-set-below head rule i (x .leaf) (b .1))
 
   pub fits-known : fits head rule i x ≡ true → x .operation < 16 → known head x ≡ true
@@ -188,7 +197,7 @@ module _ (head rule : List ℕ) (apart : Apart head rule) (y : Access) where
       (λ e. rw (eqb-true i j e) at h)
     where
       leaf : (n : ℕ) → fits head rule n y ≡ true → inLeafSet head rule n (y .leaf) ≡ true
-      leaf n t = and-right (actionFits (actionDone (y .channel)) (action rule n)) (inLeafSet head rule n (y .leaf)) t
+      leaf n t = and-right (channelFits (y .channel) (action rule n)) (inLeafSet head rule n (y .leaf)) t
 
       differ : (b : Bool) → ltb i j ≡ b → (i ≡ j → ⊥) → (i < j) ⊎ (j < i)
       differ true e n = inl (ltb-true i j e)

@@ -17,8 +17,7 @@ use Rattle.book.specs.Rule.{action, inLeafSet, referenceCount}
 use Rattle.book.proofs.Lists.{and-true, and-left, and-right, and-both, and-second, and-assoc, and-over, same-test}
 use Rattle.book.proofs.Lists.{any-both}
 use Rattle.book.proofs.Members.{has-or, has-and, single-in}
-use Rattle.book.specs.declared.Action.the-variants.{Projection, Condition}
-use Rattle.verdicts.specs.Actions.{actionDone, actionFits}
+use Rattle.verdicts.specs.Actions.{channelFits}
 use Rattle.verdicts.specs.Accesses.{Access, Accesses, fits, fitting, heldBy}
 use Rattle.verdicts.specs.Inner.Words.{offers, offersOrNone, Offered}
 use Rattle.verdicts.proofs.Quantifiers.{at-any, any-at, any-witness, any-two}
@@ -127,23 +126,23 @@ module _ (head rule words : List ℕ) (i k : ℕ) (small : k < 16) where
   -- what the words of k hold of leaf d, in the channels that fit
   held : ℕ → Bool
   held d =
-      has (getD words k 0) d && actionFits Projection (action rule i)
-      || has (getD words (16 + k) 0) d && actionFits Condition (action rule i)
+      has (getD words k 0) d && channelFits 0 (action rule i)
+      || has (getD words (16 + k) 0) d && channelFits 1 (action rule i)
 
   by-word : (d : ℕ) → (by 0 d || by 1 d) ≡ (held d && inLeafSet head rule i d)
-  unfolding by held heldBy fits actionDone
+  unfolding by held heldBy fits
   by-word d =
       rw (
         lt-ltb k 16 small,
         zero-add k,
-        ← (and-assoc (has (getD words k 0) d) (actionFits Projection (action rule i)) (inLeafSet head rule i d)),
-        ← (and-assoc (has (getD words (16 + k) 0) d) (actionFits Condition (action rule i)) (inLeafSet head rule i d)),
+        ← (and-assoc (has (getD words k 0) d) (channelFits 0 (action rule i)) (inLeafSet head rule i d)),
+        ← (and-assoc (has (getD words (16 + k) 0) d) (channelFits 1 (action rule i)) (inLeafSet head rule i d)),
         and-over,
       )
 
   module _ (leaves projected tested : ℕ) (p q : Bool)
       (few : dataCount head ≤ 64) (word : leaves < 2 ^ 64) (covered : WordOf (inLeafSet head rule i) leaves)
-      (ep : p ≡ actionFits Projection (action rule i)) (eq : q ≡ actionFits Condition (action rule i))
+      (ep : p ≡ channelFits 0 (action rule i)) (eq : q ≡ channelFits 1 (action rule i))
       (first : projected ≡ cond p leaves 0) (second : tested ≡ cond q leaves 0) where
     abbrev met : ℕ
     met = bitOr (bitAnd (getD words k 0) projected) (bitAnd (getD words (16 + k) 0) tested)
@@ -171,8 +170,8 @@ module _ (head rule words : List ℕ) (i k : ℕ) (small : k < 16) where
           lt-ltb d 64 l,
           ep,
           eq,
-          ← (and-assoc (has (getD words k 0) d) (actionFits Projection (action rule i)) (inLeafSet head rule i d)),
-          ← (and-assoc (has (getD words (16 + k) 0) d) (actionFits Condition (action rule i)) (inLeafSet head rule i d)),
+          ← (and-assoc (has (getD words k 0) d) (channelFits 0 (action rule i)) (inLeafSet head rule i d)),
+          ← (and-assoc (has (getD words (16 + k) 0) d) (channelFits 1 (action rule i)) (inLeafSet head rule i d)),
           and-over,
         )
         (sym (by-word d))

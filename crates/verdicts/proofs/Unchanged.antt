@@ -7,7 +7,7 @@ use mathlib.Core.Bool.{Bool, false}
 use lib.Dec.{eqb, ltb}
 use borrow.Author.Tests.{ne-eqb, le-ltb}
 use Rattle.book.specs.Rule.{actionOf}
-use Rattle.verdicts.specs.Actions.{actionDone, actionFits}
+use Rattle.verdicts.specs.Actions.{actionFits, channelFits}
 
 -- the test as it was
 unfoldable pub fitsByNumber : (byte channel : ℕ) → Bool
@@ -17,8 +17,8 @@ fitsByNumber (suc (suc zero)) s = eqb s 1
 fitsByNumber (suc (suc (suc zero))) s = ltb s 2
 fitsByNumber (suc (suc (suc (suc n)))) s = false
 
-pub unchanged : (byte s : ℕ) → actionFits (actionDone s) (actionOf byte) ≡ fitsByNumber byte s
-unfolding fitsByNumber actionFits actionDone actionOf
+pub unchanged : (byte s : ℕ) → channelFits s (actionOf byte) ≡ fitsByNumber byte s
+unfolding fitsByNumber actionFits channelFits actionOf
 unchanged zero zero = refl
 unchanged zero (suc zero) = refl
 unchanged zero (suc (suc s)) = refl

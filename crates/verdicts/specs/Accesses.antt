@@ -11,7 +11,7 @@ use Rattle.book.specs.Head.{dataCount}
 use Rattle.book.specs.Rule.{action, inLeafSet}
 use Rattle.lineage.specs.Rows.{Plan}
 use Rattle.lineage.specs.Accesses.{isAccess}
-use Rattle.verdicts.specs.Actions.{actionDone, actionFits}
+use Rattle.verdicts.specs.Actions.{channelFits}
 
 -- an access: 0 projection or 1 condition, a label, an operation
 pub record Access : Type 0 where
@@ -56,7 +56,7 @@ everyAccess head =
 
 -- "with fitting action and covered leaf"
 unfoldable pub fits : (head : Head) (rule : Rule) (reference : ℕ) → Access → Bool
-fits head rule i x = actionFits (actionDone (x .channel)) (action rule i) && inLeafSet head rule i (x .leaf)
+fits head rule i x = channelFits (x .channel) (action rule i) && inLeafSet head rule i (x .leaf)
 
 -- the accesses of a set that fit reference i
 unfoldable pub fitting : (head : Head) (rule : Rule) → Accesses → (reference : ℕ) → List Access

@@ -1,37 +1,33 @@
 -- Which accesses fit which action of a rule. Source document 001: "The actions also form a hierarchy where access is the
 -- parent of projection and condition." Document 02, N4. Assumes nothing.
 use Prim.Native.Nat.{ℕ, zero, suc}
-use mathlib.Core.Path.{_≡_}
-use mathlib.Core.Logic.{_⊎_}
 use mathlib.Core.Bool.{Bool, true, false}
 use Rattle.book.specs.declared.Action.{Action}
-use Rattle.book.specs.declared.Action.the-variants.{Projection, Condition, Access, Unknown}
+use Rattle.book.specs.declared.Action.the-variants as named
+use Rattle.book.specs.declared.ActionByte.{ActionByte}
+use Rattle.book.specs.declared.ActionByte.the-variants.{Names, NamesNone}
+use Rattle.verdicts.specs.declared.actions.Channel.{Channel}
+use Rattle.verdicts.specs.declared.actions.Channel.the-variants as done
 
--- what an access does: "s being 0 for projection, 1 for condition", and every other number
-unfoldable pub actionDone : (channel : ℕ) → Action
-actionDone zero = Projection
-actionDone (suc zero) = Condition
-actionDone (suc (suc s)) = Unknown
-
--- an access against the action that a reference names: "the six cases, projection or condition against projection,
+-- what an access does, against the action that a rule names: "the six cases, projection or condition against projection,
 -- condition or access"
-unfoldable pub actionFits : (done named : Action) → Bool
-actionFits Projection Projection = true
-actionFits Projection Condition = false
-actionFits Projection Access = true
-actionFits Condition Projection = false
-actionFits Condition Condition = true
-actionFits Condition Access = true
--- no rule of an accepted book has these
-actionFits Projection Unknown = false
-actionFits Condition Unknown = false
--- and no access these
-actionFits Access named = false
-actionFits Unknown named = false
+unfoldable pub actionFits : Channel → Action → Bool
+actionFits done.Projection named.Projection = true
+actionFits done.Projection named.Condition = false
+actionFits done.Projection named.Access = true
+actionFits done.Condition named.Projection = false
+actionFits done.Condition named.Condition = true
+actionFits done.Condition named.Access = true
 
--- "projection or condition", "projection, condition or access"
-abbrev pub OneOfTwo : Action → Type 0
-OneOfTwo a = (a ≡ Projection) ⊎ (a ≡ Condition)
+-- the number of what an access does: "s being 0 for projection, 1 for condition"
+abbrev pub numberOf : Channel → ℕ
+numberOf done.Projection = 0
+numberOf done.Condition = 1
 
-abbrev pub OneOfThree : Action → Type 0
-OneOfThree a = (a ≡ Projection) ⊎ (a ≡ Condition) ⊎ (a ≡ Access)
+-- the same test for the number s of an access and the action byte of a reference; no access has a number above 1, and
+-- no reference of an accepted book a byte that names none
+unfoldable pub channelFits : (channel : ℕ) → ActionByte → Bool
+channelFits s NamesNone = false
+channelFits zero (Names action) = actionFits done.Projection action
+channelFits (suc zero) (Names action) = actionFits done.Condition action
+channelFits (suc (suc s)) (Names action) = false

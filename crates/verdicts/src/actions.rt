@@ -1,26 +1,39 @@
 // Which accesses fit which action of a rule: access is the parent of projection and condition.
 use book::Action;
+use book::ActionByte;
 ghost use mathlib.Core.Path.{_≡_};
-ghost use Rattle.verdicts.specs.Actions.{actionFits};
+ghost use Rattle.verdicts.specs.Actions.{actionFits, channelFits, numberOf};
 
-// Whether an access that does this fits a reference that names that.
-pub fn action_fits(done: Action, named: Action) -> bool
-    ensures { λ r. ⌜ r ≡ actionFits done named ⌝ }
+// What an access does with its leaf.
+pub enum Channel {
+    Projection,
+    Condition,
+}
+
+// Whether an access that does this fits a rule that names that.
+fn action_fits(does: Channel, names: Action) -> bool
+    ensures { λ r. ⌜ r ≡ actionFits does names ⌝ }
 {
-    match done {
-        Action::Projection => match named {
+    match does {
+        Channel::Projection => match names {
             Action::Projection => true,
             Action::Condition => false,
             Action::Access => true, // the parent of projection
-            Action::Unknown => false,
         },
-        Action::Condition => match named {
+        Channel::Condition => match names {
             Action::Projection => false,
             Action::Condition => true,
             Action::Access => true, // the parent of condition
-            Action::Unknown => false,
         },
-        Action::Access => false,
-        Action::Unknown => false,
+    }
+}
+
+// The same for the action byte of a reference.
+pub fn channel_fits(does: Channel, byte: ActionByte) -> bool
+    ensures { λ r. ⌜ r ≡ channelFits (numberOf does) byte ⌝ }
+{
+    match byte {
+        ActionByte::Names(action) => action_fits(does, action),
+        ActionByte::NamesNone => false,
     }
 }

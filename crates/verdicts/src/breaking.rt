@@ -1,7 +1,7 @@
 // One rule against a set of accesses, given as 32 words: for each reference the operations with
 // which some access of the set fits it, and then at most 256 choices of the first two.
-use crate::actions::action_fits;
-use book::Action;
+use crate::actions::Channel;
+use crate::actions::channel_fits;
 use book::fields::action;
 use book::fields::reference_count;
 use book::fields::restriction_count;
@@ -28,8 +28,8 @@ fn offered(t: &[u64], rule: &[u8], words: [u64; 32], i: u8) -> u64
     }
     let leaves = leaf_set(t, rule, i);
     let named = action(rule, i);
-    let projected = word_if(action_fits(Action::Projection, named), leaves);
-    let tested = word_if(action_fits(Action::Condition, named), leaves);
+    let projected = word_if(channel_fits(Channel::Projection, named), leaves);
+    let tested = word_if(channel_fits(Channel::Condition, named), leaves);
     let mut found = 0u64;
     for k in 0..16usize {
         let met = (words[k] & projected) | (words[16 + k] & tested);

@@ -11,7 +11,7 @@ use Rattle.book.specs.Sets.{has, WordOf}
 use Rattle.book.specs.Blocks.{headOf, ruleAt}
 use Rattle.book.specs.Head.{functionCount, operation}
 use Rattle.book.specs.Rule.{action, referenceCount, restrictionCount, restrictionMask, coversUser, inLeafSet}
-use Rattle.verdicts.specs.Actions.{actionDone, actionFits}
+use Rattle.verdicts.specs.Actions.{channelFits}
 use Rattle.verdicts.specs.Accesses.{fits}
 use Rattle.verdicts.specs.Inner.Words.{maskTakes}
 use Rattle.search.specs.Obtainable.{labelled, operated, canBeHad}
@@ -29,7 +29,7 @@ takesAt t q i j p = has (getD t (128 * q + 99 + 8 * i + j) 0) (p % 64)
 unfoldable pub meetsReference : List ℕ → ℕ → ℕ → ℕ → Bool
 meetsReference rule leaves i p =
     cond (ltb i (referenceCount rule))
-    (ltb p nowhere && (actionFits (actionDone (p / 1024)) (action rule i) && has leaves (p / 16 % 64))) true
+    (ltb p nowhere && (channelFits (p / 1024) (action rule i) && has leaves (p / 16 % 64))) true
 
 -- the operation of a place against restriction j of a rule
 unfoldable pub takesOperation : List ℕ → ℕ → ℕ → ℕ → Bool

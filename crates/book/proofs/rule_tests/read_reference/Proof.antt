@@ -37,7 +37,7 @@ returns-2 c head w =
         ← (list .exclusions .ensures),
         ← all,
         ← (action .action .ensures),
-        ← (c .before .before .is-action .ensures),
+        ← (c .before .before .names-action .ensures),
         ← (n .ensures head (w .words)),
       ),
       λ d.

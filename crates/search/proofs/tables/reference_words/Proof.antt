@@ -16,8 +16,8 @@ returns c w l p h e =
 returns-2 : tie.Need-returns-2
 returns-2 c w l p h e =
     let a = c .before .before .before .before .before .before .before .args in
-    let tested = c .before .action-fits2 in
-    let projected = c .before .before .action-fits in
+    let tested = c .before .channel-fits2 in
+    let projected = c .before .before .channel-fits in
     let named = c .before .before .before .action in
     meets-word (a .rule .now) (a .leaves) (a .i) p (getD (c .channel-words .result) w 0) w (named .result)
     (projected .result) (tested .result) (omega arith) (named .ensures) (projected .ensures) (tested .ensures) h e

@@ -18,31 +18,15 @@ returns-3 c = rw (c .before .before .enum-told .given .1, c .enum-told4 .given .
 
 returns-4 : tie.Need-returns-4
 unfolding actionFits
-returns-4 c = rw (c .before .before .enum-told .given .1, c .enum-told5 .given .1)
+returns-4 c = rw (c .before .before .enum-told5 .given .1, c .enum-told6 .given .1)
 
 returns-5 : tie.Need-returns-5
 unfolding actionFits
-returns-5 c = rw (c .before .before .enum-told6 .given .1, c .enum-told7 .given .1)
+returns-5 c = rw (c .before .before .enum-told5 .given .1, c .enum-told7 .given .1)
 
 returns-6 : tie.Need-returns-6
 unfolding actionFits
-returns-6 c = rw (c .before .before .enum-told6 .given .1, c .enum-told8 .given .1)
-
-returns-7 : tie.Need-returns-7
-unfolding actionFits
-returns-7 c = rw (c .before .before .enum-told6 .given .1, c .enum-told9 .given .1)
-
-returns-8 : tie.Need-returns-8
-unfolding actionFits
-returns-8 c = rw (c .before .before .enum-told6 .given .1, c .enum-told10 .given .1)
-
-returns-9 : tie.Need-returns-9
-unfolding actionFits
-returns-9 c = rw (c .enum-told11 .given .1)
-
-returns-10 : tie.Need-returns-10
-unfolding actionFits
-returns-10 c = rw (c .enum-told12 .given .1)
+returns-6 c = rw (c .before .before .enum-told5 .given .1, c .enum-told8 .given .1)
 
 pub action-fits-spec : {M : Type 1} → statement M
 action-fits-spec =
@@ -56,17 +40,9 @@ action-fits-spec =
     (λ c. search needs)
     (λ c. search needs)
     (λ c. search needs)
-    (λ c. search needs)
-    (λ c. search needs)
-    (λ c. search needs)
-    (λ c. search needs)
     returns
     returns-2
     returns-3
     returns-4
     returns-5
-    returns-6
-    returns-7
-    returns-8
-    returns-9
-    returns-10)
+    returns-6)
