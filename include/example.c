@@ -103,7 +103,7 @@ static size_t with_rule(uint8_t *book, size_t length)
     block[1] = 1;  /* one reference */
     block[2] = 1;  /* user category 1 */
     block[8] = 1;  /* one restriction */
-    block[16] = 4; /* category 4, either action */
+    block[16] = 4; /* category 4, access */
     block[17] = 3;
     block[65] = 4; /* operation 2 */
     pspec_seal(block, PSPEC_BLOCK);

@@ -13,8 +13,8 @@ use Rattle.book.specs.Blocks.{Book, ruleAt, weighted, checkSum, checkHolds}
 use Rattle.book.specs.Refusals.{between, zeros, lengthHolds, kindHolds, usersCounted, dataCounted, columnsCounted}
 use Rattle.book.specs.Refusals.{functionsCounted, ruleCounts, referenceEnd, ruleZeros, ruleCounted, usersOrdered}
 use Rattle.book.specs.Refusals.{dataOrdered, labelHolds, labelsHold, functionsHold, userNumbersHold}
-use Rattle.book.specs.Refusals.{namesAction, referenceHolds, numbersHold, leafSetsApart, referencesApart, maskAllows}
-use Rattle.book.specs.Refusals.{maskHolds, masksHold, lengthTests, checkTests, kindTests}
+use Rattle.book.specs.Refusals.{namesAction, referenceHolds, numbersHold, leafSetsApart, referencesApart}
+use Rattle.book.specs.Refusals.{maskAllows, maskHolds, masksHold, lengthTests, checkTests, kindTests}
 use Rattle.book.specs.Refusals.{usersBlockTests, dataBlockTests, columnsBlockTests, functionsBlockTests}
 use Rattle.book.specs.Refusals.{ruleBlockTests, blockTests, contentTests, blockByBlock, bookTests, sealTests}
 use Rattle.book.specs.Refusals.{BookAccepted}
@@ -115,24 +115,25 @@ outcome book r =
 
 cases-outcomes :
     _≡_ {A = List (List Blocking)} (map (λ c. map (outcome (c .0)) (c .1)) cases) (map (λ c. c .2) cases)
-unfolding all any upTo from has upwardIn upward under leaf covers ownedBy support isUser isDataLeaf supportOf supports
-    coversUser inLeafSet weighted checkSum withCheck sealBytes answered refusedOr sealTests firstFailing padded block
-    users categories columns functions rule rule0 rule1 rule2 shop labels same flat keep everyAccess actionOf actionFits channelFits fits
-    fitting choicesFrom operations accepts refusesAll someChoiceRefused breaks labelled operated canBeHad firstIn
-    accessTo inScopeAt everyDatum associations scope operationChoices someBroken isClosed firstClosed ruleTests
-    forbidTests datumByte closedAnswer blockingOf outcome sums three forbids near conditions together states no-avg
-    cases
+unfolding all any upTo from has upwardIn upward under leaf covers ownedBy support isUser isDataLeaf supportOf
+    supports coversUser inLeafSet weighted checkSum withCheck sealBytes answered refusedOr sealTests firstFailing
+    padded block users categories columns functions rule rule0 rule1 rule2 shop labels same flat keep everyAccess
+    actionOf actionFits channelFits fits fitting choicesFrom operations accepts refusesAll someChoiceRefused breaks
+    labelled operated canBeHad firstIn accessTo inScopeAt everyDatum associations scope operationChoices someBroken
+    isClosed firstClosed ruleTests forbidTests datumByte closedAnswer blockingOf outcome sums three forbids near
+    conditions together states no-avg cases
 cases-outcomes = refl
 
 cases-pass : _≡_ {A = List Tested} (map (λ c. firstFailing (bookTests (c .0))) cases) (map (λ c. Passed) cases)
 unfolding all any upTo from has upwardIn upward under leaf covers properDescendant ownedBy support parentHolds
     isUser isDataLeaf supportOf supports inLeafSet weighted checkSum checkHolds between zeros lengthHolds kindHolds
     usersCounted dataCounted columnsCounted functionsCounted ruleCounts referenceEnd ruleZeros ruleCounted
-    usersOrdered dataOrdered labelHolds labelsHold functionsHold userNumbersHold actionOf namesAction referenceHolds numbersHold
-    leafSetsApart referencesApart maskAllows maskHolds masksHold usersBlockTests dataBlockTests columnsBlockTests
-    functionsBlockTests ruleBlockTests blockTests checkTests kindTests contentTests lengthTests blockByBlock bookTests
-    sealTests flat firstFailing refusedOr answered withCheck sealBytes padded block users categories columns functions
-    rule rule0 rule1 rule2 shop sums three forbids near conditions together states no-avg cases
+    usersOrdered dataOrdered labelHolds labelsHold functionsHold userNumbersHold actionOf namesAction referenceHolds
+    numbersHold leafSetsApart referencesApart maskAllows maskHolds masksHold usersBlockTests dataBlockTests
+    columnsBlockTests functionsBlockTests ruleBlockTests blockTests checkTests kindTests contentTests lengthTests
+    blockByBlock bookTests sealTests flat firstFailing refusedOr answered withCheck sealBytes padded block users
+    categories columns functions rule rule0 rule1 rule2 shop sums three forbids near conditions together states
+    no-avg cases
 cases-pass = refl
 
 -- The answers

@@ -14,8 +14,8 @@ use Rattle.book.specs.Blocks.{weighted, checkSum, checkHolds}
 use Rattle.book.specs.Refusals.{between, zeros, lengthHolds, kindHolds, usersCounted, dataCounted, columnsCounted}
 use Rattle.book.specs.Refusals.{functionsCounted, ruleCounts, referenceEnd, ruleZeros, ruleCounted, usersOrdered}
 use Rattle.book.specs.Refusals.{dataOrdered, labelHolds, labelsHold, functionsHold, userNumbersHold}
-use Rattle.book.specs.Refusals.{namesAction, referenceHolds, numbersHold, leafSetsApart, referencesApart, maskAllows}
-use Rattle.book.specs.Refusals.{maskHolds, masksHold, lengthTests, checkTests, kindTests}
+use Rattle.book.specs.Refusals.{namesAction, referenceHolds, numbersHold, leafSetsApart, referencesApart}
+use Rattle.book.specs.Refusals.{maskAllows, maskHolds, masksHold, lengthTests, checkTests, kindTests}
 use Rattle.book.specs.Refusals.{usersBlockTests, dataBlockTests, columnsBlockTests, functionsBlockTests}
 use Rattle.book.specs.Refusals.{ruleBlockTests, blockTests, contentTests, blockByBlock, bookTests, sealTests}
 use Rattle.book.specs.Refusals.{BookAccepted}
@@ -36,13 +36,13 @@ starred-checks = refl
 
 pub shop-accepted : _≡_ {A = Checked} (checkAnswer shop) (Accepted 3)
 unfolding all any upTo from has upwardIn upward under leaf covers properDescendant ownedBy support parentHolds
-    isUser isDataLeaf supportOf supports actionOf inLeafSet weighted checkSum checkHolds between zeros lengthHolds kindHolds
-    usersCounted dataCounted columnsCounted functionsCounted ruleCounts referenceEnd ruleZeros ruleCounted
-    usersOrdered dataOrdered labelHolds labelsHold functionsHold userNumbersHold namesAction referenceHolds numbersHold
-    leafSetsApart referencesApart maskAllows maskHolds masksHold usersBlockTests dataBlockTests columnsBlockTests
-    functionsBlockTests ruleBlockTests blockTests checkTests kindTests contentTests lengthTests blockByBlock bookTests
-    sealTests flat firstFailing refusedOr answered checkAnswer withCheck sealBytes padded block users categories columns functions
-    rule rule0 rule1 rule2 shop
+    isUser isDataLeaf supportOf supports actionOf inLeafSet weighted checkSum checkHolds between zeros lengthHolds
+    kindHolds usersCounted dataCounted columnsCounted functionsCounted ruleCounts referenceEnd ruleZeros ruleCounted
+    usersOrdered dataOrdered labelHolds labelsHold functionsHold userNumbersHold namesAction referenceHolds
+    numbersHold leafSetsApart referencesApart maskAllows maskHolds masksHold usersBlockTests dataBlockTests
+    columnsBlockTests functionsBlockTests ruleBlockTests blockTests checkTests kindTests contentTests lengthTests
+    blockByBlock bookTests sealTests flat firstFailing refusedOr answered checkAnswer withCheck sealBytes padded
+    block users categories columns functions rule rule0 rule1 rule2 shop
 shop-accepted = refl
 
 pub shop-passes : BookAccepted shop

@@ -127,6 +127,7 @@ userNumbersHold head rule =
     ltb (userCategory rule) (userCount head)
     && all (properDescendant (userCount head) (userParent head) (userCategory rule)) (excludedUsers rule)
 
+-- the byte is one of document 01's three
 unfoldable pub namesAction : ActionByte → Bool
 namesAction (Names action) = true
 namesAction NamesNone = false

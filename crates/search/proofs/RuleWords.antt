@@ -112,7 +112,8 @@ pub record Channels (leaves : ℕ) (projected tested : Bool) (words : List ℕ) 
   pub last : getD words 32 0 ≡ 0
 
 module _ (leaves : ℕ) (projected tested : Bool) where
-  pub channels-none : (words : List ℕ) → length words ≡ 33 → getD words 32 0 ≡ 0 → Channels leaves projected tested words 0
+  pub channels-none :
+      (words : List ℕ) → length words ≡ 33 → getD words 32 0 ≡ 0 → Channels leaves projected tested words 0
   channels-none words size last =
       record {
         short = omega arith;
@@ -186,7 +187,11 @@ module _ (leaves : ℕ) (projected tested : Bool) where
       below : (k : ℕ) → k < w + 1 → k ≤ w
       below k m = omega arith
 
-  pub channels-end : (words : List ℕ) (w : ℕ) → 16 ≤ w → Channels leaves projected tested words w → ChannelWords leaves projected tested words
+  pub channels-end :
+      (words : List ℕ) (w : ℕ)
+      → 16 ≤ w
+      → Channels leaves projected tested words w
+      → ChannelWords leaves projected tested words
   unfolding inChannels
   channels-end words w past old k l = go (ltb k 16) refl (ltb k 32) refl
     where

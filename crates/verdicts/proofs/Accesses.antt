@@ -99,7 +99,8 @@ in-every head x p k h =
 
 -- Actions and leaf sets
 
-pub names-fits : (does : Channel) (action : Action) → channelFits (numberOf does) (Names action) ≡ actionFits does action
+pub names-fits :
+    (does : Channel) (action : Action) → channelFits (numberOf does) (Names action) ≡ actionFits does action
 unfolding channelFits
 names-fits done.Projection action = refl
 names-fits done.Condition action = refl

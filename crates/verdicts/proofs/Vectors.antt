@@ -13,8 +13,8 @@ use Rattle.book.specs.Blocks.{weighted, checkSum, checkHolds}
 use Rattle.book.specs.Refusals.{between, zeros, lengthHolds, kindHolds, usersCounted, dataCounted, columnsCounted}
 use Rattle.book.specs.Refusals.{functionsCounted, ruleCounts, referenceEnd, ruleZeros, ruleCounted, usersOrdered}
 use Rattle.book.specs.Refusals.{dataOrdered, labelHolds, labelsHold, functionsHold, userNumbersHold}
-use Rattle.book.specs.Refusals.{namesAction, referenceHolds, numbersHold, leafSetsApart, referencesApart, maskAllows}
-use Rattle.book.specs.Refusals.{maskHolds, masksHold, lengthTests, checkTests, kindTests}
+use Rattle.book.specs.Refusals.{namesAction, referenceHolds, numbersHold, leafSetsApart, referencesApart}
+use Rattle.book.specs.Refusals.{maskAllows, maskHolds, masksHold, lengthTests, checkTests, kindTests}
 use Rattle.book.specs.Refusals.{usersBlockTests, dataBlockTests, columnsBlockTests, functionsBlockTests}
 use Rattle.book.specs.Refusals.{ruleBlockTests, blockTests, contentTests, blockByBlock, bookTests, sealTests}
 use Rattle.book.specs.Tests.{firstFailing, refusedOr, answered}
@@ -64,15 +64,16 @@ pub starred :
     _≡_ {A = List Judged × List ℕ}
     (map (λ c. judgeAnswer shop (c .0) (plan (c .1))) cases, map (λ c. checkSum (c .0)) checkCases)
     (map (λ c. Broken (c .2)) cases, map (λ c. c .1) checkCases)
-unfolding cases checkCases plan all any upTo from has upwardIn upward under leaf covers properDescendant ownedBy support
-    parentHolds isUser isDataLeaf supportOf supports coversUser inLeafSet weighted checkSum checkHolds between zeros
-    lengthHolds kindHolds usersCounted dataCounted columnsCounted functionsCounted ruleCounts referenceEnd ruleZeros
-    ruleCounted usersOrdered dataOrdered labelHolds labelsHold functionsHold userNumbersHold namesAction referenceHolds
-    numbersHold leafSetsApart referencesApart maskAllows maskHolds masksHold usersBlockTests dataBlockTests
-    columnsBlockTests functionsBlockTests ruleBlockTests blockTests checkTests kindTests contentTests lengthTests
-    blockByBlock bookTests sealTests firstFailing refusedOr answered withCheck sealBytes padded block users categories
-    columns functions rule rule0 rule1 rule2 shop kindOf kindAt isValue names soundAs rowHolds planLengthHolds
-    rowTests planTests through pathsBy pathsIn paths labels takes firstOperation carries reaches gives isAccess
-    wordOf accessesOf flat keep everyAccess actionOf actionFits channelFits fits fitting choicesFrom operations accepts refusesAll
-    someChoiceRefused breaks brokenMask userTests judgeTests judgeAnswer
+unfolding cases checkCases plan all any upTo from has upwardIn upward under leaf covers properDescendant ownedBy
+    support parentHolds isUser isDataLeaf supportOf supports coversUser inLeafSet weighted checkSum checkHolds
+    between zeros lengthHolds kindHolds usersCounted dataCounted columnsCounted functionsCounted ruleCounts
+    referenceEnd ruleZeros ruleCounted usersOrdered dataOrdered labelHolds labelsHold functionsHold userNumbersHold
+    namesAction referenceHolds numbersHold leafSetsApart referencesApart maskAllows maskHolds masksHold
+    usersBlockTests dataBlockTests columnsBlockTests functionsBlockTests ruleBlockTests blockTests checkTests
+    kindTests contentTests lengthTests blockByBlock bookTests sealTests firstFailing refusedOr answered withCheck
+    sealBytes padded block users categories columns functions rule rule0 rule1 rule2 shop kindOf kindAt isValue
+    names soundAs rowHolds planLengthHolds rowTests planTests through pathsBy pathsIn paths labels takes
+    firstOperation carries reaches gives isAccess wordOf accessesOf flat keep everyAccess actionOf actionFits
+    channelFits fits fitting choicesFrom operations accepts refusesAll someChoiceRefused breaks brokenMask userTests
+    judgeTests judgeAnswer
 starred = refl

@@ -18,7 +18,7 @@ use Rattle.verdicts.specs.declared.actions.Channel.the-variants as done
 use Rattle.verdicts.specs.Actions.{numberOf}
 use Rattle.verdicts.specs.Accesses.{Access, accessesOf, heldBy, fits}
 
--- an access that does one thing fits a reference that names another exactly when the reference covers its leaf
+-- an access that does this fits a reference that names that exactly when the reference covers its leaf
 abbrev pub Fits : Channel → Action → Type 0
 Fits does names =
     (head : Head) (rule : Rule) (i : ℕ) (x : Access)

@@ -1,5 +1,6 @@
--- Which accesses fit which action of a rule. Source document 001: "The actions also form a hierarchy where access is the
--- parent of projection and condition." Document 02, N4. Assumes nothing.
+-- Which accesses fit which action of a rule. Source document 001: "The actions also form a hierarchy where access is
+-- the parent of projection and condition." Document 02, N4. `done` is what an access does, `named` what a rule names;
+-- both types stand in code, `Channel` in src/actions.rt and `Action` in src/lib.rt of book. Assumes nothing.
 use Prim.Native.Nat.{ℕ, zero, suc}
 use mathlib.Core.Bool.{Bool, true, false}
 use Rattle.book.specs.declared.Action.{Action}
@@ -9,8 +10,7 @@ use Rattle.book.specs.declared.ActionByte.the-variants.{Names, NamesNone}
 use Rattle.verdicts.specs.declared.actions.Channel.{Channel}
 use Rattle.verdicts.specs.declared.actions.Channel.the-variants as done
 
--- what an access does, against the action that a rule names: "the six cases, projection or condition against projection,
--- condition or access"
+-- "the six cases, projection or condition against projection, condition or access"
 unfoldable pub actionFits : Channel → Action → Bool
 actionFits done.Projection named.Projection = true
 actionFits done.Projection named.Condition = false

@@ -4,13 +4,13 @@ use book::ActionByte;
 ghost use mathlib.Core.Path.{_≡_};
 ghost use Rattle.verdicts.specs.Actions.{actionFits, channelFits, numberOf};
 
-// What an access does with its leaf.
+// What an access does with its leaf: source document 001's "action channel".
 pub enum Channel {
     Projection,
     Condition,
 }
 
-// Whether an access that does this fits a rule that names that.
+// Whether an access that does this fits a reference that names that.
 fn action_fits(does: Channel, names: Action) -> bool
     ensures { λ r. ⌜ r ≡ actionFits does names ⌝ }
 {
@@ -28,7 +28,7 @@ fn action_fits(does: Channel, names: Action) -> bool
     }
 }
 
-// The same for the action byte of a reference.
+// The same for what the reference's byte says.
 pub fn channel_fits(does: Channel, byte: ActionByte) -> bool
     ensures { λ r. ⌜ r ≡ channelFits (numberOf does) byte ⌝ }
 {

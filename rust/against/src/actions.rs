@@ -43,7 +43,7 @@ fn change(reference: &mut Reference, pair: Pair) {
     }
 }
 
-/// For each pair, does the verdict on a user and a plan depend on it? Nothing where there is none.
+/// For each pair, does the verdict on a user and a plan depend on it? None for what is refused.
 pub fn verdict_depends(book: &[u8], user: usize, plan: &[u8]) -> Option<[bool; 6]> {
     let book = reading::read(book).ok()?;
     let rows = plan::read(plan, &book).ok()?;

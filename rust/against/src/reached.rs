@@ -157,6 +157,12 @@ impl Reached {
         each.collect::<Vec<_>>().join(", ")
     }
 
+    /// The refusals by their numbers, in words.
+    fn by_number(&self) -> String {
+        let each = REFUSALS.map(|number| format!(" {number}: {}", self.refused(number)));
+        each.concat()
+    }
+
     /// How often a refusal was reached, by any call.
     fn refused(&self, number: u32) -> u64 {
         let of_number = self.refusals.iter().filter(|((_, n), _)| *n == number);
@@ -252,11 +258,8 @@ impl fmt::Display for Reached {
         for (call, n) in &self.calls {
             write!(f, " {call} {n}")?;
         }
-        write!(f, "\nrefusals:")?;
-        for number in REFUSALS {
-            write!(f, " {number}: {}", self.refused(number))?;
-        }
-        writeln!(f, "\nplans that break a rule: {}", self.broken)?;
+        writeln!(f, "\nrefusals:{}", self.by_number())?;
+        writeln!(f, "plans that break a rule: {}", self.broken)?;
         writeln!(f, "verdicts that depend on {}", self.by_pair())?;
         write!(
             f,

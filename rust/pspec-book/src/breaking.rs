@@ -17,7 +17,7 @@ pub fn breaking(rule: &Rule, contents: &Contents, accesses: &[Access]) -> Vec<Ve
         .map(|reference| {
             let leaves = leaves(&contents.parents(), reference.category, &reference.excluded);
             let fits = |access: &&Access| {
-                acts(access.action, reference.action) && leaves.contains(&access.leaf)
+                action_fits(access.action, reference.action) && leaves.contains(&access.leaf)
             };
             accesses.iter().filter(fits).copied().collect()
         })
@@ -31,7 +31,7 @@ pub fn breaking(rule: &Rule, contents: &Contents, accesses: &[Access]) -> Vec<Ve
 }
 
 /// Does an access of this action fit a rule's action? Like fits like, and both fit access.
-fn acts(action: Action, named: RuleAction) -> bool {
+fn action_fits(action: Action, named: RuleAction) -> bool {
     match (action, named) {
         (Action::Projection, RuleAction::Projection) => true,
         (Action::Projection, RuleAction::Condition) => false,
@@ -75,11 +75,11 @@ mod tests {
     #[test]
     fn the_six_cases() {
         let [projection, condition] = [Action::Projection, Action::Condition];
-        assert!(acts(projection, RuleAction::Projection));
-        assert!(!acts(projection, RuleAction::Condition));
-        assert!(acts(projection, RuleAction::Access));
-        assert!(!acts(condition, RuleAction::Projection));
-        assert!(acts(condition, RuleAction::Condition));
-        assert!(acts(condition, RuleAction::Access));
+        assert!(action_fits(projection, RuleAction::Projection));
+        assert!(!action_fits(projection, RuleAction::Condition));
+        assert!(action_fits(projection, RuleAction::Access));
+        assert!(!action_fits(condition, RuleAction::Projection));
+        assert!(action_fits(condition, RuleAction::Condition));
+        assert!(action_fits(condition, RuleAction::Access));
     }
 }
