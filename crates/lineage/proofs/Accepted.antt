@@ -11,17 +11,18 @@ use borrow.Author.Tests.{ltb-true, ltb-false, lt-ltb, eqb-true}
 use Rattle.book.specs.Lists.{flat, upTo, all, any}
 use Rattle.book.specs.Head.{operation, label, columnCount, functionCount, isDataLeaf}
 use Rattle.book.specs.Refusals.{labelHolds}
-use Rattle.book.proofs.Lists.{and-true, and-left, and-both, or-end, append-all, all-one, map-all, any-found}
+use Rattle.book.proofs.Lists.{and-true, and-left, and-both, or-end, append-all, all-one, map-all, any-found, any-nil}
 use Rattle.book.proofs.Answers.{first-passed, last-passed, passed-flat}
 use Rattle.book.proofs.Accepted.{HeadHolds}
 use Rattle.lineage.specs.Rows.{Kind, Column, Apply, Choose, Output, Condition, Unknown}
 use Rattle.lineage.specs.Rows.{rowCount, kindAt, kindOf, rowA, rowB, rowC, isValue, names, soundAs, rowHolds}
-use Rattle.lineage.specs.Paths.{Path, through, pathsBy, paths, labels, takes, firstOperation, carries}
+use Rattle.lineage.specs.Paths.{Applied, OneRow, TwoRows, appliedAs, Path, through, pathsBy, paths, labels}
+use Rattle.lineage.specs.Paths.{takes, counting, firstOperation, operationOf, carries}
 use Rattle.lineage.specs.Accesses.{reaches, gives}
-use Rattle.lineage.specs.Inner.Table.{Given, PlanSound}
+use Rattle.lineage.specs.Inner.Table.{Given, PlanSound, stands, wordFor}
 use Rattle.lineage.specs.Answers.{PlanAccepted, planLengthHolds, rowTests, planTests}
 use Rattle.lineage.proofs.PlanLaws.{plan-length}
-use Rattle.lineage.proofs.Paths.{paths-step, reaches-past}
+use Rattle.lineage.proofs.Paths.{paths-step, paths-past}
 
 -- The rows that a row names
 
@@ -92,23 +93,35 @@ accepted-plan head plan h =
 
 -- The paths of an accepted plan
 
+-- an Apply row on a path has a function of the book
+unfoldable pub known : List ℕ → Applied → Bool
+known head (OneRow f) = ltb f (functionCount head)
+known head (TwoRows f) = ltb f (functionCount head)
+
 -- a path over columns and functions of the book
 unfoldable pub within : List ℕ → Path → Bool
-within head p = ltb (p .column) (columnCount head) && all (λ f. ltb f (functionCount head)) (p .functions)
+within head p = ltb (p .column) (columnCount head) && all (known head) (p .applies)
 
 module _ (head : List ℕ) where
-  within-column : (a : ℕ) → a < columnCount head → all (within head) (record { column = a; functions = [] } ∷ []) ≡ true
+  within-column : (a : ℕ) → a < columnCount head → all (within head) (record { column = a; applies = [] } ∷ []) ≡ true
   unfolding within all
   within-column a l = rw (lt-ltb a (columnCount head) l)
 
-  within-through : (f : ℕ) → f < functionCount head → (p : Path) → within head p ≡ true → within head (through f p) ≡ true
+  known-row : (f c : ℕ) → f < functionCount head → known head (appliedAs f c) ≡ true
+  unfolding known appliedAs
+  known-row f c l = go (eqb c 255)
+    where
+      go : (b : Bool) → known head (cond b (OneRow f) (TwoRows f)) ≡ true
+      go true = lt-ltb f (functionCount head) l
+      go false = lt-ltb f (functionCount head) l
+
+  within-through :
+      (row : Applied) → known head row ≡ true → (p : Path) → within head p ≡ true → within head (through row p) ≡ true
   unfolding within through
-  within-through f l p h =
-      let low : ℕ → Bool = λ g. ltb g (functionCount head) in
-      let b = and-both (ltb (p .column) (columnCount head)) (all low (p .functions)) h in
-      and-true (ltb (p .column) (columnCount head)) (all low (p .functions ++ (f ∷ []))) (b .0)
-      (append-all low (p .functions) (f ∷ []) (b .1)
-      (all-one low f ∙ lt-ltb f (functionCount head) l))
+  within-through row l p h =
+      let b = and-both (ltb (p .column) (columnCount head)) (all (known head) (p .applies)) h in
+      and-true (ltb (p .column) (columnCount head)) (all (known head) (p .applies ++ (row ∷ []))) (b .0)
+      (append-all (known head) (p .applies) (row ∷ []) (b .1) (all-one (known head) row ∙ l))
 
   within-guarded :
       (b : Bool) (l : List Path) → (b ≡ true → all (within head) l ≡ true) → all (within head) (cond b l []) ≡ true
@@ -141,8 +154,9 @@ module _ (head plan : List ℕ) (holds : PlanHolds head plan) where
           all (within head) (pathsBy kind low (rowA plan i) (rowB plan i) (rowC plan i)) ≡ true
       go Column e b c = within-column head (rowA plan i) (column-holds head plan i (holds .rows i l) e)
       go Apply e b c =
-          map-all (within head) (through (rowA plan i)) (within head)
-          (within-through head (rowA plan i) (apply-holds head plan i (holds .rows i l) e .0))
+          map-all (within head) (through (appliedAs (rowA plan i) (rowC plan i))) (within head)
+          (within-through head (appliedAs (rowA plan i) (rowC plan i))
+          (known-row head (rowA plan i) (rowC plan i) (apply-holds head plan i (holds .rows i l) e .0)))
           (low (rowB plan i) ++ low (rowC plan i))
           (append-all (within head) (low (rowB plan i)) (low (rowC plan i)) b c)
       go Choose e b c = append-all (within head) (low (rowB plan i)) (low (rowC plan i)) b c
@@ -190,18 +204,29 @@ module _ (head : List ℕ) (d : ℕ) where
       go true e l more = inr (record { function = f; below = l; operates = refl; taken = e })
       go false e l more = more
 
+  -- the functions that count are among those of the path
+  counting-known :
+      (rows : List Applied) → all (known head) rows ≡ true → all (λ f. ltb f (functionCount head)) (counting rows) ≡ true
+  unfolding known counting all
+  counting-known [] h = refl
+  counting-known (OneRow f ∷ above) h =
+      let b = and-both (ltb f (functionCount head)) (all (known head) above) h in
+      and-true (ltb f (functionCount head)) (all (λ g. ltb g (functionCount head)) (counting above)) (b .0)
+      (counting-known above (b .1))
+  counting-known (TwoRows f ∷ above) h = refl
+
   carries-had : (k : ℕ) (p : Path) → carries head d k p ≡ true → within head p ≡ true → Had head d k
-  unfolding carries within
+  unfolding carries operationOf within
   carries-had k p c w =
-      let low : ℕ → Bool = λ f. ltb f (functionCount head) in
-      let a = and-both (any (eqb d) (labels head (p .column))) (eqb k (firstOperation head d (p .functions))) c in
-      let b = and-both (ltb (p .column) (columnCount head)) (all low (p .functions)) w in
-      let e : firstOperation head d (p .functions) ≡ k = sym (eqb-true k (firstOperation head d (p .functions)) (a .1)) in
+      let fs = counting (p .applies) in
+      let a = and-both (any (eqb d) (labels head (p .column))) (eqb k (firstOperation head d fs)) c in
+      let b = and-both (ltb (p .column) (columnCount head)) (all (known head) (p .applies)) w in
+      let e : firstOperation head d fs ≡ k = sym (eqb-true k (firstOperation head d fs) (a .1)) in
       record {
         column = p .column;
         below = ltb-true (p .column) (columnCount head) (b .0);
         labelled = a .0;
-        operated = rw e at (first-taken (p .functions) (b .1));
+        operated = rw e at (first-taken fs (counting-known (p .applies) (b .1)));
       }
 
   -- a label is that of the column, and no 255
@@ -223,21 +248,49 @@ module _ (head : List ℕ) (d : ℕ) where
       let l = labelled-by (a .column) (a .labelled) in
       rw (l .0) (rw (l .1) at (holds .labels-hold (a .column) (a .below)))
 
-module _ (head plan : List ℕ) (holds : PlanHolds head plan) (i d k : ℕ) where
-  pub reaches-had : reaches head plan i d k ≡ true → Had head d k
-  unfolding reaches
-  reaches-had h = go (ltb i (rowCount plan)) refl
+module _ (head plan : List ℕ) (holds : PlanHolds head plan) (i d : ℕ) where
+  -- a path of an accepted plan that passes a test is over columns and functions of the book
+  path-found : (f : Path → Bool) → any f (paths plan i) ≡ true → (p : Path) × (f p ≡ true) × (within head p ≡ true)
+  path-found f h = go (ltb i (rowCount plan)) refl
     where
-      go : (b : Bool) → ltb i (rowCount plan) ≡ b → Had head d k
-      go true e =
-          let found =
-          any-found (carries head d k) (within head) (paths plan i) h
-          (paths-within head plan holds i (ltb-true i (rowCount plan) e)) in
-          carries-had head d k (found .0) (found .1) (found .2)
-      go false e = absurd (false≢true (sym (reaches-past head plan i d k (holds .whole) (ltb-false i (rowCount plan) e)) ∙ h))
+      go : (b : Bool) → ltb i (rowCount plan) ≡ b → (p : Path) × (f p ≡ true) × (within head p ≡ true)
+      go true e = any-found f (within head) (paths plan i) h (paths-within head plan holds i (ltb-true i (rowCount plan) e))
+      go false e =
+          absurd (false≢true (sym (any-nil f) ∙ rw (paths-past plan i (holds .whole) (ltb-false i (rowCount plan) e)) at h))
 
-  pub reaches-leaf : HeadHolds head → reaches head plan i d k ≡ true → isDataLeaf head d ≡ true
-  reaches-leaf book h = had-leaf head d k book (reaches-had h)
+  pub reaches-had : (k : ℕ) → reaches head plan i d k ≡ true → Had head d k
+  unfolding reaches
+  reaches-had k h =
+      let found = path-found (carries head d k) h in
+      carries-had head d k (found .0) (found .1) (found .2)
+
+  pub reaches-leaf : (k : ℕ) → HeadHolds head → reaches head plan i d k ≡ true → isDataLeaf head d ≡ true
+  reaches-leaf k book h = had-leaf head d k book (reaches-had k h)
+
+  reaches-below : (k : ℕ) → HeadHolds head → reaches head plan i d k ≡ true → k < 16
+  reaches-below k book h = go (reaches-had k h .operated)
+    where
+      go : (k ≡ 0) ⊎ Taken head d k → k < 16
+      go (inl none) = omega arith
+      go (inr taken) =
+          let m : operation head (taken .function) ≤ 15 = book .operations-most (taken .function) (taken .below) in
+          let e : operation head (taken .function) ≡ k = taken .operates in
+          omega arith
+
+  -- what stands in a word of a row is the label of a column
+  stands-leaf : (w : ℕ) → HeadHolds head → stands head plan i d w ≡ true → isDataLeaf head d ≡ true
+  unfolding stands within
+  stands-leaf w book h =
+      let found = path-found (λ p. any (eqb d) (labels head (p .column)) && eqb w (wordFor head d p)) h in
+      let p = found .0 in
+      let within-both = and-both (ltb (p .column) (columnCount head)) (all (known head) (p .applies)) (found .2) in
+      had-leaf head d 0 book
+      (record {
+        column = p .column;
+        below = ltb-true (p .column) (columnCount head) (within-both .0);
+        labelled = and-left (any (eqb d) (labels head (p .column))) (eqb w (wordFor head d p)) (found .1);
+        operated = inl refl;
+      })
 
 -- What the pass up the rows leans on
 
@@ -252,8 +305,9 @@ module _ (head plan : List ℕ) (book : HeadHolds head) (holds : PlanHolds head 
   pub plan-sound : PlanSound head plan
   plan-sound =
       record {
-        leaves = λ r d k. reaches-leaf head plan holds r d k book;
+        leaves = λ r d w. stands-leaf head plan holds r d w book;
         operations = λ i e. go i e (ltb i (rowCount plan)) refl;
+        below = λ r d k. reaches-below head plan holds r d k book;
       }
     where
       unlike : Apply ≡ Unknown → ⊥

@@ -1,3 +1,4 @@
+pub mod Counting
 pub mod Paths
 pub mod PlanLaws
 pub mod Tables

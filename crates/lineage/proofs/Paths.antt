@@ -3,18 +3,21 @@ use Prim.Native.Nat.{ℕ, zero, suc, _+_, _*_, _%_, _≤_, _<_}
 use native.Mathlib.Omega.{arith}
 use mathlib.Core.Path.{_≡_, refl, sym, ap, _∙_}
 use mathlib.Core.Bool.{Bool, true, false, _&&_, _||_, not, cond, false≢true}
-use mathlib.Core.List.{List, [], _∷_, _++_}
+use mathlib.Core.List.{List, [], _∷_, _++_, map}
 use lib.ListN.{length, length-append, List·getD-append, List·getD-eq-default}
 use lib.Dec.{eqb, ltb}
-use borrow.Author.Tests.{ltb-true, eqb-true, eqb-false, ne-eqb, not-true}
+use borrow.Author.Tests.{ltb-true, lt-ltb, le-ltb, ne-eqb}
 use Rattle.book.specs.Lists.{from, upTo, any}
 use Rattle.book.specs.Head.{operation}
-use Rattle.book.proofs.Lists.{and-false, and-left, and-never, and-where, any-append, any-one, any-nil, any-guarded, by-cases}
+use Rattle.book.proofs.Lists.{and-false, and-or, and-where, any-append, any-one, any-nil, any-guarded, by-cases, or-end}
 use Rattle.book.proofs.Lists.{any-map, any-same, any-both, any-with, any-where, from-append, any-from-same}
 use Rattle.lineage.specs.Rows.{Kind, Column, Apply, Choose, Output, Condition, Unknown}
 use Rattle.lineage.specs.Rows.{rowCount, kindOf, kindAt, rowA, rowB, rowC, isValue}
-use Rattle.lineage.specs.Paths.{Path, through, pathsBy, pathsIn, paths, labels, takes, firstOperation, carries}
+use Rattle.lineage.specs.Paths.{Path, appliedAs, through, pathsBy, pathsIn, paths, labels, takes, counting}
+use Rattle.lineage.specs.Paths.{firstOperation, operationOf, carries}
 use Rattle.lineage.specs.Accesses.{reaches, gives, isAccess}
+use Rattle.lineage.specs.Inner.Table.{mixes, stands, wordFor}
+use Rattle.lineage.proofs.Counting.{moved-word, word-one, word-two, by-word, in-last}
 
 -- The rows below: enough steps are as good as any
 
@@ -104,108 +107,34 @@ module _ (plan : List ℕ) where
           guarded-same (ltb r i) (pathsIn i plan r) (pathsIn (suc r) plan r)
           (λ t. let l : r < i = ltb-true r i t in pathsIn-enough i (suc r) r l (omega arith))
 
--- One function more
+-- What the paths of a row carry, by its kind
 
--- an operation that is taken is not 0
-pub taken-not-none : (head : List ℕ) (d k : ℕ) → takes head d k ≡ true → eqb k 0 ≡ false
-unfolding takes
-taken-not-none head d k h = not-true (eqb k 0) (and-left (not (eqb k 0)) _ h)
+module _ (plan : List ℕ) (i : ℕ) where
+  pub paths-column : kindAt plan i ≡ Column → paths plan i ≡ record { column = rowA plan i; applies = [] } ∷ []
+  unfolding pathsBy
+  paths-column e = rw (paths-step plan i, e)
 
--- whether a path with one function more has operation k: of a path without operation, and of one that has one
-moved-none :
-    (m zero-is here : Bool) →
-    cond m here zero-is ≡ ((zero-is && not (zero-is && m)) || (here && (m && true)))
-moved-none true true true = refl
-moved-none true true false = refl
-moved-none true false true = refl
-moved-none true false false = refl
-moved-none false true here = refl
-moved-none false false here = sym (and-false here)
+  -- an Apply whose b is a lower row and whose c is none
+  pub paths-apply :
+      kindAt plan i ≡ Apply →
+      rowB plan i < i →
+      i ≤ rowC plan i →
+      paths plan i ≡ map (through (appliedAs (rowA plan i) (rowC plan i))) (paths plan (rowB plan i) ++ [])
+  unfolding pathsBy
+  paths-apply e low high = rw (paths-step plan i, e, lt-ltb (rowB plan i) i low, le-ltb (rowC plan i) i high)
 
-moved-some :
-    (m zero-is here same : Bool) →
-    (same && zero-is) ≡ false →
-    same ≡ ((same && not (zero-is && m)) || (here && (m && false)))
-moved-some m true here true h = absurd (false≢true (sym h))
-moved-some true false here true h = refl
-moved-some false false here true h = refl
-moved-some m zero-is here false h = rw (and-false m) (sym (and-false here))
+  -- Output, Condition and every other kind
+  pub paths-none : isValue (kindAt plan i) ≡ false → paths plan i ≡ []
+  paths-none h =
+      paths-step plan i
+      ∙ pathsBy-none (kindAt plan i) (λ r. cond (ltb r i) (paths plan r) []) (rowA plan i) (rowB plan i) (rowC plan i) h
 
-eqb-choice : (m : Bool) (k a b : ℕ) → eqb k (cond m a b) ≡ cond m (eqb k a) (eqb k b)
-eqb-choice true k a b = refl
-eqb-choice false k a b = refl
-
-moved-test :
-    (m : Bool) (k o x : ℕ) →
-    eqb k (cond (eqb x 0) (cond m o 0) x) ≡
-    ((eqb k x && not (eqb k 0 && m)) || (eqb k o && (m && eqb 0 x)))
-moved-test m k o x = go (eqb x 0) refl
-  where
-    go :
-        (b : Bool) →
-        eqb x 0 ≡ b →
-        eqb k (cond b (cond m o 0) x) ≡ ((eqb k x && not (eqb k 0 && m)) || (eqb k o && (m && eqb 0 x)))
-    go true e =
-        let z : x ≡ 0 = eqb-true x 0 e in
-        rw z (eqb-choice m k o 0 ∙ moved-none m (eqb k 0) (eqb k o))
-    go false e =
-        let n : x ≡ 0 → ⊥ = eqb-false x 0 e in
-        rw (ne-eqb 0 x (λ z. n (sym z)))
-        (moved-some m (eqb k 0) (eqb k o) (eqb k x)
-        (and-never (eqb k x) (eqb k 0)
-        (λ t. let l : k ≡ x = eqb-true k x t in ne-eqb k 0 (λ z. n (sym l ∙ z)))))
-
-moved-held :
-    (held a b c m e : Bool) → (held && (a && b || (c && (m && e)))) ≡ (((held && a) && b) || (c && (m && (held && e))))
-moved-held true a b c m e = refl
-moved-held false a b c m e = rw (and-false m) (sym (and-false c))
-
-module _ (head : List ℕ) (d : ℕ) where
-  pub first-more :
-      (fs : List ℕ) (f : ℕ) →
-      firstOperation head d (fs ++ (f ∷ [])) ≡
-      cond (eqb (firstOperation head d fs) 0) (cond (takes head d (operation head f)) (operation head f) 0)
-      (firstOperation head d fs)
-  unfolding firstOperation
-  first-more [] f = refl
-  first-more (g ∷ fs) f = go (takes head d (operation head g)) refl (first-more fs f)
-    where
-      go :
-          (b : Bool) →
-          takes head d (operation head g) ≡ b →
-          firstOperation head d (fs ++ (f ∷ [])) ≡
-          cond (eqb (firstOperation head d fs) 0) (cond (takes head d (operation head f)) (operation head f) 0)
-          (firstOperation head d fs) →
-          cond b (operation head g) (firstOperation head d (fs ++ (f ∷ []))) ≡
-          cond (eqb (cond b (operation head g) (firstOperation head d fs)) 0)
-          (cond (takes head d (operation head f)) (operation head f) 0)
-          (cond b (operation head g) (firstOperation head d fs))
-      go true e more = rw (taken-not-none head d (operation head g) e)
-      go false e more = more
-
-  pub carries-through :
-      (k f : ℕ) (p : Path) →
-      carries head d k (through f p) ≡
-      ((carries head d k p && not (eqb k 0 && takes head d (operation head f)))
-      || (eqb k (operation head f) && (takes head d (operation head f) && carries head d 0 p)))
-  unfolding carries through
-  carries-through k f p =
-      let m = takes head d (operation head f) in
-      let o = operation head f in
-      let x = firstOperation head d (p .functions) in
-      let held = any (eqb d) (labels head (p .column)) in
-      rw (first-more (p .functions) f, moved-test m k o x)
-      (moved-held held (eqb k x) (not (eqb k 0 && m)) (eqb k o) m (eqb 0 x))
-
--- What reaches a row, by its kind
-
-module _ (head plan : List ℕ) (i d k : ℕ) where
-  pub reaches-column :
-      kindAt plan i ≡ Column →
-      reaches head plan i d k ≡ (any (eqb d) (labels head (rowA plan i)) && eqb k 0)
-  unfolding reaches pathsBy carries firstOperation
-  reaches-column e =
-      rw (paths-step plan i, e) (any-one (carries head d k) (record { column = rowA plan i; functions = [] }))
+  -- past the end every kind is 0
+  pub paths-past : length plan % 4 ≡ 0 → rowCount plan ≤ i → paths plan i ≡ []
+  unfolding kindAt kindOf isValue
+  paths-past whole past =
+      let l : length plan ≤ 4 * i = omega arith in
+      paths-none (rw (List·getD-eq-default plan 0 l))
 
   any-lower :
       (f : Path → Bool) (b c : ℕ) →
@@ -218,57 +147,114 @@ module _ (head plan : List ℕ) (i d k : ℕ) where
         any-guarded f (ltb c i) (paths plan c),
       )
 
-  pub reaches-choose :
-      kindAt plan i ≡ Choose →
-      reaches head plan i d k ≡
-      ((ltb (rowB plan i) i && reaches head plan (rowB plan i) d k)
-      || (ltb (rowC plan i) i && reaches head plan (rowC plan i) d k))
-  unfolding reaches pathsBy
-  reaches-choose e = rw (paths-step plan i, e) (any-lower (carries head d k) (rowB plan i) (rowC plan i))
+module _ (head plan : List ℕ) (i d w : ℕ) where
+  -- label d in word w of a row that b or c names
+  abbrev lower : ℕ → Bool
+  lower w =
+      (ltb (rowB plan i) i && stands head plan (rowB plan i) d w)
+      || (ltb (rowC plan i) i && stands head plan (rowC plan i) d w)
 
-  pub reaches-apply :
+  -- label d in word w of a path
+  abbrev stood : ℕ → Path → Bool
+  stood w p = any (eqb d) (labels head (p .column)) && eqb w (wordFor head d p)
+
+  pub stands-column :
+      kindAt plan i ≡ Column → stands head plan i d w ≡ (any (eqb d) (labels head (rowA plan i)) && eqb w 0)
+  unfolding stands wordFor mixes operationOf counting firstOperation
+  stands-column e =
+      rw (paths-column plan i e) (any-one (stood w) (record { column = rowA plan i; applies = [] }))
+
+  pub stands-choose : kindAt plan i ≡ Choose → stands head plan i d w ≡ lower w
+  unfolding stands pathsBy
+  stands-choose e = rw (paths-step plan i, e) (any-lower plan i (stood w) (rowB plan i) (rowC plan i))
+
+  -- an Apply row that moves labels from word 0 to word o where m holds
+  stands-moved :
+      (m : Bool) (o : ℕ) →
+      ((p : Path) →
+      wordFor head d (through (appliedAs (rowA plan i) (rowC plan i)) p) ≡
+      cond (eqb (wordFor head d p) 0) (cond m o 0) (wordFor head d p)) →
       kindAt plan i ≡ Apply →
-      reaches head plan i d k ≡
-      ((((ltb (rowB plan i) i && reaches head plan (rowB plan i) d k)
-      || (ltb (rowC plan i) i && reaches head plan (rowC plan i) d k))
-      && not (eqb k 0 && takes head d (operation head (rowA plan i))))
-      || (eqb k (operation head (rowA plan i))
-      && (takes head d (operation head (rowA plan i))
-      && ((ltb (rowB plan i) i && reaches head plan (rowB plan i) d 0)
-      || (ltb (rowC plan i) i && reaches head plan (rowC plan i) d 0)))))
-  unfolding reaches pathsBy
-  reaches-apply e =
-      let a = rowA plan i in
+      stands head plan i d w ≡ ((lower w && not (eqb w 0 && m)) || (eqb w o && (m && lower 0)))
+  unfolding stands pathsBy through
+  stands-moved m o word e =
       let b = rowB plan i in
       let c = rowC plan i in
-      let o = operation head a in
-      let m = takes head d o in
-      let kept = not (eqb k 0 && m) in
-      let f = carries head d k in
-      let g = carries head d 0 in
+      let row = appliedAs (rowA plan i) c in
+      let kept = not (eqb w 0 && m) in
       let l = cond (ltb b i) (paths plan b) [] ++ cond (ltb c i) (paths plan c) [] in
       rw (paths-step plan i, e)
-      (any-map f (through a) l
-      ∙ any-same (λ p. f (through a p)) (λ p. (f p && kept) || (eqb k o && (m && g p))) (carries-through head d k a) l
-      ∙ any-both (λ p. f p && kept) (λ p. eqb k o && (m && g p)) l
-      ∙ rw (any-with f kept l, any-where (λ p. m && g p) (eqb k o) l, any-where g m l, any-lower f b c, any-lower g b c))
+      (any-map (stood w) (through row) l
+      ∙ any-same (λ p. stood w (through row p)) (λ p. (stood w p && kept) || (eqb w o && (m && stood 0 p)))
+      (λ p. moved-word head d w o m p (through row p) refl (word p)) l
+      ∙ any-both (λ p. stood w p && kept) (λ p. eqb w o && (m && stood 0 p)) l
+      ∙ rw (
+        any-with (stood w) kept l,
+        any-where (λ p. m && stood 0 p) (eqb w o) l,
+        any-where (stood 0) m l,
+        any-lower plan i (stood w) b c,
+        any-lower plan i (stood 0) b c,
+      ))
 
-  -- Output, Condition and every other kind
-  pub reaches-none : isValue (kindAt plan i) ≡ false → reaches head plan i d k ≡ false
-  unfolding reaches
-  reaches-none h =
-      rw (
-        paths-step plan i,
-        pathsBy-none (kindAt plan i) (λ r. cond (ltb r i) (paths plan r) []) (rowA plan i) (rowB plan i) (rowC plan i) h,
-      )
-      (any-nil (carries head d k))
+  -- an Apply with one row
+  pub stands-one :
+      kindAt plan i ≡ Apply →
+      eqb (rowC plan i) 255 ≡ true →
+      stands head plan i d w ≡
+      ((lower w && not (eqb w 0 && takes head d (operation head (rowA plan i))))
+      || (eqb w (operation head (rowA plan i)) && (takes head d (operation head (rowA plan i)) && lower 0)))
+  unfolding appliedAs
+  stands-one e one =
+      stands-moved (takes head d (operation head (rowA plan i))) (operation head (rowA plan i))
+      (λ p. rw one (word-one head d (rowA plan i) p)) e
 
-  -- past the end every kind is 0
-  pub reaches-past : length plan % 4 ≡ 0 → rowCount plan ≤ i → reaches head plan i d k ≡ false
-  unfolding kindAt kindOf isValue
-  reaches-past whole past =
-      let l : length plan ≤ 4 * i = omega arith in
-      reaches-none (rw (List·getD-eq-default plan 0 l))
+  -- an Apply with two rows
+  pub stands-two :
+      kindAt plan i ≡ Apply →
+      eqb (rowC plan i) 255 ≡ false →
+      stands head plan i d w ≡ ((lower w && not (eqb w 0 && true)) || (eqb w 16 && (true && lower 0)))
+  unfolding appliedAs
+  stands-two e two = stands-moved true 16 (λ p. rw two (word-two head d (rowA plan i) p)) e
+
+  pub stands-none : isValue (kindAt plan i) ≡ false → stands head plan i d w ≡ false
+  unfolding stands
+  stands-none h = rw (paths-none plan i h) (any-nil (stood w))
+
+-- what reaches a row with operation k is in word k, or in word 16 where k is 0
+module _ (head plan : List ℕ) (i d k : ℕ) where
+  pub reaches-stands :
+      k < 16 →
+      reaches head plan i d 16 ≡ false →
+      reaches head plan i d k ≡ (stands head plan i d k || (eqb k 0 && stands head plan i d 16))
+  unfolding reaches stands carries wordFor
+  reaches-stands small none =
+      let l = paths plan i in
+      any-same (λ p. held p && eqb k (operationOf head d p)) (λ p. (held p && eqb k (wordFor head d p)) || (eqb k 0 && mixed p))
+      (λ p.
+      split (held p) (eqb k (operationOf head d p)) (eqb k (wordFor head d p)) (eqb k 0)
+      (mixes (p .applies) && eqb (operationOf head d p) 0)
+      (by-word (mixes (p .applies)) k (operationOf head d p) (ne-eqb k 16 (λ z. omega arith)))) l
+      ∙ any-both (λ p. held p && eqb k (wordFor head d p)) (λ p. eqb k 0 && mixed p) l
+      ∙ rw (any-where mixed (eqb k 0) l, last)
+    where
+      held : Path → Bool
+      held p = any (eqb d) (labels head (p .column))
+
+      mixed : Path → Bool
+      mixed p = held p && (mixes (p .applies) && eqb (operationOf head d p) 0)
+
+      split : (h x y z n : Bool) → x ≡ (y || (z && n)) → (h && x) ≡ ((h && y) || (z && (h && n)))
+      split true x y z n e = e
+      split false x y z n e = sym (and-false z)
+
+      last : any mixed (paths plan i) ≡ any (λ p. held p && eqb 16 (wordFor head d p)) (paths plan i)
+      last =
+          sym
+          (any-same (λ p. held p && eqb 16 (wordFor head d p)) (λ p. mixed p || (held p && eqb 16 (operationOf head d p)))
+          (λ p. rw (in-last (mixes (p .applies)) (operationOf head d p))
+          (and-or (held p) (mixes (p .applies) && eqb (operationOf head d p) 0) (eqb 16 (operationOf head d p)))) (paths plan i)
+          ∙ any-both mixed (λ p. held p && eqb 16 (operationOf head d p)) (paths plan i)
+          ∙ rw none (or-end (any mixed (paths plan i))))
 
 -- A plan with rows added: what stands before them sees lower rows only
 

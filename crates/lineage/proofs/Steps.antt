@@ -17,10 +17,10 @@ use Rattle.book.proofs.Lists.{and-end, and-false, and-never, and-or, or-end, lt
 use Rattle.book.proofs.Members.{has-zero, has-and, has-or, has-minus}
 use Rattle.lineage.specs.Rows.{Column, Apply, Choose, isValue, kindAt, kindByte, kindOf, rowA, rowB, rowC}
 use Rattle.lineage.specs.Paths.{labels, takes}
-use Rattle.lineage.specs.Accesses.{reaches}
-use Rattle.lineage.specs.Inner.Table.{Brought, Moved, PlanSound, Reached, RowReached, Stored}
+use Rattle.lineage.specs.Inner.Table.{ApplyStep, Brought, ByOperation, Mixed, Moved, Operated, PlanSound, Reached}
+use Rattle.lineage.specs.Inner.Table.{RowOf, RowReached, Stored, stands}
 use Rattle.book.specs.Inner.Reading.{Supporting}
-use Rattle.lineage.proofs.Paths.{reaches-column, reaches-choose, reaches-apply, reaches-none}
+use Rattle.lineage.proofs.Paths.{stands-column, stands-choose, stands-one, stands-two, stands-none}
 
 -- Column
 
@@ -53,33 +53,33 @@ label-word head column l word e at d = at d ∙ rw (← e) (go (eqb l 255) refl)
 pub column-words :
     (f : ℕ → Bool) (word : ℕ) →
     WordOf f word →
-    (k : ℕ) → k < 16 → WordOf (λ d. f d && eqb k 0) (getD (set (replicate 16 0) 0 word) k 0)
+    (k : ℕ) → k < 17 → WordOf (λ d. f d && eqb k 0) (getD (set (replicate 17 0) 0 word) k 0)
 column-words f word at zero small d =
-    rw (getD-set-same {A = ℕ} (replicate 16 0) 0 word 0 (omega arith), and-end (f d)) (at d)
+    rw (getD-set-same {A = ℕ} (replicate 17 0) 0 word 0 (omega arith), and-end (f d)) (at d)
 column-words f word at (suc k) small d =
     rw (
-      getD-set-other {A = ℕ} (replicate 16 0) 0 (suc k) word 0 (λ z. omega arith),
-      getD-replicate {A = ℕ} 16 (suc k) 0 0 small,
+      getD-set-other {A = ℕ} (replicate 17 0) 0 (suc k) word 0 (λ z. omega arith),
+      getD-replicate {A = ℕ} 17 (suc k) 0 0 small,
       has-zero d,
       ne-eqb (suc k) 0 (λ z. omega arith),
       and-false (f d),
       and-false (ltb d 64),
     )
 
--- Apply: the words after a function
+-- Apply: the words after members of word 0 have gone to another
 
--- nothing takes the operation
+-- nothing goes
 untaken : (x e z m y : Bool) → m ≡ false → x ≡ ((x && not (z && m)) || (e && (m && y)))
 untaken true e z m y q = rw (q, and-false z)
 untaken false e z m y q = rw (q, and-false e)
 
-pub moved-zero : (row supporting : List ℕ) (o : ℕ) → o ≡ 0 → Moved row o supporting row
-moved-zero row supporting o e k d small =
+pub operated-zero : (row supporting : List ℕ) (o : ℕ) → o ≡ 0 → Operated row o supporting row
+operated-zero row supporting o e k d small =
     untaken (has (getD row k 0) d) (eqb k o) (eqb k 0) (not (eqb o 0) && has (getD supporting o 0) d)
     (has (getD row 0 0) d) (rw (eq-eqb o 0 e))
 
-pub moved-past : (row supporting : List ℕ) (o : ℕ) → length supporting ≤ o → Moved row o supporting row
-moved-past row supporting o l k d small =
+pub operated-past : (row supporting : List ℕ) (o : ℕ) → length supporting ≤ o → Operated row o supporting row
+operated-past row supporting o l k d small =
     untaken (has (getD row k 0) d) (eqb k o) (eqb k 0) (not (eqb o 0) && has (getD supporting o 0) d)
     (has (getD row 0 0) d) (rw (List·getD-eq-default supporting 0 l, has-zero d, and-false (not (eqb o 0))))
 
@@ -99,64 +99,90 @@ taken-too false true false = refl
 taken-too false false true = refl
 taken-too false false false = refl
 
-module _ (row supporting : List ℕ) (o : ℕ) (size : length row ≡ 16) (low : o ≡ 0 → ⊥) (high : o < 16)
-    (fits : getD row 0 0 < 2 ^ 64) where
-  abbrev taken : ℕ
-  taken = bitAnd (getD row 0 0) (getD supporting o 0)
-
-  abbrev lessened : ℕ
-  lessened = bitAnd (getD row 0 0) ((2 ^ 64 - 1) - taken)
-
+-- word 0 is lessened, and what it loses is joined to word o
+module _ (row : List ℕ) (o less more : ℕ) (size : length row ≡ 17) (low : o ≡ 0 → ⊥) (high : o < 17) where
   abbrev next : List ℕ
-  next = set (set row 0 lessened) o (bitOr (getD row o 0) taken)
+  next = set (set row 0 less) o more
 
-  at-zero : getD next 0 0 ≡ lessened
-  at-zero =
-      getD-set-other (set row 0 lessened) o 0 (bitOr (getD row o 0) taken) 0 (λ z. low (sym z))
-      ∙ getD-set-same row 0 lessened 0 (omega arith)
+  at-zero : getD next 0 0 ≡ less
+  at-zero = getD-set-other (set row 0 less) o 0 more 0 (λ z. low (sym z)) ∙ getD-set-same row 0 less 0 (omega arith)
 
-  at-taken : getD next o 0 ≡ bitOr (getD row o 0) taken
-  at-taken =
-      getD-set-same (set row 0 lessened) o (bitOr (getD row o 0) taken) 0 (rw length-set (omega arith))
+  at-taken : getD next o 0 ≡ more
+  at-taken = getD-set-same (set row 0 less) o more 0 (rw length-set (omega arith))
 
   at-other : (k : ℕ) → (k ≡ 0 → ⊥) → (k ≡ o → ⊥) → getD next k 0 ≡ getD row k 0
-  at-other k p q =
-      getD-set-other (set row 0 lessened) o k (bitOr (getD row o 0) taken) 0 q ∙ getD-set-other row 0 k lessened 0 p
+  at-other k p q = getD-set-other (set row 0 less) o k more 0 q ∙ getD-set-other row 0 k less 0 p
 
-  pub moved-some : Moved row o supporting next
-  moved-some k d small = go (eqb k 0) refl (eqb k o) refl
+  moved-by :
+      (set : ℕ → Bool) →
+      ((d : ℕ) → has less d ≡ (has (getD row 0 0) d && not (has (getD row 0 0) d && set d))) →
+      ((d : ℕ) → has more d ≡ (has (getD row o 0) d || (has (getD row 0 0) d && set d))) →
+      Moved row o set next
+  moved-by set less-at more-at k d small = go (eqb k 0) refl (eqb k o) refl
     where
-      taken-fits : taken < 2 ^ 64
-      taken-fits = lt-of-le-of-lt (and-le-l (getD row 0 0) (getD supporting o 0)) fits
-
       go :
           (z : Bool) →
           eqb k 0 ≡ z →
           (t : Bool) →
           eqb k o ≡ t →
           has (getD next k 0) d ≡
-          ((has (getD row k 0) d && not (z && (not (eqb o 0) && has (getD supporting o 0) d)))
-          || (t && ((not (eqb o 0) && has (getD supporting o 0) d) && has (getD row 0 0) d)))
+          ((has (getD row k 0) d && not (z && set d)) || (t && (set d && has (getD row 0 0) d)))
       go true z true t =
           let a : k ≡ 0 = eqb-true k 0 z in
           let b : k ≡ o = eqb-true k o t in
           absurd (low (sym b ∙ a))
       go true z false t =
-          let a : k ≡ 0 = eqb-true k 0 z in
-          rw (
-            a,
-            at-zero,
-            has-minus 64 (getD row 0 0) taken d fits taken-fits,
-            has-and (getD row 0 0) (getD supporting o 0) d,
-            ne-eqb o 0 low,
-          )
-          (left-over (has (getD row 0 0) d) (has (getD supporting o 0) d))
+          rw (eqb-true k 0 z, at-zero, less-at d) (left-over (has (getD row 0 0) d) (set d))
       go false z true t =
-          let b : k ≡ o = eqb-true k o t in
-          rw (b, at-taken, has-or (getD row o 0) taken d, has-and (getD row 0 0) (getD supporting o 0) d, ne-eqb o 0 low)
-          (taken-too (has (getD row o 0) d) (has (getD supporting o 0) d) (has (getD row 0 0) d))
+          rw (eqb-true k o t, at-taken, more-at d) (taken-too (has (getD row o 0) d) (set d) (has (getD row 0 0) d))
       go false z false t =
           rw (at-other k (eqb-false k 0 z) (eqb-false k o t)) (unmoved (has (getD row k 0) d))
+
+pub operated-some :
+    (row supporting : List ℕ) (o : ℕ) →
+    length row ≡ 17 →
+    (o ≡ 0 → ⊥) →
+    o < 16 →
+    getD row 0 0 < 2 ^ 64 →
+    Operated row o supporting
+    (set (set row 0 (bitAnd (getD row 0 0) ((2 ^ 64 - 1) - bitAnd (getD row 0 0) (getD supporting o 0)))) o
+    (bitOr (getD row o 0) (bitAnd (getD row 0 0) (getD supporting o 0))))
+operated-some row supporting o size low high fits =
+    let taken = bitAnd (getD row 0 0) (getD supporting o 0) in
+    let taken-fits = lt-of-le-of-lt (and-le-l (getD row 0 0) (getD supporting o 0)) fits in
+    moved-by row o (bitAnd (getD row 0 0) ((2 ^ 64 - 1) - taken)) (bitOr (getD row o 0) taken) size low (omega arith)
+    (λ d. not (eqb o 0) && has (getD supporting o 0) d)
+    (λ d. rw (
+      has-minus 64 (getD row 0 0) taken d fits taken-fits,
+      has-and (getD row 0 0) (getD supporting o 0) d,
+      ne-eqb o 0 low,
+    ))
+    (λ d. rw (has-or (getD row o 0) taken d, has-and (getD row 0 0) (getD supporting o 0) d, ne-eqb o 0 low))
+
+pub mixed-row : (row : List ℕ) → length row ≡ 17 → Mixed row (set (set row 0 0) 16 (bitOr (getD row 16 0) (getD row 0 0)))
+mixed-row row size =
+    moved-by row 16 0 (bitOr (getD row 16 0) (getD row 0 0)) size (λ z. omega arith) (omega arith) (λ d. true)
+    (λ d. rw (has-zero d, and-end (has (getD row 0 0) d)) (sym (never (has (getD row 0 0) d))))
+    (λ d. rw (has-or (getD row 16 0) (getD row 0 0) d, and-end (has (getD row 0 0) d)))
+  where
+    never : (a : Bool) → (a && not a) ≡ false
+    never true = refl
+    never false = refl
+
+-- Leaves by operation: those without one joined
+
+pub operations-of :
+    (table row : List ℕ) (r : ℕ) →
+    length row ≡ 17 →
+    RowOf table r row →
+    ByOperation table r (set row 0 (bitOr (getD row 0 0) (getD row 16 0)))
+operations-of table row r size row-at whole zero small =
+    getD-set-same row 0 (bitOr (getD row 0 0) (getD row 16 0)) 0 (omega arith)
+    ∙ rw (row-at whole 0 (omega arith), row-at whole 16 (omega arith))
+operations-of table row r size row-at whole (suc k) small =
+    getD-set-other row 0 (suc k) (bitOr (getD row 0 0) (getD row 16 0)) 0 (λ z. omega arith)
+    ∙ row-at whole (suc k) (omega arith)
+    ∙ rw (ne-eqb (suc k) 0 (λ z. omega arith))
 
 -- The row by its kind
 
@@ -177,90 +203,107 @@ no-value (suc (suc (suc (suc (suc (suc n)))))) p q r = refl
 module _ (head plan : List ℕ) (i : ℕ) where
   -- what the rows that b and c name bring
   abbrev pub brought : ℕ → ℕ → Bool
-  brought d k =
-      (ltb (rowB plan i) i && reaches head plan (rowB plan i) d k)
-      || (ltb (rowC plan i) i && reaches head plan (rowC plan i) d k)
+  brought d w =
+      (ltb (rowB plan i) i && stands head plan (rowB plan i) d w)
+      || (ltb (rowC plan i) i && stands head plan (rowC plan i) d w)
 
   pub brought-words :
       (table both : List ℕ) →
       Reached head plan i table →
       Brought plan table i both →
-      (k : ℕ) → k < 16 → WordOf (λ d. brought d k) (getD both k 0)
-  brought-words table both reached joined k small d =
+      (w : ℕ) → w < 17 → WordOf (λ d. brought d w) (getD both w 0)
+  brought-words table both reached joined w small d =
       rw (
-        joined (reached .whole) k small,
-        has-or (getD table (16 * rowB plan i + k) 0) (getD table (16 * rowC plan i + k) 0) d,
-        reached .at (rowB plan i) k small d,
-        reached .at (rowC plan i) k small d,
+        joined (reached .whole) w small,
+        has-or (getD table (17 * rowB plan i + w) 0) (getD table (17 * rowC plan i + w) 0) d,
+        reached .at (rowB plan i) w small d,
+        reached .at (rowC plan i) w small d,
       )
-      (sym (and-or (ltb d 64) (ltb (rowB plan i) i && reaches head plan (rowB plan i) d k)
-      (ltb (rowC plan i) i && reaches head plan (rowC plan i) d k)))
+      (sym (and-or (ltb d 64) (ltb (rowB plan i) i && stands head plan (rowB plan i) d w)
+      (ltb (rowC plan i) i && stands head plan (rowC plan i) d w)))
 
   pub column-row :
       (row : List ℕ) →
       kindAt plan i ≡ Column →
-      ((k : ℕ) → k < 16 → WordOf (λ d. any (eqb d) (labels head (rowA plan i)) && eqb k 0) (getD row k 0)) →
+      ((w : ℕ) → w < 17 → WordOf (λ d. any (eqb d) (labels head (rowA plan i)) && eqb w 0) (getD row w 0)) →
       RowReached head plan i row
-  column-row row e at k small d = at k small d ∙ rw (reaches-column head plan i d k e)
+  column-row row e at w small d = at w small d ∙ rw (stands-column head plan i d w e)
 
   pub choose-row :
       (row : List ℕ) →
       kindAt plan i ≡ Choose →
-      ((k : ℕ) → k < 16 → WordOf (λ d. brought d k) (getD row k 0)) →
+      ((w : ℕ) → w < 17 → WordOf (λ d. brought d w) (getD row w 0)) →
       RowReached head plan i row
-  choose-row row e at k small d = at k small d ∙ rw (reaches-choose head plan i d k e)
+  choose-row row e at w small d = at w small d ∙ rw (stands-choose head plan i d w e)
 
-  pub no-row : isValue (kindAt plan i) ≡ false → RowReached head plan i (replicate 16 0)
-  no-row e k small d =
-      rw (getD-replicate {A = ℕ} 16 k 0 0 small, has-zero d, reaches-none head plan i d k e, and-false (ltb d 64))
+  pub no-row : isValue (kindAt plan i) ≡ false → RowReached head plan i (replicate 17 0)
+  no-row e w small d =
+      rw (getD-replicate {A = ℕ} 17 w 0 0 small, has-zero d, stands-none head plan i d w e, and-false (ltb d 64))
 
   -- what is brought is a leaf, so that the words of leaves tell what is supported
-  leaf-brought : PlanSound head plan → (d k : ℕ) → isDataLeaf head d ≡ false → brought d k ≡ false
-  leaf-brought sound d k l =
-      go (reaches head plan (rowB plan i) d k) refl (reaches head plan (rowC plan i) d k) refl
+  leaf-brought : PlanSound head plan → (d w : ℕ) → isDataLeaf head d ≡ false → brought d w ≡ false
+  leaf-brought sound d w l =
+      go (stands head plan (rowB plan i) d w) refl (stands head plan (rowC plan i) d w) refl
     where
-      never : (r : ℕ) → reaches head plan r d k ≡ true → ⊥
-      never r t = false≢true (sym l ∙ sound .leaves r d k t)
+      never : (r : ℕ) → stands head plan r d w ≡ true → ⊥
+      never r t = false≢true (sym l ∙ sound .leaves r d w t)
 
       go :
           (x : Bool) →
-          reaches head plan (rowB plan i) d k ≡ x →
+          stands head plan (rowB plan i) d w ≡ x →
           (y : Bool) →
-          reaches head plan (rowC plan i) d k ≡ y →
+          stands head plan (rowC plan i) d w ≡ y →
           ((ltb (rowB plan i) i && x) || (ltb (rowC plan i) i && y)) ≡ false
       go true p y q = absurd (never (rowB plan i) p)
       go false p true q = absurd (never (rowC plan i) q)
       go false p false q = rw (and-false (ltb (rowB plan i) i), and-false (ltb (rowC plan i) i))
 
-  pub apply-row :
-      (both supporting row : List ℕ) (o : ℕ) →
-      kindAt plan i ≡ Apply →
-      PlanSound head plan →
-      Supporting head supporting →
-      o ≡ operation head (rowA plan i) →
-      ((k : ℕ) → k < 16 → WordOf (λ d. brought d k) (getD both k 0)) →
-      Moved both o supporting row →
-      RowReached head plan i row
-  unfolding takes
-  apply-row both supporting row o e sound supports-at o-at both-at moved-at k small d =
-      moved-at k d small
-      ∙ rw (both-at k small d, both-at 0 (omega arith) d, supports-at o below d, reaches-apply head plan i d k e, ← o-at)
-      (go (ltb d 64) (isDataLeaf head d) refl)
-    where
-      below : o < 16
-      below = rw o-at (sound .operations i e)
+  module _ (both supporting row : List ℕ) (e : kindAt plan i ≡ Apply) (sound : PlanSound head plan)
+      (supports-at : Supporting head supporting)
+      (both-at : (w : ℕ) → w < 17 → WordOf (λ d. brought d w) (getD both w 0)) where
+    one-row :
+        eqb (rowC plan i) 255 ≡ true →
+        Operated both (operation head (rowA plan i)) supporting row →
+        RowReached head plan i row
+    unfolding takes
+    one-row one operated-at w small d =
+        operated-at w d small
+        ∙ rw (both-at w small d, both-at 0 (omega arith) d, supports-at o (sound .operations i e) d, stands-one head plan i d w e one)
+        (go (ltb d 64) (isDataLeaf head d) refl)
+      where
+        o : ℕ
+        o = operation head (rowA plan i)
 
-      go :
-          (t l : Bool) →
-          isDataLeaf head d ≡ l →
-          (((t && brought d k) && not (eqb k 0 && (not (eqb o 0) && (t && (l && supports head d o)))))
-          || (eqb k o && ((not (eqb o 0) && (t && (l && supports head d o))) && (t && brought d 0)))) ≡
-          (t
-          && ((brought d k && not (eqb k 0 && (not (eqb o 0) && supports head d o)))
-          || (eqb k o && ((not (eqb o 0) && supports head d o) && brought d 0))))
-      go true true q = refl
-      go true false q = simp (leaf-brought sound d k q, leaf-brought sound d 0 q, and-false)
-      go false l q = simp and-false
+        go :
+            (t l : Bool) →
+            isDataLeaf head d ≡ l →
+            (((t && brought d w) && not (eqb w 0 && (not (eqb o 0) && (t && (l && supports head d o)))))
+            || (eqb w o && ((not (eqb o 0) && (t && (l && supports head d o))) && (t && brought d 0)))) ≡
+            (t
+            && ((brought d w && not (eqb w 0 && (not (eqb o 0) && supports head d o)))
+            || (eqb w o && ((not (eqb o 0) && supports head d o) && brought d 0))))
+        go true true q = refl
+        go true false q = simp (leaf-brought sound d w q, leaf-brought sound d 0 q, and-false)
+        go false l q = simp and-false
+
+    two-rows : eqb (rowC plan i) 255 ≡ false → Mixed both row → RowReached head plan i row
+    two-rows two mixed-at w small d =
+        mixed-at w d small
+        ∙ rw (both-at w small d, both-at 0 (omega arith) d, stands-two head plan i d w e two) (go (ltb d 64))
+      where
+        go :
+            (t : Bool) →
+            (((t && brought d w) && not (eqb w 0 && true)) || (eqb w 16 && (true && (t && brought d 0)))) ≡
+            (t && ((brought d w && not (eqb w 0 && true)) || (eqb w 16 && (true && brought d 0))))
+        go true = refl
+        go false = and-false (eqb w 16)
+
+    pub apply-row : ApplyStep head plan supporting both i row → RowReached head plan i row
+    apply-row step = go (eqb (rowC plan i) 255) refl
+      where
+        go : (b : Bool) → eqb (rowC plan i) 255 ≡ b → RowReached head plan i row
+        go true q = one-row q (step .0 q)
+        go false q = two-rows q (step .1 q)
 
 -- The table, row by row
 
@@ -272,18 +315,18 @@ getD-zeros n j = go (ltb j n) refl
     go false t = List·getD-eq-default {A = ℕ} (replicate n 0) 0 (rw length-replicate (ltb-false j n t))
 
 module _ (head plan : List ℕ) where
-  pub reached-none : Reached head plan 0 (replicate 1024 0)
+  pub reached-none : Reached head plan 0 (replicate 1088 0)
   reached-none =
       record {
         whole = refl;
         at =
-            λ r k small d.
-            rw (getD-zeros 1024 (16 * r + k), has-zero d, le-ltb r 0 (omega arith), and-false (ltb d 64));
+            λ r w small d.
+            rw (getD-zeros 1088 (17 * r + w), has-zero d, le-ltb r 0 (omega arith), and-false (ltb d 64));
       }
 
   pub reached-more :
       (i : ℕ) (row before after : List ℕ) →
-      length before ≡ 1024 →
+      length before ≡ 1088 →
       i < 64 →
       Reached head plan i before →
       RowReached head plan i row →
@@ -292,34 +335,26 @@ module _ (head plan : List ℕ) where
   reached-more i row before after size few reached row-at stored =
       record { whole = rw (stored .0) (reached .whole); at = each }
     where
-      there :
-          (r k : ℕ) →
-          k < 16 →
-          16 * r + k < 1024 →
-          getD after (16 * r + k) 0 ≡ cond (eqb r i) (getD row k 0) (getD before (16 * r + k) 0)
-      there r k small l =
-          let quotient : (16 * r + k) / 16 ≡ r = omega arith in
-          let rest : (16 * r + k) % 16 ≡ k = omega arith in
-          stored .1 (reached .whole) (16 * r + k) (rw size l) ∙ rw (quotient, rest)
-
-      each : (r k : ℕ) → k < 16 → WordOf (λ d. ltb r (i + 1) && reaches head plan r d k) (getD after (16 * r + k) 0)
-      each r k small d = go (ltb (16 * r + k) 1024) refl (eqb r i) refl
+      each : (r w : ℕ) → w < 17 → WordOf (λ d. ltb r (i + 1) && stands head plan r d w) (getD after (17 * r + w) 0)
+      each r w small d = go (ltb (17 * r + w) 1088) refl (eqb r i) refl
         where
+          there :
+              17 * r + w < 1088 → getD after (17 * r + w) 0 ≡ cond (eqb r i) (getD row w 0) (getD before (17 * r + w) 0)
+          there l = stored .1 (reached .whole) r w small (rw size l)
+
           go :
               (b : Bool) →
-              ltb (16 * r + k) 1024 ≡ b →
+              ltb (17 * r + w) 1088 ≡ b →
               (t : Bool) →
               eqb r i ≡ t →
-              has (getD after (16 * r + k) 0) d ≡ (ltb d 64 && (ltb r (i + 1) && reaches head plan r d k))
+              has (getD after (17 * r + w) 0) d ≡ (ltb d 64 && (ltb r (i + 1) && stands head plan r d w))
           go true b true t =
               let e : r ≡ i = eqb-true r i t in
-              rw (there r k small (ltb-true (16 * r + k) 1024 b), t, lt-ltb r (i + 1) (omega arith))
-              (row-at k small d ∙ rw e)
+              rw (there (ltb-true (17 * r + w) 1088 b), t, lt-ltb r (i + 1) (omega arith)) (row-at w small d ∙ rw e)
           go true b false t =
-              rw (there r k small (ltb-true (16 * r + k) 1024 b), t, ltb-more r i (eqb-false r i t))
-              (reached .at r k small d)
+              rw (there (ltb-true (17 * r + w) 1088 b), t, ltb-more r i (eqb-false r i t)) (reached .at r w small d)
           go false b t q =
-              let l : 1024 ≤ 16 * r + k = ltb-false (16 * r + k) 1024 b in
+              let l : 1088 ≤ 17 * r + w = ltb-false (17 * r + w) 1088 b in
               let s : length after ≡ length before = stored .0 in
-              let past : length after ≤ 16 * r + k = omega arith in
+              let past : length after ≤ 17 * r + w = omega arith in
               rw (List·getD-eq-default after 0 past, has-zero d, le-ltb r (i + 1) (omega arith), and-false (ltb d 64))

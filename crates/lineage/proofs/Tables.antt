@@ -1,111 +1,135 @@
--- Laws of the loops that fill words: one word a turn, and one row of sixteen. Assumes nothing.
+-- Laws of the loops that fill words: one word a turn, and one row of a table. Assumes nothing.
 use Prim.Native.Nat.{ℕ, _+_, _*_, _/_, _%_, _≤_, _<_}
 use native.Mathlib.Omega.{arith}
 use mathlib.Core.Path.{_≡_, refl, sym, ap, _∙_}
-use mathlib.Core.Bool.{Bool, true, false, _&&_, cond}
+use mathlib.Core.Logic.{_⊎_, inl, inr}
+use mathlib.Core.Bool.{Bool, true, false, cond}
 use mathlib.Core.List.{List}
 use lib.ListN.{length, getD, set, length-set, List·getD-eq-default}
 use lib.Seq.{getD-set-same, getD-set-other}
 use lib.Bits.{bitOr, or-zero-r}
 use lib.Dec.{eqb, ltb}
-use borrow.Author.Tests.{lt-ltb, le-ltb, eqb-true, eqb-false, eq-eqb, ne-eqb}
-use Rattle.book.proofs.Lists.{and-end, and-false, ltb-more}
+use borrow.Author.Tests.{eqb-true, eqb-false, ltb-true, ltb-false, ne-eqb}
 pub use Rattle.book.proofs.Loops.{Filled, fill-none, fill-more}
 
--- the first k elements of row i are new, all others old
+-- the first k of `width` elements, from the element `first` on, are new, all others old
 
-pub record Rowed (i : ℕ) (new old : ℕ → ℕ) (n : ℕ) (l : List ℕ) (k : ℕ) : Type 0 where
-  pub bound : k ≤ 16
+pub record Rowed (width first : ℕ) (new old : ℕ → ℕ) (n : ℕ) (l : List ℕ) (k : ℕ) : Type 0 where
+  pub bound : k ≤ width
   pub size : length l ≡ n
-  pub at : (j : ℕ) → j < n → getD l j 0 ≡ cond (eqb (j / 16) i && ltb (j % 16) k) (new j) (old j)
+  pub own : (j : ℕ) → j < k → getD l (first + j) 0 ≡ new j
+  pub below : (j : ℕ) → j < first → getD l j 0 ≡ old j
+  pub above : (j : ℕ) → first + k ≤ j → getD l j 0 ≡ old j
 
 pub row-none :
-    {i : ℕ} {new old : ℕ → ℕ} {n : ℕ} {l : List ℕ} →
+    {width first : ℕ} {new old : ℕ → ℕ} {n : ℕ} {l : List ℕ} →
     length l ≡ n →
-    ((j : ℕ) → j < n → getD l j 0 ≡ old j) →
-    Rowed i new old n l 0
-row-none {i} e h =
+    ((j : ℕ) → getD l j 0 ≡ old j) →
+    Rowed width first new old n l 0
+row-none e h =
     record {
       bound = omega arith;
       size = e;
-      at = λ j m. h j m ∙ rw (le-ltb (j % 16) 0 (omega arith), and-false (eqb (j / 16) i));
+      own = λ j m. absurd (omega arith);
+      below = λ j m. h j;
+      above = λ j m. h j;
     }
 
--- another element of the row, or an element of another row
-beside : (i k j : ℕ) → (j ≡ 16 * i + k → ⊥) → k < 16 → (eqb (j / 16) i && ltb (j % 16) (k + 1)) ≡ (eqb (j / 16) i && ltb (j % 16) k)
-beside i k j n small = go (eqb (j / 16) i) refl
-  where
-    go : (b : Bool) → eqb (j / 16) i ≡ b → (b && ltb (j % 16) (k + 1)) ≡ (b && ltb (j % 16) k)
-    go true q =
-        let e : j / 16 ≡ i = eqb-true (j / 16) i q in
-        ltb-more (j % 16) k (λ z. n (omega arith))
-    go false q = refl
-
 pub row-more :
-    {i : ℕ} {new old : ℕ → ℕ} {n : ℕ} {l : List ℕ} {k v : ℕ} →
-    Rowed i new old n l k →
-    k < 16 →
-    16 * i + k < n →
-    v ≡ new (16 * i + k) →
-    Rowed i new old n (set l (16 * i + k) v) (k + 1)
-row-more {i} {new} {old} {n} {l} {k} {v} r small m e =
-    record { bound = omega arith; size = rw length-set (r .size); at = λ j q. go j q (eqb j (16 * i + k)) refl }
+    {width first : ℕ} {new old : ℕ → ℕ} {n : ℕ} {l : List ℕ} {k v : ℕ} →
+    Rowed width first new old n l k →
+    k < width →
+    first + k < n →
+    v ≡ new k →
+    Rowed width first new old n (set l (first + k) v) (k + 1)
+row-more {width} {first} {new} {old} {n} {l} {k} {v} r small m e =
+    record {
+      bound = omega arith;
+      size = rw length-set (r .size);
+      own = λ j q. go j q (eqb j k) refl;
+      below = λ j q. getD-set-other l (first + k) j v 0 (λ z. omega arith) ∙ r .below j q;
+      above = λ j q. getD-set-other l (first + k) j v 0 (λ z. omega arith) ∙ r .above j (omega arith);
+    }
   where
-    go :
-        (j : ℕ) →
-        j < n →
-        (b : Bool) →
-        eqb j (16 * i + k) ≡ b →
-        getD (set l (16 * i + k) v) j 0 ≡ cond (eqb (j / 16) i && ltb (j % 16) (k + 1)) (new j) (old j)
+    go : (j : ℕ) → j < k + 1 → (b : Bool) → eqb j k ≡ b → getD (set l (first + k) v) (first + j) 0 ≡ new j
     go j q true t =
         let s : length l ≡ n = r .size in
-        let z : j ≡ 16 * i + k = eqb-true j (16 * i + k) t in
-        rw (eq-eqb (j / 16) i (omega arith), lt-ltb (j % 16) (k + 1) (omega arith), z)
-        (getD-set-same l (16 * i + k) v 0 (omega arith) ∙ e)
+        rw (eqb-true j k t) (getD-set-same l (first + k) v 0 (omega arith) ∙ e)
     go j q false t =
-        getD-set-other l (16 * i + k) j v 0 (eqb-false j (16 * i + k) t)
-        ∙ r .at j q
-        ∙ rw (beside i k j (eqb-false j (16 * i + k) t) small)
+        let other : j ≡ k → ⊥ = eqb-false j k t in
+        getD-set-other l (first + k) (first + j) v 0 (λ z. other (omega arith))
+        ∙ r .own j (omega (arith, other))
 
--- a table of whole rows that has no row i
-pub row-past : (i n j x y : ℕ) → n < 16 * i + 16 → n % 16 ≡ 0 → j < n → y ≡ cond (eqb (j / 16) i) x y
-row-past i n j x y past whole h = rw (ne-eqb (j / 16) i (λ e. omega arith))
+-- all elements, when the row is written
+pub row-other :
+    {width first : ℕ} {new old : ℕ → ℕ} {n : ℕ} {l : List ℕ} {k : ℕ} →
+    Rowed width first new old n l k →
+    width ≤ k →
+    (j : ℕ) →
+    (j < first) ⊎ (first + width ≤ j) →
+    getD l j 0 ≡ old j
+row-other r past j (inl low) = r .below j low
+row-other {width} {first} {k = k} r past j (inr high) =
+    let b : k ≤ width = r .bound in
+    r .above j (omega arith)
+
+-- A table of whole rows of seventeen words
 
 pub word-past :
-    (table : List ℕ) (r k : ℕ)
-    → length table < 16 * r + 16
-    → length table % 16 ≡ 0
-    → _≡_ {A = ℕ} 0 (getD table (16 * r + k) 0)
-word-past table r k past whole =
-    let out : length table ≤ 16 * r + k = omega arith in
+    (table : List ℕ) (r w : ℕ)
+    → length table < 17 * r + 17
+    → length table % 17 ≡ 0
+    → _≡_ {A = ℕ} 0 (getD table (17 * r + w) 0)
+word-past table r w past whole =
+    let out : length table ≤ 17 * r + w = omega arith in
     sym (List·getD-eq-default table 0 out)
 
-pub row-end :
-    {i : ℕ} {new old : ℕ → ℕ} {n : ℕ} {l : List ℕ} {k : ℕ} →
-    Rowed i new old n l k → 16 ≤ k → (j : ℕ) → j < n → getD l j 0 ≡ cond (eqb (j / 16) i) (new j) (old j)
-row-end {i} {k = k} r past j q =
-    let b : k ≤ 16 = r .bound in
-    r .at j q ∙ rw (lt-ltb (j % 16) k (omega arith), and-end (eqb (j / 16) i))
+-- it has no row i
+pub stored-past :
+    (i n r w x y : ℕ) → n < 17 * i + 17 → n % 17 ≡ 0 → w < 17 → 17 * r + w < n → y ≡ cond (eqb r i) x y
+stored-past i n r w x y past whole small h = rw (ne-eqb r i (λ e. omega arith))
 
--- an element of row i by its place in the row
-pub place : (row : List ℕ) (i k : ℕ) → k < 16 → getD row k 0 ≡ getD row ((16 * i + k) % 16) 0
-place row i k small =
-    let e : k ≡ (16 * i + k) % 16 = omega arith in
-    ap (λ (m : ℕ). getD row m 0) e
+pub stored-end :
+    (row before : List ℕ) (i : ℕ) {l : List ℕ} {n k : ℕ} →
+    Rowed 17 (17 * i) (λ j. getD row j 0) (λ j. getD before j 0) n l k →
+    17 ≤ k →
+    (r w : ℕ) → w < 17 → getD l (17 * r + w) 0 ≡ cond (eqb r i) (getD row w 0) (getD before (17 * r + w) 0)
+stored-end row before i {l} {n} {k} done past r w small = go (eqb r i) refl
+  where
+    go : (b : Bool) → eqb r i ≡ b → getD l (17 * r + w) 0 ≡ cond b (getD row w 0) (getD before (17 * r + w) 0)
+    go true e =
+        rw (eqb-true r i e) (done .own w (omega arith))
+    go false e =
+        let n : r ≡ i → ⊥ = eqb-false r i e in
+        row-other done past (17 * r + w) (side (ltb r i) refl n)
+      where
+        side : (b : Bool) → ltb r i ≡ b → (r ≡ i → ⊥) → (17 * r + w < 17 * i) ⊎ (17 * i + 17 ≤ 17 * r + w)
+        side true t n = let m : r < i = ltb-true r i t in inl (omega arith)
+        side false t n = let m : i ≤ r = ltb-false r i t in inr (omega (arith, n))
 
--- Words joined to one row of a table
-
-or-cond : (b : Bool) (x y : ℕ) → cond b (bitOr x y) x ≡ bitOr x (cond b y 0)
-or-cond true x y = refl
-or-cond false x y = sym (or-zero-r x)
+-- Words joined to one row of sixteen
 
 pub join-end :
-    (words row : List ℕ) {i : ℕ} {l : List ℕ} {n k : ℕ} →
-    Rowed i (λ w. bitOr (getD words w 0) (getD row (w % 16) 0)) (λ w. getD words w 0) n l k →
+    (words row : List ℕ) (i : ℕ) {l : List ℕ} {n k : ℕ} →
+    Rowed 16 (16 * i) (λ j. bitOr (getD words (16 * i + j) 0) (getD row j 0)) (λ j. getD words j 0) n l k →
     16 ≤ k →
-    (w : ℕ) → w < n → getD l w 0 ≡ bitOr (getD words w 0) (cond (eqb (w / 16) i) (getD row (w % 16) 0) 0)
-join-end words row {i} r past w h =
-    row-end r past w h ∙ or-cond (eqb (w / 16) i) (getD words w 0) (getD row (w % 16) 0)
+    (w : ℕ) → getD l w 0 ≡ bitOr (getD words w 0) (cond (eqb (w / 16) i) (getD row (w % 16) 0) 0)
+join-end words row i {l} {n} {k} done past w = go (eqb (w / 16) i) refl
+  where
+    go : (b : Bool) → eqb (w / 16) i ≡ b → getD l w 0 ≡ bitOr (getD words w 0) (cond b (getD row (w % 16) 0) 0)
+    go true e =
+        let q : w / 16 ≡ i = eqb-true (w / 16) i e in
+        let z : w ≡ 16 * i + w % 16 = omega arith in
+        ap (λ (j : ℕ). getD l j 0) z
+        ∙ done .own (w % 16) (omega arith)
+        ∙ ap (λ (j : ℕ). bitOr (getD words j 0) (getD row (w % 16) 0)) (sym z)
+    go false e =
+        let q : w / 16 ≡ i → ⊥ = eqb-false (w / 16) i e in
+        row-other done past w (side (ltb w (16 * i)) refl q) ∙ sym (or-zero-r (getD words w 0))
+      where
+        side : (b : Bool) → ltb w (16 * i) ≡ b → (w / 16 ≡ i → ⊥) → (w < 16 * i) ⊎ (16 * i + 16 ≤ w)
+        side true t n = inl (ltb-true w (16 * i) t)
+        side false t n = let m : 16 * i ≤ w = ltb-false w (16 * i) t in inr (omega (arith, n))
 
 pub join-past :
     (words row : List ℕ) (i w : ℕ) →
@@ -113,10 +137,3 @@ pub join-past :
     getD words w 0 ≡ bitOr (getD words w 0) (cond (eqb (w / 16) i) (getD row (w % 16) 0) 0)
 join-past words row i w h =
     rw (ne-eqb (w / 16) i (λ e. omega arith)) (sym (or-zero-r (getD words w 0)))
-
-pub join-place :
-    (words row : List ℕ) (i k : ℕ) →
-    k < 16 →
-    bitOr (getD words (16 * i + k) 0) (getD row k 0) ≡
-    bitOr (getD words (16 * i + k) 0) (getD row ((16 * i + k) % 16) 0)
-join-place words row i k small = ap (bitOr (getD words (16 * i + k) 0)) (place row i k small)

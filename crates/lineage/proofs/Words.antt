@@ -18,7 +18,8 @@ use Rattle.book.proofs.Lists.{and-end, and-false, and-or, or-end, any-more, any
 use Rattle.book.proofs.Members.{has-zero, has-or, has-single, same-members, has-cond}
 use Rattle.lineage.specs.Rows.{kindAt, kindByte, kindOf, rowA, rowCount}
 use Rattle.lineage.specs.Accesses.{accessWords, gives, isAccess, reaches, wordOf}
-use Rattle.lineage.specs.Inner.Table.{Gathered, Given, Reached, RowOf}
+use Rattle.lineage.specs.Inner.Table.{ByOperation, Gathered, Given, PlanSound, Reached, RowAdded, stands}
+use Rattle.lineage.proofs.Paths.{reaches-stands}
 use Rattle.lineage.proofs.Steps.{getD-zeros, kind-is}
 
 -- A word by its members
@@ -107,17 +108,58 @@ module _ (head plan : List ℕ) where
         and-false (ltb d 64),
       )
 
+  -- word k of a row by operation
+  reached-word :
+      (r k n : ℕ) (table : List ℕ) →
+      PlanSound head plan →
+      Reached head plan n table →
+      r < n →
+      k < 16 →
+      (d : ℕ) →
+      has (cond (eqb k 0) (bitOr (getD table (17 * r + 0) 0) (getD table (17 * r + 16) 0)) (getD table (17 * r + k) 0)) d ≡
+      (ltb d 64 && reaches head plan r d k)
+  reached-word r k n table sound reached l small d =
+      rw (reaches-stands head plan r d k small none) (go (eqb k 0) refl)
+    where
+      none : reaches head plan r d 16 ≡ false
+      none = never (reaches head plan r d 16) refl
+        where
+          never : (b : Bool) → reaches head plan r d 16 ≡ b → reaches head plan r d 16 ≡ false
+          never true e =
+              let m : 16 < 16 = sound .below r d 16 e in
+              absurd (omega arith)
+          never false e = e
+
+      at : (w : ℕ) → w < 17 → has (getD table (17 * r + w) 0) d ≡ (ltb d 64 && stands head plan r d w)
+      at w h = rw (reached .at r w h d, lt-ltb r n l)
+
+      go :
+          (b : Bool) →
+          eqb k 0 ≡ b →
+          has (cond b (bitOr (getD table (17 * r + 0) 0) (getD table (17 * r + 16) 0)) (getD table (17 * r + k) 0)) d ≡
+          (ltb d 64 && (stands head plan r d k || (b && stands head plan r d 16)))
+      go true e =
+          rw (
+            eqb-true k 0 e,
+            has-or (getD table (17 * r + 0) 0) (getD table (17 * r + 16) 0) d,
+            at 0 (omega arith),
+            at 16 (omega arith),
+          )
+          (sym (and-or (ltb d 64) (stands head plan r d 0) (stands head plan r d 16)))
+      go false e = at k (omega arith) ∙ rw (or-end (stands head plan r d k))
+
   module _ (i : ℕ) (words next : List ℕ) (before : Gathered head plan i words) where
     -- a row that gives accesses of action s
     pub gathered-more :
         (s n : ℕ) (row table : List ℕ) →
+        PlanSound head plan →
         Reached head plan n table →
         Given plan n i →
         ((t : ℕ) → gives (kindAt plan i) t ≡ eqb t s) →
-        RowOf table (rowA plan i) row →
-        ((w : ℕ) → w < 32 → getD next w 0 ≡ bitOr (getD words w 0) (cond (eqb (w / 16) s) (getD row (w % 16) 0) 0)) →
+        ByOperation table (rowA plan i) row →
+        RowAdded words s row next →
         Gathered head plan (i + 1) next
-    gathered-more s n row table reached given action row-at next-at w small d =
+    gathered-more s n row table sound reached given action row-at next-at w small d =
         rw (
           next-at w small,
           has-or (getD words w 0) (cond (eqb (w / 16) s) (getD row (w % 16) 0) 0) d,
@@ -136,7 +178,7 @@ module _ (head plan : List ℕ) where
         row-word true e =
             let l : rowA plan i < n = given (w / 16) (action (w / 16) ∙ e) in
             let k : w % 16 < 16 = omega arith in
-            rw (row-at (reached .whole) (w % 16) k, reached .at (rowA plan i) (w % 16) k d, lt-ltb (rowA plan i) n l)
+            rw (row-at (reached .whole) (w % 16) k) (reached-word (rowA plan i) (w % 16) n table sound reached l k d)
         row-word false e = rw (has-zero d, and-false (ltb d 64))
 
     -- a row that gives none

@@ -1,6 +1,6 @@
 // The accesses of a plan as 32 words: bit d of word 16 × s + k for access (s, d, k).
+use crate::reach::by_operation;
 use crate::reach::reach_table;
-use crate::reach::row_words;
 use crate::rows::kind;
 use crate::rows::row_a;
 use book::fields::head_of;
@@ -12,7 +12,7 @@ ghost use Rattle.lineage.specs.Answers.{BothAccepted};
 ghost use Rattle.lineage.specs.Inner.Table.{GatheredAll, GatheredStep, RowAdded};
 
 // The words with a row's words added to those of action s.
-fn with_row(words: [u64; 32], s: usize, row: [u64; 16]) -> [u64; 32]
+fn with_row(words: [u64; 32], s: usize, row: [u64; 17]) -> [u64; 32]
     ensures { λ r. ⌜ RowAdded words s row r ⌝ }
 {
     if 2 <= s {
@@ -32,9 +32,9 @@ fn with_given(words: [u64; 32], plan: &[u8], table: &[u64], i: u8) -> [u64; 32]
     let a = row_a(plan, i);
     let kind = kind(plan, i);
     match kind {
-        3 => with_row(words, 1, row_words(table, a)),
-        4 => with_row(words, 0, row_words(table, a)),
-        5 => with_row(words, 1, row_words(table, a)),
+        3 => with_row(words, 1, by_operation(table, a)),
+        4 => with_row(words, 0, by_operation(table, a)),
+        5 => with_row(words, 1, by_operation(table, a)),
         _ => words,
     }
 }

@@ -1,5 +1,6 @@
-// Which leaves reach each row of a plan, and with which operation: sixteen words a row, word k for
-// operation k. One pass up the rows, whatever the number of paths.
+// Which leaves reach each row of a plan, and with which operation: seventeen words a row. Word k is for
+// operation k. Leaves without an operation are in word 0 while they may take one, and in word 16 once
+// they have passed an Apply with two rows. One pass up the rows, whatever the number of paths.
 use crate::rows::kind;
 use crate::rows::row_a;
 use crate::rows::row_b;
@@ -17,30 +18,30 @@ ghost use Rattle.book.specs.Lists.{any};
 ghost use Rattle.book.specs.Sets.{WordOf};
 ghost use Rattle.book.specs.Inner.Words.{HeadWords};
 ghost use Rattle.lineage.specs.Paths.{labels};
-ghost use Rattle.lineage.specs.Inner.Table.{Brought, ColumnReached, Moved, PlanSound, Reached};
-ghost use Rattle.lineage.specs.Inner.Table.{RowOf, RowStep, Stored};
+ghost use Rattle.lineage.specs.Inner.Table.{ApplyStep, Brought, ByOperation, ColumnReached, Mixed, Operated};
+ghost use Rattle.lineage.specs.Inner.Table.{PlanSound, Reached, RowOf, RowStep, Stored};
 
 // The words of row r; all zero past the table's end. One test a row, so that its words are copied
 // with none.
-pub fn row_words(table: &[u64], r: u8) -> [u64; 16]
+fn row_words(table: &[u64], r: u8) -> [u64; 17]
     ensures { λ w. ⌜ RowOf (now (table .entry)) r w ⌝ }
 {
     let at = r as usize;
-    let mut row = [0u64; 16];
-    if table.len() < 16 * at + 16 {
+    let mut row = [0u64; 17];
+    if table.len() < 17 * at + 17 {
         return row;
     }
-    for k in 0..16usize {
-        row[k] = table[16 * at + k];
+    for k in 0..17usize {
+        row[k] = table[17 * at + k];
     }
     row
 }
 
-fn joined(a: [u64; 16], b: [u64; 16]) -> [u64; 16]
-    ensures { λ r. ⌜ ((k : ℕ) → k < 16 → getD r k 0 ≡ bitOr (getD a k 0) (getD b k 0)) ⌝ }
+fn joined(a: [u64; 17], b: [u64; 17]) -> [u64; 17]
+    ensures { λ r. ⌜ ((k : ℕ) → k < 17 → getD r k 0 ≡ bitOr (getD a k 0) (getD b k 0)) ⌝ }
 {
     let mut r = a;
-    for k in 0..16usize {
+    for k in 0..17usize {
         r[k] = a[k] | b[k];
     }
     r
@@ -53,9 +54,10 @@ pub fn label_set(head: &[u8], column: u8) -> u64
     single(label(head, column))
 }
 
-// A function of operation o: the leaves that support it and have no operation yet take it.
-fn moved(row: [u64; 16], o: usize, supporting: [u64; 16]) -> [u64; 16]
-    ensures { λ r. ⌜ Moved row o supporting r ⌝ }
+// An Apply with one row, whose function has operation o: the leaves that support it and have none yet
+// take it.
+fn operated(row: [u64; 17], o: usize, supporting: [u64; 16]) -> [u64; 17]
+    ensures { λ r. ⌜ Operated row o supporting r ⌝ }
 {
     if o == 0 {
         return row;
@@ -70,17 +72,27 @@ fn moved(row: [u64; 16], o: usize, supporting: [u64; 16]) -> [u64; 16]
     next
 }
 
+// An Apply with two rows: the leaves without an operation can take none any more.
+fn mixed(row: [u64; 17]) -> [u64; 17]
+    ensures { λ r. ⌜ Mixed row r ⌝ }
+{
+    let mut next = row;
+    next[0] = 0;
+    next[16] = row[16] | row[0];
+    next
+}
+
 // The words of a Column row.
-fn column_reach(head: &[u8], column: u8) -> [u64; 16]
+fn column_reach(head: &[u8], column: u8) -> [u64; 17]
     ensures { λ r. ⌜ ColumnReached (now (head .entry)) column r ⌝ }
 {
-    let mut row = [0u64; 16];
+    let mut row = [0u64; 17];
     row[0] = label_set(head, column);
     row
 }
 
 // The words of the two rows that row i names, joined.
-fn brought(plan: &[u8], table: &[u64], i: u8) -> [u64; 16]
+fn brought(plan: &[u8], table: &[u64], i: u8) -> [u64; 17]
     ensures { λ r. ⌜ Brought (now (plan .entry)) (now (table .entry)) i r ⌝ }
 {
     let b = row_words(table, row_b(plan, i));
@@ -88,39 +100,60 @@ fn brought(plan: &[u8], table: &[u64], i: u8) -> [u64; 16]
     joined(b, c)
 }
 
+// The words of an Apply row, given those of the rows that it names, joined.
+fn applied(head: &[u8], plan: &[u8], supporting: [u64; 16], both: [u64; 17], i: u8) -> [u64; 17]
+    ensures { λ r. ⌜ ApplyStep (now (head .entry)) (now (plan .entry)) supporting both i r ⌝ }
+{
+    let c = row_c(plan, i);
+    // 255 is no second row
+    if c == 255 {
+        return operated(both, operation(head, row_a(plan, i)), supporting);
+    }
+    mixed(both)
+}
+
 // The words of row i, given those of the lower rows: no other row is read where the kind names none.
-fn row_reach(head: &[u8], plan: &[u8], supporting: [u64; 16], table: &[u64], i: u8) -> [u64; 16]
+fn row_reach(head: &[u8], plan: &[u8], supporting: [u64; 16], table: &[u64], i: u8) -> [u64; 17]
     ensures { λ r. ⌜ RowStep (now (head .entry)) (now (plan .entry)) supporting (now (table .entry)) i r ⌝ }
 {
-    let a = row_a(plan, i);
     let kind = kind(plan, i);
     match kind {
-        1 => column_reach(head, a),
-        2 => moved(brought(plan, table, i), operation(head, a), supporting),
+        1 => column_reach(head, row_a(plan, i)),
+        2 => applied(head, plan, supporting, brought(plan, table, i), i),
         3 => brought(plan, table, i),
-        _ => [0u64; 16],
+        _ => [0u64; 17],
     }
 }
 
-fn store_row(table: &mut [u64], i: u8, row: [u64; 16])
+fn store_row(table: &mut [u64], i: u8, row: [u64; 17])
     ensures { λ _. ⌜ Stored i row (now (table .entry)) (now (table .exit)) ⌝ }
 {
     let at = i as usize;
-    if table.len() < 16 * at + 16 {
+    if table.len() < 17 * at + 17 {
         return;
     }
-    for k in 0..16usize {
-        table[16 * at + k] = row[k];
+    for k in 0..17usize {
+        table[17 * at + k] = row[k];
     }
 }
 
+// The leaves that reach row r, by operation: word 0 has all that have none.
+pub fn by_operation(table: &[u64], r: u8) -> [u64; 17]
+    ensures { λ w. ⌜ ByOperation (now (table .entry)) r w ⌝ }
+{
+    let row = row_words(table, r);
+    let mut words = row;
+    words[0] = row[0] | row[16];
+    words
+}
+
 // The words of the first n rows, from row 0 up.
-pub fn reach_table(head: &[u8], t: &[u64], plan: &[u8], n: u8) -> [u64; 1024]
+pub fn reach_table(head: &[u8], t: &[u64], plan: &[u8], n: u8) -> [u64; 1088]
     ensures { λ r. ⌜ (HeadWords (now (head .entry)) (now (t .entry)) → PlanSound (now (head .entry)) (now (plan .entry))
         → n ≤ 64 → Reached (now (head .entry)) (now (plan .entry)) n r) ⌝ }
 {
     let supporting = supporters(t, head);
-    let mut table = [0u64; 1024];
+    let mut table = [0u64; 1088];
     for i in 0..n {
         let row = row_reach(head, plan, supporting, &table, i);
         store_row(&mut table, i, row);

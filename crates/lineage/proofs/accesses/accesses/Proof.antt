@@ -25,11 +25,12 @@ returns-2 c words both =
     let head = headOf (a .book .now) in
     let b = accepted-head (a .book .now) (both .0) in
     let p = accepted-plan head (a .plan .now) (both .1) in
+    let sound = plan-sound head (a .plan .now) b p in
     let same = c .before .before .before .head-of .ensures in
     let table : Reached head (a .plan .now) (rowCount (a .plan .now)) (c .before .before .reach-table .result) =
-    (rw same at (c .before .before .reach-table .ensures)) words (plan-sound head (a .plan .now) b p) (omega (arith, p .short)) in
+    (rw same at (c .before .before .reach-table .ensures)) words sound (omega (arith, p .short)) in
     access-words head (a .plan .now) (c .gathered .result) (search needs) (λ w h. let f : Fits w64 (getD (c .gathered .result) w 0) = search needs in f .fits)
-    (c .gathered .ensures head table (plan-given head (a .plan .now) b p))
+    (c .gathered .ensures head sound table (plan-given head (a .plan .now) b p))
 
 pub accesses-spec : {M : Type 1} → statement M
 accesses-spec =

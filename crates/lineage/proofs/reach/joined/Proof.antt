@@ -10,10 +10,10 @@ use Rattle.lineage.proofs.reach.joined.Statement.{statement}
 use Rattle.lineage.proofs.reach.joined.Tie as tie
 
 abbrev Inv-loop : tie.InvT-loop
-Inv-loop a b r₀ k₀ r k = Filled 16 (λ j x. x ≡ bitOr (getD a j 0) (getD b j 0)) r k
+Inv-loop a b r₀ k₀ r k = Filled 17 (λ j x. x ≡ bitOr (getD a j 0) (getD b j 0)) r k
 
 abbrev μ-loop : tie.MeasureT-loop
-μ-loop a b r₀ k₀ r k = 16 - k
+μ-loop a b r₀ k₀ r k = 17 - k
 
 loop-holds : tie.Need-loop-holds Inv-loop μ-loop
 loop-holds c = fill-none (search needs)

@@ -12,7 +12,7 @@ use Rattle.lineage.proofs.reach.reach_table.Tie as tie
 
 abbrev Inv-loop : tie.InvT-loop
 Inv-loop head t plan n supporting table₀ i₀ table i =
-    (i ≤ n) × (length table ≡ 1024) × (HeadWords head t → PlanSound head plan → n ≤ 64 → Reached head plan i table)
+    (i ≤ n) × (length table ≡ 1088) × (HeadWords head t → PlanSound head plan → n ≤ 64 → Reached head plan i table)
 
 abbrev μ-loop : tie.MeasureT-loop
 μ-loop head t plan n supporting table₀ i₀ table i = n - i

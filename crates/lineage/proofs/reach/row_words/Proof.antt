@@ -11,15 +11,15 @@ use Rattle.lineage.proofs.reach.row_words.Tie as tie
 
 abbrev Inv-loop : tie.InvT-loop
 Inv-loop table r at row₀ k₀ row k =
-    (at ≡ r) × (16 * r + 16 ≤ length table) × Filled 16 (λ j x. x ≡ getD table (16 * r + j) 0) row k
+    (at ≡ r) × (17 * r + 17 ≤ length table) × Filled 17 (λ j x. x ≡ getD table (17 * r + j) 0) row k
 
 abbrev μ-loop : tie.MeasureT-loop
-μ-loop table r at row₀ k₀ row k = 16 - k
+μ-loop table r at row₀ k₀ row k = 17 - k
 
 returns : tie.Need-returns Inv-loop μ-loop
 returns c whole k h =
     let a = c .before .args in
-    getD-zeros 16 k ∙ word-past (a .table .now) (a .r) k (c .if1 .taken) whole
+    getD-zeros 17 k ∙ word-past (a .table .now) (a .r) k (c .if1 .taken) whole
 
 loop-holds : tie.Need-loop-holds Inv-loop μ-loop
 loop-holds c = (refl, search needs, fill-none (search needs))
