@@ -1,7 +1,7 @@
 -- Theorems about the definitions, by computation: some days of submissions in the small shop. Assumes nothing.
 use Prim.Native.Nat.{ℕ}
 use mathlib.Core.Path.{_≡_, refl}
-use mathlib.Core.List.{List, [], _∷_, map, reverse}
+use mathlib.Core.List.{List, [], _∷_, _++_, map, reverse}
 use lib.ListN.{replicate}
 use Rattle.book.specs.Lists.{flat, all, any, upTo, from}
 use Rattle.book.specs.Sets.{has}
@@ -21,10 +21,11 @@ use Rattle.book.specs.Tests.{firstFailing, refusedOr, answered}
 use Rattle.book.specs.Answers.{withCheck, sealBytes}
 use Rattle.book.specs.Shop.{padded, block, users, categories, columns, functions, rule, rule0, rule1, rule2, shop}
 use Rattle.lineage.specs.Rows.{kindOf, kindAt, isValue, names, soundAs, rowHolds}
-use Rattle.lineage.specs.Paths.{through, pathsBy, pathsIn, paths, labels, takes, firstOperation, carries}
+use Rattle.lineage.specs.Paths.{appliedAs, through, pathsBy, pathsIn, paths, labels, takes, counting}
+use Rattle.lineage.specs.Paths.{firstOperation, operationOf, carries}
 use Rattle.lineage.specs.Accesses.{reaches, gives, isAccess, wordOf, accessWords}
 use Rattle.lineage.specs.Answers.{planLengthHolds, rowTests, planTests}
-use Rattle.lineage.proofs.Vectors.{output, plan, state, price, avg}
+use Rattle.lineage.proofs.Vectors.{concatBoth, output, plan, state, price, avg}
 use Rattle.verdicts.specs.Actions.{actionFits, channelFits}
 use Rattle.verdicts.specs.Accesses.{accessesOf, heldBy, union, keep, everyAccess, fits, fitting}
 use Rattle.verdicts.specs.Breaking.{choicesFrom, operations, accepts, refusesAll, someChoiceRefused, breaks}
@@ -51,22 +52,25 @@ days =
     -- an average may stand beside State, and an admitted plan may come again
     ∷ (1, price ∷ avg 0 ∷ output 1 ∷ [], Admitted)
     ∷ (1, state ∷ output 0 ∷ [], Admitted)
+    -- an average of both columns mixed protects neither; a mix with an average below it does
+    ∷ (2, state ∷ price ∷ concatBoth 0 1 ∷ avg 2 ∷ output 3 ∷ [], Declined 3)
+    ∷ (2, state ∷ price ∷ avg 1 ∷ concatBoth 0 2 ∷ output 3 ∷ [], Admitted)
     ∷ []
 
 -- the same as submissions, the latest first
 unfoldable pub submissions : List Submission
 submissions = reverse (map (λ day. record { user = day .0; plan = plan (day .1) }) days)
 
--- the replies; then both counts, and the words of user 1: State (category 2) as it is in the first, Price (category 4)
--- under avg in the second
+-- the replies; then both counts, and the words of users 1 and 2: State (category 2) as it is in the first, Price
+-- (category 4) under avg in the second
 pub shop-days :
     _≡_ {A = List Submitted × List ℕ} (
       map (λ e. e .reply) (log shop submissions),
       recordsAfter shop submissions .tally .admitted
           ∷ recordsAfter shop submissions .tally .declined
-          ∷ wordsOf (recordsAfter shop submissions .ledger) 1,
+          ∷ (wordsOf (recordsAfter shop submissions .ledger) 1 ++ wordsOf (recordsAfter shop submissions .ledger) 2),
     )
-    (reverse (map (λ day. day .2) days), 3 ∷ 2 ∷ 4 ∷ 16 ∷ replicate 30 0)
+    (reverse (map (λ day. day .2) days), 4 ∷ 3 ∷ 4 ∷ 16 ∷ (replicate 30 0 ++ (4 ∷ 16 ∷ replicate 30 0)))
 unfolding days submissions plan all any upTo from has upwardIn upward under leaf covers properDescendant ownedBy
     support parentHolds isUser isDataLeaf supportOf supports coversUser inLeafSet weighted checkSum checkHolds
     between zeros lengthHolds kindHolds usersCounted dataCounted columnsCounted functionsCounted ruleCounts
@@ -75,8 +79,8 @@ unfolding days submissions plan all any upTo from has upwardIn upward under leaf
     usersBlockTests dataBlockTests columnsBlockTests functionsBlockTests ruleBlockTests blockTests checkTests
     kindTests contentTests lengthTests blockByBlock bookTests sealTests firstFailing refusedOr answered withCheck
     sealBytes padded block users categories columns functions rule rule0 rule1 rule2 shop kindOf kindAt isValue
-    names soundAs rowHolds planLengthHolds rowTests planTests through pathsBy pathsIn paths labels takes
-    firstOperation carries reaches gives isAccess wordOf accessesOf flat keep everyAccess actionOf actionFits
+    names soundAs rowHolds planLengthHolds rowTests planTests appliedAs through pathsBy pathsIn paths labels takes counting
+    firstOperation operationOf carries reaches gives isAccess wordOf accessesOf flat keep everyAccess actionOf actionFits
     channelFits fits fitting choicesFrom operations accepts refusesAll someChoiceRefused breaks brokenMask userTests
     judgeTests accessWords heldBy union wordsOf heldFor joinedFor ledgerTests countsHold tallyTests submitTests
     joinedAccesses unionMask submitAnswer ledgerAfter submitLedger tallyAfter submitTally replyTo next recordsAfter

@@ -13,10 +13,11 @@ use Rattle.book.specs.Head.{columnCount, functionCount, label, operation}
 use Rattle.book.proofs.Lists.{and-where, and-false, any-one, or-end}
 use Rattle.lineage.specs.Rows.{Kind, Column, Apply, Choose, Output, Condition, Unknown}
 use Rattle.lineage.specs.Rows.{rowCount, kindOf, kindAt, rowA, rowB, rowC, isValue, names, soundAs, rowHolds}
-use Rattle.lineage.specs.Paths.{labels, takes}
+use Rattle.lineage.specs.Paths.{OneRow, appliedAs, Path, through, paths, labels, takes, counting, firstOperation}
+use Rattle.lineage.specs.Paths.{operationOf, carries}
 use Rattle.lineage.specs.Accesses.{reaches, gives, isAccess}
-use Rattle.lineage.proofs.Paths.{kind-prefix, a-prefix, b-prefix, c-prefix, reaches-prefix, access-append}
-use Rattle.lineage.proofs.Paths.{reaches-column, reaches-apply}
+use Rattle.lineage.proofs.Paths.{kind-prefix, a-prefix, b-prefix, c-prefix, paths-prefix, access-append}
+use Rattle.lineage.proofs.Paths.{paths-column, paths-apply}
 use Rattle.lineage.proofs.Accepted.{gives-lower, labelled-by}
 use Rattle.search.specs.Shown.{lastRow}
 
@@ -117,12 +118,12 @@ module _ (head p : List ℕ) (n kind a b c : ℕ) (stands : Standing head p n) w
       omega arith)
       ∙ rw (m, any-one, row-kind p n kind a b c w, row-a p n kind a b c w)
 
--- A plan whose last row is a value that one label reaches, with one operation; it gives what another plan gives
+-- A plan whose last row is a value with one path; it gives what another plan gives
 
-pub record Reaching (head before p : List ℕ) (n d₀ k₀ : ℕ) : Type 0 where
+pub record Reaching (head before p : List ℕ) (n : ℕ) (only : Path) : Type 0 where
   pub stands : Standing head p (suc n)
   pub value : isValue (kindAt p n) ≡ true
-  pub reached : (d k : ℕ) → reaches head p n d k ≡ (eqb d d₀ && eqb k k₀)
+  pub path : paths p n ≡ only ∷ []
   pub given : (s d k : ℕ) → isAccess head p s d k ≡ isAccess head before s d k
 
 names-last :
@@ -139,72 +140,65 @@ any-label head d₀ column h d =
     let l = labelled-by head d₀ column h in
     rw (l .1, l .0) (any-one (eqb d) (label head column))
 
-module _ (head p : List ℕ) (n d₀ column : ℕ) (stands : Standing head p n) where
-  pub after-column :
-      column < columnCount head
-      → any (eqb d₀) (labels head column) ≡ true
-      → Reaching head p (p ++ row 1 column 0 0) n d₀ 0
+-- the path of a column, and that of an Apply with one row over it: what they carry
+abbrev pub rawPath : (column : ℕ) → Path
+rawPath column = record { column = column; applies = [] }
+
+abbrev pub operatedPath : (column function : ℕ) → Path
+operatedPath column f = record { column = column; applies = OneRow f ∷ [] }
+
+module _ (head : List ℕ) (d₀ column : ℕ) (h : any (eqb d₀) (labels head column) ≡ true) where
+  pub carries-raw : (d k : ℕ) → carries head d k (rawPath column) ≡ (eqb d d₀ && eqb k 0)
+  unfolding carries operationOf counting firstOperation
+  carries-raw d k = rw (any-label head d₀ column h d)
+
+  pub carries-operated :
+      (function k₀ : ℕ)
+      → operation head function ≡ k₀
+      → takes head d₀ k₀ ≡ true
+      → (d k : ℕ)
+      → carries head d k (operatedPath column function) ≡ (eqb d d₀ && eqb k k₀)
+  unfolding carries operationOf counting firstOperation
+  carries-operated function k₀ o t d k =
+      rw (any-label head d₀ column h d, o)
+      (and-where (eqb d d₀) (eqb k (cond (takes head d k₀) k₀ 0)) (eqb k k₀)
+      (λ e. let same : d ≡ d₀ = eqb-true d d₀ e in rw (same, t)))
+
+module _ (head p : List ℕ) (n column : ℕ) (stands : Standing head p n) where
+  pub after-column : column < columnCount head → Reaching head p (p ++ row 1 column 0 0) n (rawPath column)
   unfolding kindOf isValue soundAs gives
-  after-column l h =
+  after-column l =
       let w = stands .whole in
       let kind = row-kind p n 1 column 0 0 w in
       record {
         stands = standing-more head p n 1 column 0 0 stands (rw (lt-ltb column (columnCount head) l));
         value = rw kind;
-        reached = λ d k.
-            reaches-column head (p ++ row 1 column 0 0) n d k kind
-            ∙ rw (row-a p n 1 column 0 0 w, any-label head d₀ column h d);
+        path = paths-column (p ++ row 1 column 0 0) n kind ∙ rw (row-a p n 1 column 0 0 w);
         given = λ s d k. row-gives head p n 1 column 0 0 stands s d k ∙ or-end (isAccess head p s d k);
       }
 
--- the operation that a label takes in place of none
-taken-instead :
-    (zero-is here is-label takes-it : Bool)
-    → (is-label ≡ true → takes-it ≡ true)
-    → (((is-label && zero-is) || false) && not (zero-is && takes-it)
-    || (here && (takes-it && ((is-label && true) || false))))
-    ≡ (is-label && here)
-taken-instead z here true t h = rw (h refl) (go z here)
-  where
-    go : (z here : Bool) → ((z || false) && not (z && true) || (here && true)) ≡ here
-    go true true = refl
-    go true false = refl
-    go false true = refl
-    go false false = refl
-taken-instead z here false t h = rw (and-false t) (and-false here)
-
-module _ (head before p : List ℕ) (n d₀ k₀ function : ℕ) (old : Reaching head before p n d₀ 0) where
+-- c is 255: an Apply with one row
+module _ (head before p : List ℕ) (n column function : ℕ) (old : Reaching head before p n (rawPath column)) where
   pub after-apply :
       n < 255
       → function < functionCount head
-      → operation head function ≡ k₀
-      → takes head d₀ k₀ ≡ true
-      → Reaching head before (p ++ row 2 function n 255) (suc n) d₀ k₀
-  unfolding kindOf isValue soundAs gives
-  after-apply few l o h =
+      → Reaching head before (p ++ row 2 function n 255) (suc n) (operatedPath column function)
+  unfolding kindOf isValue soundAs gives appliedAs through
+  after-apply few l =
       let w = old .stands .whole in
       let t = row 2 function n 255 in
       let kind = row-kind p (suc n) 2 function n 255 w in
+      let at-a = row-a p (suc n) 2 function n 255 w in
+      let at-b = row-b p (suc n) 2 function n 255 w in
+      let at-c = row-c p (suc n) 2 function n 255 w in
       record {
         stands =
             standing-more head p (suc n) 2 function n 255 (old .stands)
             (rw (lt-ltb function (functionCount head) l, names-last p t n w (old .value)));
         value = rw kind;
-        reached = λ d k.
-            reaches-apply head (p ++ t) (suc n) d k kind
-            ∙ rw (
-              row-a p (suc n) 2 function n 255 w,
-              row-b p (suc n) 2 function n 255 w,
-              row-c p (suc n) 2 function n 255 w,
-              lt-ltb n (suc n) (omega arith),
-              le-ltb 255 (suc n) (omega arith),
-              o,
-              reaches-prefix p t head n d k (omega arith),
-              reaches-prefix p t head n d 0 (omega arith),
-              old .reached d k,
-              old .reached d 0,
-            )
-            (taken-instead (eqb k 0) (eqb k k₀) (eqb d d₀) (takes head d k₀) (λ e. rw (eqb-true d d₀ e) h));
+        path =
+            paths-apply (p ++ t) (suc n) kind (rw at-b (omega arith)) (rw at-c (omega arith))
+            ∙ rw (at-a, at-b, at-c, paths-prefix p t n (omega arith), old .path);
         given = λ s d k.
             row-gives head p (suc n) 2 function n 255 (old .stands) s d k
             ∙ or-end (isAccess head p s d k)
@@ -227,7 +221,14 @@ last-sound head p s₀ i r h = go (eqb s₀ 0)
     go true = rw h
     go false = rw h
 
-module _ (head before p : List ℕ) (n d₀ k₀ s₀ : ℕ) (old : Reaching head before p n d₀ k₀) where
+module _ (head before p : List ℕ) (n d₀ k₀ s₀ : ℕ) {only : Path} (old : Reaching head before p n only)
+    (carried : (d k : ℕ) → carries head d k only ≡ (eqb d d₀ && eqb k k₀)) where
+  reached : (t : List ℕ) (d k : ℕ) → reaches head (p ++ t) n d k ≡ (eqb d d₀ && eqb k k₀)
+  unfolding reaches
+  reached t d k =
+      let w = old .stands .whole in
+      rw (paths-prefix p t n (omega arith), old .path) (any-one (carries head d k) only ∙ carried d k)
+
   pub after-last :
       s₀ < 2
       → Standing head (p ++ lastRow n s₀) (suc (suc n))
@@ -243,5 +244,5 @@ module _ (head before p : List ℕ) (n d₀ k₀ s₀ : ℕ) (old : Reaching hea
             (last-sound head (p ++ t) s₀ (suc n) n (names-last p t n w (old .value))),
         λ s d k.
             row-gives head p (suc n) kind n 0 0 (old .stands) s d k
-            ∙ rw (old .given s d k, gives-last s₀ s l, reaches-prefix p t head n d k (omega arith), old .reached d k),
+            ∙ rw (old .given s d k, gives-last s₀ s l, reached t d k),
       )

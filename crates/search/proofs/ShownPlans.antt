@@ -28,6 +28,7 @@ use Rattle.search.specs.Shown.{shownFrom, shownPlan}
 use Rattle.search.proofs.PlaceLaws.{rows-few}
 use Rattle.search.proofs.LowestLaws.{lowest-passes}
 use Rattle.search.proofs.OneRow.{Standing, Reaching, standing-none, after-column, after-apply, after-last}
+use Rattle.search.proofs.OneRow.{rawPath, carries-raw, carries-operated}
 
 -- One access
 
@@ -73,16 +74,20 @@ module _ (head : List ℕ) (x : Access) (h : showable head x ≡ true) where
   adds-as p q r m n a e l = rw (← e, ← l) a
 
   module _ (p : List ℕ) (n : ℕ) (stands : Standing head p n) where
-    first : Reaching head p (p ++ columnRow head (x .leaf)) n (x .leaf) 0
+    abbrev column : ℕ
+    column = columnFor head (x .leaf)
+
+    first : Reaching head p (p ++ columnRow head (x .leaf)) n (rawPath column)
     unfolding columnRow
-    first = after-column head p n (x .leaf) (columnFor head (x .leaf)) stands (had-column .0) (had-column .1)
+    first = after-column head p n column stands (had-column .0)
 
     plain-shown :
         x .operation ≡ 0 → Adds p (p ++ columnRow head (x .leaf) ++ lastRow n (x .channel)) (suc (suc n))
     unfolding accessesOf same
     plain-shown e =
         let q = p ++ columnRow head (x .leaf) in
-        let r = after-last head p q n (x .leaf) 0 (x .channel) first (had .2) in
+        let r =
+        after-last head p q n (x .leaf) 0 (x .channel) first (carries-raw head (x .leaf) column (had-column .1)) (had .2) in
         (r .0, λ y. rw e (r .1 (y .channel) (y .leaf) (y .operation)))
 
     applied-shown :
@@ -94,11 +99,11 @@ module _ (head : List ℕ) (x : Access) (h : showable head x ≡ true) where
     applied-shown few e =
         let f = had-function e in
         let q = p ++ columnRow head (x .leaf) in
-        let second =
-        after-apply head p q n (x .leaf) (x .operation) (functionFor head (x .operation)) first few (f .0) (f .1) (f .2) in
+        let function = functionFor head (x .operation) in
+        let second = after-apply head p q n column function first few (f .0) in
         let r =
         after-last head p (q ++ applyRow head n (x .operation)) (suc n) (x .leaf) (x .operation) (x .channel) second
-        (had .2) in
+        (carries-operated head (x .leaf) column (had-column .1) function (x .operation) (f .1) (f .2)) (had .2) in
         (r .0, λ y. r .1 (y .channel) (y .leaf) (y .operation))
 
     access-shown : n < 255 → Adds p (p ++ accessRows head n x) (n + rowsOf x)

@@ -18,7 +18,8 @@ use Rattle.book.specs.Shop.{padded, block, users, categories, columns, function
 use Rattle.book.proofs.Answers.{first-append}
 use Rattle.book.proofs.Vectors.{shop-passes}
 use Rattle.lineage.specs.Rows.{kindOf, kindAt}
-use Rattle.lineage.specs.Paths.{through, pathsBy, pathsIn, paths, labels, takes, firstOperation, carries}
+use Rattle.lineage.specs.Paths.{appliedAs, through, pathsBy, pathsIn, paths, labels, takes, counting}
+use Rattle.lineage.specs.Paths.{firstOperation, operationOf, carries}
 use Rattle.lineage.specs.Accesses.{reaches, gives, isAccess}
 use Rattle.verdicts.specs.Actions.{actionFits, channelFits}
 use Rattle.verdicts.specs.Accesses.{Access, accessesOf, keep, everyAccess, fits, fitting}
@@ -77,7 +78,7 @@ pub firsts-shown :
 unfolding firsts two averages prices all any upTo from has upwardIn upward under leaf covers ownedBy support isUser
     isDataLeaf supportOf supports coversUser inLeafSet weighted checkSum withCheck sealBytes answered refusedOr
     sealTests firstFailing padded block users categories columns functions rule rule0 rule1 rule2 shop kindOf kindAt
-    through pathsBy pathsIn paths labels takes firstOperation carries reaches gives isAccess accessesOf flat keep
+    appliedAs through pathsBy pathsIn paths labels takes counting firstOperation operationOf carries reaches gives isAccess accessesOf flat keep
     everyAccess actionOf actionFits channelFits fits fitting choicesFrom operations accepts refusesAll
     someChoiceRefused breaks labelled operated canBeHad choicesOf weight choicesByWeight forUsers candidates lowest
     columnFor functionFor columnRow applyRow lastRow rowsOf accessRows shownFrom shownPlan breaksAlone
@@ -134,8 +135,8 @@ shop-outcomes :
     (map (λ c. (c .2, c .3 ++ ones (c .1 - length (c .3)))) cases)
 unfolding cases all any upTo from has upwardIn upward under leaf covers ownedBy support isUser isDataLeaf supportOf
     supports coversUser inLeafSet weighted checkSum withCheck sealBytes answered refusedOr sealTests firstFailing
-    padded block users categories columns functions rule rule0 rule1 rule2 shop kindOf kindAt through pathsBy
-    pathsIn paths labels takes firstOperation carries reaches gives isAccess accessesOf flat keep everyAccess
+    padded block users categories columns functions rule rule0 rule1 rule2 shop kindOf kindAt appliedAs through pathsBy
+    pathsIn paths labels takes counting firstOperation operationOf carries reaches gives isAccess accessesOf flat keep everyAccess
     actionOf actionFits channelFits fits fitting choicesFrom operations accepts refusesAll someChoiceRefused breaks
     labelled operated canBeHad choicesOf weight choicesByWeight forUsers candidates lowest columnFor functionFor
     columnRow applyRow lastRow rowsOf accessRows shownFrom shownPlan breaksAlone planBreaksAlone candidateAlone

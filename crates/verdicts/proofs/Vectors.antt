@@ -22,10 +22,11 @@ use Rattle.book.specs.Answers.{withCheck, sealBytes}
 use Rattle.book.specs.Shop.{padded, block, users, categories, columns, functions, rule, rule0, rule1, rule2, shop}
 use Rattle.book.proofs.Vectors.{checkCases}
 use Rattle.lineage.specs.Rows.{kindOf, kindAt, isValue, names, soundAs, rowHolds}
-use Rattle.lineage.specs.Paths.{through, pathsBy, pathsIn, paths, labels, takes, firstOperation, carries}
+use Rattle.lineage.specs.Paths.{appliedAs, through, pathsBy, pathsIn, paths, labels, takes, counting}
+use Rattle.lineage.specs.Paths.{firstOperation, operationOf, carries}
 use Rattle.lineage.specs.Accesses.{reaches, gives, isAccess, wordOf}
 use Rattle.lineage.specs.Answers.{planLengthHolds, rowTests, planTests}
-use Rattle.lineage.proofs.Vectors.{applyBoth, choose, output, condition, plan, state, city, price, avg, sum}
+use Rattle.lineage.proofs.Vectors.{concatBoth, choose, output, condition, plan, state, city, price, avg, sum}
 use Rattle.verdicts.specs.Actions.{actionFits, channelFits}
 use Rattle.verdicts.specs.Accesses.{accessesOf, keep, everyAccess, fits, fitting}
 use Rattle.verdicts.specs.Breaking.{choicesFrom, operations, accepts, refusesAll, someChoiceRefused, breaks}
@@ -51,8 +52,12 @@ cases =
     -- "sum(avg(Price)) output, user 2: 0; avg(sum(Price)): 2."
     ∷ (2, price ∷ avg 0 ∷ sum 1 ∷ output 2 ∷ [], 0)
     ∷ (2, price ∷ sum 0 ∷ avg 1 ∷ output 2 ∷ [], 2)
-    -- "avg(concat(State, Price)) output, user 1: 0."
-    ∷ (1, state ∷ price ∷ applyBoth 0 0 1 ∷ avg 2 ∷ output 3 ∷ [], 0)
+    -- document 02, N5: "avg(concat(State, Price)) output by user 1 becomes 7 instead of 0"
+    ∷ (1, state ∷ price ∷ concatBoth 0 1 ∷ avg 2 ∷ output 3 ∷ [], 7)
+    -- what counted below still counts: concat(State, avg(Price)) output, user 1
+    ∷ (1, state ∷ price ∷ avg 1 ∷ concatBoth 0 2 ∷ output 3 ∷ [], 0)
+    -- concat(State, Price) decides a Choose, no output: user 1
+    ∷ (1, state ∷ price ∷ concatBoth 0 1 ∷ choose 2 0 0 ∷ [], 2)
     -- "Price and avg(Price) both output, user 2: 2."
     ∷ (2, price ∷ avg 0 ∷ output 0 ∷ output 1 ∷ [], 2)
     -- "Choose on Price between State and State, no output: user 2 gives 2."
@@ -72,8 +77,8 @@ unfolding cases checkCases plan all any upTo from has upwardIn upward under leaf
     usersBlockTests dataBlockTests columnsBlockTests functionsBlockTests ruleBlockTests blockTests checkTests
     kindTests contentTests lengthTests blockByBlock bookTests sealTests firstFailing refusedOr answered withCheck
     sealBytes padded block users categories columns functions rule rule0 rule1 rule2 shop kindOf kindAt isValue
-    names soundAs rowHolds planLengthHolds rowTests planTests through pathsBy pathsIn paths labels takes
-    firstOperation carries reaches gives isAccess wordOf accessesOf flat keep everyAccess actionOf actionFits
+    names soundAs rowHolds planLengthHolds rowTests planTests appliedAs through pathsBy pathsIn paths labels takes counting
+    firstOperation operationOf carries reaches gives isAccess wordOf accessesOf flat keep everyAccess actionOf actionFits
     channelFits fits fitting choicesFrom operations accepts refusesAll someChoiceRefused breaks brokenMask userTests
     judgeTests judgeAnswer
 starred = refl
