@@ -133,17 +133,23 @@ mixing =
     (state ∷ price ∷ concatBoth 0 1 ∷ avg 2 ∷ output 3 ∷ [], (0, 2, 0) ∷ (0, 4, 0) ∷ [])
     ∷ (state ∷ price ∷ concatBoth 0 1 ∷ avg 2 ∷ sum 3 ∷ output 4 ∷ [], (0, 2, 0) ∷ (0, 4, 0) ∷ [])
     -- also through a Choose: avg(Choose on City between City and concat(State, Price))
-    ∷ (state ∷ price ∷ city ∷ concatBoth 0 1 ∷ choose 2 2 3 ∷ avg 4 ∷ output 5 ∷ [],
-    (0, 2, 0) ∷ (0, 3, 0) ∷ (0, 4, 0) ∷ (1, 3, 0) ∷ [])
+    ∷ (
+      state ∷ price ∷ city ∷ concatBoth 0 1 ∷ choose 2 2 3 ∷ avg 4 ∷ output 5 ∷ [],
+      (0, 2, 0) ∷ (0, 3, 0) ∷ (0, 4, 0) ∷ (1, 3, 0) ∷ [],
+    )
     -- what counted below it still counts, on either side: concat(avg(Price), State), sum(concat(State, avg(Price)))
     ∷ (price ∷ avg 0 ∷ state ∷ concatBoth 1 2 ∷ output 3 ∷ [], (0, 2, 0) ∷ (0, 4, 1) ∷ [])
     ∷ (price ∷ avg 0 ∷ state ∷ concatBoth 2 1 ∷ sum 3 ∷ output 4 ∷ [], (0, 2, 0) ∷ (0, 4, 1) ∷ [])
     -- below two of them: concat(concat(avg(Price), State), City)
-    ∷ (price ∷ avg 0 ∷ state ∷ city ∷ concatBoth 1 2 ∷ concatBoth 4 3 ∷ output 5 ∷ [],
-    (0, 2, 0) ∷ (0, 3, 0) ∷ (0, 4, 1) ∷ [])
+    ∷ (
+      price ∷ avg 0 ∷ state ∷ city ∷ concatBoth 1 2 ∷ concatBoth 4 3 ∷ output 5 ∷ [],
+      (0, 2, 0) ∷ (0, 3, 0) ∷ (0, 4, 1) ∷ [],
+    )
     -- but not between them: concat(avg(concat(State, Price)), City)
-    ∷ (state ∷ price ∷ city ∷ concatBoth 0 1 ∷ avg 3 ∷ concatBoth 4 2 ∷ output 5 ∷ [],
-    (0, 2, 0) ∷ (0, 3, 0) ∷ (0, 4, 0) ∷ [])
+    ∷ (
+      state ∷ price ∷ city ∷ concatBoth 0 1 ∷ avg 3 ∷ concatBoth 4 2 ∷ output 5 ∷ [],
+      (0, 2, 0) ∷ (0, 3, 0) ∷ (0, 4, 0) ∷ [],
+    )
     -- it does not count itself, though its operation is supported: avg(Price, State), and avg(Price, Price), where c = b
     ∷ (price ∷ state ∷ avgBoth 0 1 ∷ output 2 ∷ [], (0, 2, 0) ∷ (0, 4, 0) ∷ [])
     ∷ (price ∷ avgBoth 0 0 ∷ output 1 ∷ [], (0, 4, 0) ∷ [])
@@ -151,14 +157,20 @@ mixing =
     ∷ (price ∷ concatBoth 0 0 ∷ avg 1 ∷ output 2 ∷ [], (0, 4, 0) ∷ [])
     ∷ (price ∷ concat 0 ∷ avg 1 ∷ output 2 ∷ [], (0, 4, 1) ∷ [])
     -- as a of Choose, whose own paths are those of b and c: Choose on concat(State, Price) between City and avg(Price)
-    ∷ (state ∷ price ∷ concatBoth 0 1 ∷ city ∷ avg 1 ∷ choose 2 3 4 ∷ output 5 ∷ [],
-    (0, 3, 0) ∷ (0, 4, 1) ∷ (1, 2, 0) ∷ (1, 4, 0) ∷ [])
+    ∷ (
+      state ∷ price ∷ concatBoth 0 1 ∷ city ∷ avg 1 ∷ choose 2 3 4 ∷ output 5 ∷ [],
+      (0, 3, 0) ∷ (0, 4, 1) ∷ (1, 2, 0) ∷ (1, 4, 0) ∷ [],
+    )
     -- a label on two paths to a row, mixed on one: avg(Choose on State between Price and concat(State, Price))
-    ∷ (state ∷ price ∷ concatBoth 0 1 ∷ choose 0 1 2 ∷ avg 3 ∷ output 4 ∷ [],
-    (0, 2, 0) ∷ (0, 4, 0) ∷ (0, 4, 1) ∷ (1, 2, 0) ∷ [])
+    ∷ (
+      state ∷ price ∷ concatBoth 0 1 ∷ choose 0 1 2 ∷ avg 3 ∷ output 4 ∷ [],
+      (0, 2, 0) ∷ (0, 4, 0) ∷ (0, 4, 1) ∷ (1, 2, 0) ∷ [],
+    )
     -- each path counts its own rows: concat(Price, avg(Price)), avg of it, and its condition
-    ∷ (price ∷ avg 0 ∷ concatBoth 0 1 ∷ sum 2 ∷ output 3 ∷ condition 2 ∷ [],
-    (0, 4, 0) ∷ (0, 4, 1) ∷ (1, 4, 0) ∷ (1, 4, 1) ∷ [])
+    ∷ (
+      price ∷ avg 0 ∷ concatBoth 0 1 ∷ sum 2 ∷ output 3 ∷ condition 2 ∷ [],
+      (0, 4, 0) ∷ (0, 4, 1) ∷ (1, 4, 0) ∷ (1, 4, 1) ∷ [],
+    )
     ∷ []
 
 pub shop-accesses :

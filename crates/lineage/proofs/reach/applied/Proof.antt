@@ -11,8 +11,7 @@ returns : tie.Need-returns
 returns c =
     let at-c = c .before .before .before .before in
     let a = at-c .before .before .before .args in
-    let one = eq-eqb (rowC (a .plan .now) (a .i)) 255 (sym (at-c .row-c .ensures) ∙ c .before .before .before .if1 .taken) in
-    (
+    let one = eq-eqb (rowC (a .plan .now) (a .i)) 255 (sym (at-c .row-c .ensures) ∙ c .before .before .before .if1 .taken) in (
       λ e. rw (c .before .operation .ensures .0, c .before .before .row-a .ensures) at (c .operated .ensures),
       λ e. absurd (false≢true (sym e ∙ one)),
     )

@@ -20,8 +20,7 @@ abbrev μ-loop : tie.MeasureT-loop
 returns : tie.Need-returns Inv-loop μ-loop
 returns c =
     let a = c .before .args in
-    let n = length (a .table .now) in
-    (
+    let n = length (a .table .now) in (
       refl,
       λ whole r w small h.
           stored-past (a .i) n r w (getD (a .t3) w 0) (getD (a .table .now) (17 * r + w) 0) (c .if1 .taken) whole small h,
