@@ -277,6 +277,21 @@ module _ {A : Type 0} (f g : A → Bool) where
       go true e h more = (x, e, and-left (g x) (all g l) q)
       go false e h more = more h (and-right (g x) (all g l) q)
 
+-- a test that another one makes pass
+pub any-wider :
+    {A : Type 0} (f g : A → Bool) (l : List A)
+    → ((x : A) → f x ≡ true → g x ≡ true)
+    → any f l ≡ true
+    → any g l ≡ true
+unfolding any
+any-wider f g [] h p = p
+any-wider f g (x ∷ l) h p =
+    or-otherwise (g x) (any g l) (λ e. any-wider f g l h (or-rest (f x) (any f l) p (go (f x) refl e)))
+  where
+    go : (b : Bool) → f x ≡ b → g x ≡ false → b ≡ false
+    go true e n = absurd (false≢true (sym n ∙ h x e))
+    go false e n = refl
+
 pub any-nothing : {A : Type 0} (l : List A) → any (λ a. false) l ≡ false
 unfolding any
 any-nothing [] = refl

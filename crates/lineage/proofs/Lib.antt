@@ -6,4 +6,5 @@ pub mod Steps
 pub mod Words
 pub mod Accepted
 pub mod FlowLaws
+pub mod Mixing
 pub mod Vectors

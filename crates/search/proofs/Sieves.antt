@@ -14,7 +14,7 @@ use Rattle.book.specs.Lists.{any, upTo}
 use Rattle.book.specs.Sets.{has, WordOf}
 use Rattle.book.proofs.Lists.{and-true, and-left, and-right, and-end, and-false, or-neither, or-rest, or-true}
 use Rattle.book.proofs.Members.{has-zero, has-or, has-minus, has-above, has-and}
-use Rattle.verdicts.proofs.Quantifiers.{any-wider, at-any}
+use Rattle.verdicts.proofs.Quantifiers.{at-any}
 use Rattle.search.specs.Inner.Places.{inPlaces, PlacesOf}
 use Rattle.search.specs.Inner.Closing.{closes, meetsWith, Masked, Within, Turned, Sifted}
 use Rattle.search.specs.declared.closing.Masks.{Masks}

@@ -6,11 +6,10 @@ use mathlib.Core.Bool.{Bool, true, _&&_}
 use mathlib.Core.List.{List, _∷_}
 use Rattle.book.specs.Lists.{upTo}
 use Rattle.book.specs.Rule.{referenceCount, coversUser}
-use Rattle.book.proofs.Lists.{and-true, and-both, same-test}
+use Rattle.book.proofs.Lists.{and-true, and-both, any-wider, same-test}
 use Rattle.verdicts.specs.Accesses.{Access, Accesses}
 use Rattle.verdicts.specs.Inner.Words.{offers}
 use Rattle.verdicts.specs.Breaking.{refusesAll, someChoiceRefused, breaks}
-use Rattle.verdicts.proofs.Quantifiers.{any-wider}
 use Rattle.verdicts.proofs.Accesses.{known, fits-known}
 use Rattle.verdicts.proofs.Offers.{in-offers, found-offers}
 use Rattle.verdicts.proofs.Choices.{someChosen, choice-operations}

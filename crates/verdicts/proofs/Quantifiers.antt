@@ -14,21 +14,6 @@ use Rattle.verdicts.specs.Accesses.{keep}
 
 -- Lists
 
--- a test that another one makes pass
-pub any-wider :
-    {A : Type 0} (f g : A → Bool) (l : List A)
-    → ((x : A) → f x ≡ true → g x ≡ true)
-    → any f l ≡ true
-    → any g l ≡ true
-unfolding any
-any-wider f g [] h p = p
-any-wider f g (x ∷ l) h p =
-    or-otherwise (g x) (any g l) (λ e. any-wider f g l h (or-rest (f x) (any f l) p (go (f x) refl e)))
-  where
-    go : (b : Bool) → f x ≡ b → g x ≡ false → b ≡ false
-    go true e n = absurd (false≢true (sym n ∙ h x e))
-    go false e n = refl
-
 module _ {A : Type 0} (f : A → Bool) where
   pub any-flat : {B : Type 0} (g : B → List A) (l : List B) → any f (flat g l) ≡ any (λ x. any f (g x)) l
   unfolding any flat
