@@ -6,18 +6,60 @@ use crate::operation::Operation;
 use crate::plan::Row;
 use std::collections::BTreeSet;
 
-/// "A path goes from a row down to a Column row": its column, and the functions that it passes,
+/// "A path goes from a row down to a Column row": its column, and the Apply rows that it passes,
 /// counted upward from the column.
 #[derive(Clone, Debug, PartialEq, Eq)]
 pub struct Path {
     /// The column at its foot.
     pub column: usize,
-    /// The functions on its way up.
-    pub functions: Vec<usize>,
+    /// The Apply rows on its way up.
+    pub applied: Vec<Applied>,
 }
 
-/// A label with the operation that a path has taken on so far, if any.
-type Carried = (usize, Option<Operation>);
+/// An Apply row on a path.
+#[derive(Clone, Copy, Debug, PartialEq, Eq)]
+pub enum Applied {
+    /// A function of one row: c is 255.
+    OneRow(usize),
+    /// A function of two rows: c is a row, also when it is b. Which function does not matter.
+    TwoRows,
+}
+
+impl Applied {
+    /// By the function and c of the row.
+    fn new(function: usize, c: Option<usize>) -> Applied {
+        match c {
+            None => Applied::OneRow(function),
+            Some(_) => Applied::TwoRows,
+        }
+    }
+}
+
+impl Path {
+    /// The functions that count, upward from the column. Document 02, N5: "On a path, an Apply with
+    /// two rows doesn't count as an operation, and nothing above it does. An Apply with one row, and
+    /// Choose, are as before."
+    pub fn counting(&self) -> impl Iterator<Item = usize> + '_ {
+        self.applied.iter().map_while(|applied| match *applied {
+            Applied::OneRow(function) => Some(function),
+            Applied::TwoRows => None,
+        })
+    }
+}
+
+/// A label, and whether the path that carries it has an operation so far.
+type Carried = (usize, SoFar);
+
+/// Whether a path has an operation so far, when it is followed upward.
+#[derive(Clone, Copy, PartialEq, Eq, PartialOrd, Ord)]
+enum SoFar {
+    /// None, but a function above may give one.
+    NotYet,
+    /// This one, which it keeps.
+    Has(Operation),
+    /// None, and nothing above counts.
+    Ended,
+}
 
 /// Above this many paths the accesses are worked out row by row.
 const MANY: u128 = 2_000;
@@ -35,16 +77,16 @@ fn below(row: Row) -> Vec<usize> {
 /// All paths from a row.
 pub fn paths(rows: &[Row], row: usize) -> Vec<Path> {
     if let Row::Column(column) = rows[row] {
-        let functions = Vec::new();
-        return vec![Path { column, functions }];
+        let applied = Vec::new();
+        return vec![Path { column, applied }];
     }
     let mut all: Vec<Path> = below(rows[row])
         .into_iter()
         .flat_map(|lower| paths(rows, lower))
         .collect();
-    if let Row::Apply(function, _, _) = rows[row] {
-        all.iter_mut()
-            .for_each(|path| path.functions.push(function));
+    if let Row::Apply(function, _, c) = rows[row] {
+        let applied = Applied::new(function, c);
+        all.iter_mut().for_each(|path| path.applied.push(applied));
     }
     all
 }
@@ -61,11 +103,10 @@ fn counts(rows: &[Row]) -> Vec<u128> {
 }
 
 /// "Its operation is that of the first function, counted upward from the column, whose operation is
-/// not 0 and is supported by the label; if there is none, 0."
+/// not 0 and is supported by the label; if there is none, 0." Only functions that count are meant.
 pub fn operation(book: &Book, path: &Path, label: usize) -> Operation {
-    path.functions
-        .iter()
-        .map(|&function| book.functions[function])
+    path.counting()
+        .map(|function| book.functions[function])
         .find(|operation| *operation != 0 && book.supported[label].contains(operation))
         .unwrap_or(0)
 }
@@ -113,14 +154,16 @@ pub fn accesses_by_paths(book: &Book, rows: &[Row]) -> BTreeSet<Access> {
     found
 }
 
-/// The accesses of a plan, row by row: two paths that carry the same label and operation to a row
-/// go on alike.
+/// The accesses of a plan, row by row: two paths that carry the same to a row go on alike.
 pub fn accesses_by_rows(book: &Book, rows: &[Row]) -> BTreeSet<Access> {
     let carried = carried(book, rows);
-    let access = |action: Action, (leaf, operation): Carried| Access {
+    let access = |action: Action, (leaf, so_far): Carried| Access {
         action,
         leaf,
-        operation: operation.unwrap_or(0),
+        operation: match so_far {
+            SoFar::Has(operation) => operation,
+            SoFar::NotYet | SoFar::Ended => 0,
+        },
     };
     sources(rows)
         .into_iter()
@@ -135,10 +178,13 @@ fn carried(book: &Book, rows: &[Row]) -> Vec<BTreeSet<Carried>> {
         let lower = below(row).into_iter().flat_map(|i| all[i].iter().copied());
         let here = match row {
             Row::Column(column) => book.columns[column]
-                .map(|l| (l, None))
+                .map(|label| (label, SoFar::NotYet))
                 .into_iter()
                 .collect(),
-            Row::Apply(f, _, _) => lower.map(|c| pass(book, book.functions[f], c)).collect(),
+            Row::Apply(function, _, c) => {
+                let applied = Applied::new(function, c);
+                lower.map(|carried| pass(book, applied, carried)).collect()
+            }
             Row::Choose(..) => lower.collect(),
             Row::Output(_) | Row::Condition(_) => BTreeSet::new(),
         };
@@ -147,9 +193,21 @@ fn carried(book: &Book, rows: &[Row]) -> Vec<BTreeSet<Carried>> {
     all
 }
 
-/// What a label carries after a function: the first operation that it supports stays.
-fn pass(book: &Book, operation: Operation, (label, so_far): Carried) -> Carried {
-    let takes = operation != 0 && book.supported[label].contains(&operation);
-    let new = takes.then_some(operation);
-    (label, so_far.or(new))
+/// What goes on after an Apply row: the first operation that counts and that the label supports
+/// stays.
+fn pass(book: &Book, applied: Applied, (label, so_far): Carried) -> Carried {
+    let so_far = match (so_far, applied) {
+        (SoFar::NotYet, Applied::OneRow(function)) => {
+            let operation = book.functions[function];
+            let takes = operation != 0 && book.supported[label].contains(&operation);
+            if takes {
+                SoFar::Has(operation)
+            } else {
+                SoFar::NotYet
+            }
+        }
+        (SoFar::NotYet, Applied::TwoRows) => SoFar::Ended,
+        (SoFar::Has(_) | SoFar::Ended, _) => so_far,
+    };
+    (label, so_far)
 }

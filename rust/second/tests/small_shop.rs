@@ -1,4 +1,5 @@
-//! Document 01's small shop: every line of its list, starred and not, and the three report lines.
+//! Document 01's small shop: every line of its list, starred and not, one of them as document 02's N5
+//! has it, and the three report lines.
 
 use books::named::small_shop;
 use second::Refusal;
@@ -75,10 +76,11 @@ fn the_first_operation_counts() {
     assert_eq!(judge(2, &nested(SUM, AVG)), Ok(2));
 }
 
+/// Document 02, N5: "avg(concat(State, Price)) output by user 1 becomes 7 instead of 0".
 #[test]
 fn average_of_concat() {
     let rows = [STATE, PRICE, [2, CONCAT, 0, 1], apply(AVG, 2), output(3)];
-    assert_eq!(judge(1, &rows), Ok(0));
+    assert_eq!(judge(1, &rows), Ok(7));
 }
 
 #[test]

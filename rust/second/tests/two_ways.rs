@@ -4,13 +4,35 @@ use books::valid::{draft, Size};
 use books::{plans, Random};
 use second::access::Access;
 use second::book::Book;
+use second::path::Applied;
+use second::plan::Row;
 use second::{blocked, breaking, choice, idle, path, plan, reading};
 use std::fmt::Debug;
+
+/// The paths from all rows of a plan on which an Apply with two rows ends what counts: how often
+/// one of the label's operations stands below it, and how often one stands above it only.
+fn mixed(book: &Book, rows: &[Row]) -> [usize; 2] {
+    let [mut below, mut above] = [0, 0];
+    for path in (0..rows.len()).flat_map(|row| path::paths(rows, row)) {
+        let lowest = path.applied.iter().position(|a| *a == Applied::TwoRows);
+        let (Some(leaf), Some(lowest)) = (book.columns[path.column], lowest) else {
+            continue;
+        };
+        let takes = |applied: &Applied| match *applied {
+            Applied::OneRow(function) => book.supported[leaf].contains(&book.functions[function]),
+            Applied::TwoRows => false,
+        };
+        let counts = path.applied[..lowest].iter().any(takes);
+        below += usize::from(counts);
+        above += usize::from(!counts && path.applied[lowest..].iter().any(takes));
+    }
+    [below, above]
+}
 
 #[test]
 fn accesses_by_paths_and_by_rows() {
     let mut random = Random::new(11);
-    let mut compared = 0;
+    let [mut compared, mut below, mut above] = [0; 3];
     for _ in 0..1_500 {
         let draft = draft(&mut random, Size::Tiny);
         let book = reading::read(&draft.bytes()).expect("the draft is sound");
@@ -21,8 +43,12 @@ fn accesses_by_paths_and_by_rows() {
         assert_eq!(by_paths, path::accesses_by_rows(&book, &rows));
         assert_eq!(by_paths, path::accesses(&book, &rows));
         compared += by_paths.len();
+        let counts = mixed(&book, &rows);
+        below += usize::from(counts[0] > 0);
+        above += usize::from(counts[1] > 0);
     }
-    assert!(compared > 1_000, "only {compared} accesses compared");
+    println!("{compared} accesses; operations below a mix in {below} plans, above in {above}");
+    assert!(compared > 1_000 && below > 50 && above > 50);
 }
 
 /// Tries every rule of so many random books that has few choices.

@@ -5,6 +5,7 @@ use against::engine::Idleness;
 use against::Engine;
 use books::draft::BLOCK;
 use second::access::Access;
+use second::path::Applied;
 use second::{breaking, path, plan, reading, Refusal};
 use std::collections::BTreeSet;
 
@@ -133,13 +134,14 @@ fn excused(all: &BTreeSet<Access>, raw: &Access) -> bool {
         .any(|other| (other.action, other.leaf) == (raw.action, raw.leaf) && other.operation != 0)
 }
 
-/// The accesses when each path is read from its upper end.
+/// The accesses when the functions that count on a path are read from its upper end.
 fn last_operations(book: &mut second::book::Book, rows: &[plan::Row]) -> BTreeSet<Access> {
     let mut found = BTreeSet::new();
     for row in rows {
         let plan::Row::Output(a) = *row else { continue };
         for mut path in path::paths(rows, a) {
-            path.functions.reverse();
+            path.applied = path.counting().map(Applied::OneRow).collect();
+            path.applied.reverse();
             if let Some(leaf) = book.columns[path.column] {
                 found.insert(Access {
                     action: second::access::Action::Projection,
