@@ -8,7 +8,7 @@ use crate::json::Json;
 use crate::named::NamedBook;
 use crate::names::Names;
 use crate::phrases::counted_list;
-use crate::plan::PlanText;
+use crate::plan::{PlanText, NONE};
 use pspec::{Access, Action, Refusal};
 use std::collections::{BTreeMap, BTreeSet};
 
@@ -100,14 +100,25 @@ struct Origin {
     column: usize,
 }
 
-/// A way up from a column: the column's row and the operation so far.
-type Ways = BTreeSet<(usize, u8)>;
+/// A way up from a column: the column's row, and whether it has an operation so far.
+type Way = (usize, SoFar);
+
+/// Whether a way has an operation so far.
+#[derive(Clone, Copy, PartialEq, Eq, PartialOrd, Ord)]
+enum SoFar {
+    /// None, but a function further up may count.
+    NotYet,
+    /// This one, which it keeps.
+    Has(u8),
+    /// None, and nothing further up counts.
+    Ended,
+}
 
 /// The rows of a plan, and the ways up to those that are done.
 struct Tracer<'a> {
     rows: Vec<[u8; 4]>,
     contents: &'a Contents,
-    ways: Vec<Ways>,
+    ways: Vec<BTreeSet<Way>>,
 }
 
 /// All ways of a plan that the engine accepts.
@@ -131,7 +142,7 @@ impl Tracer<'_> {
     }
 
     /// The ways up to a row above; none for 255.
-    fn above(&self, row: u8) -> Ways {
+    fn above(&self, row: u8) -> BTreeSet<Way> {
         self.ways.get(usize::from(row)).cloned().unwrap_or_default()
     }
 
@@ -143,11 +154,14 @@ impl Tracer<'_> {
             4 => Action::Projection,
             _ => return vec![],
         };
-        let origin = |(column, operation)| Origin {
+        let origin = |(column, so_far): Way| Origin {
             access: Access {
                 action,
                 leaf: self.label(column),
-                operation,
+                operation: match so_far {
+                    SoFar::Has(k) => k,
+                    SoFar::NotYet | SoFar::Ended => 0,
+                },
             },
             sink,
             column,
@@ -156,25 +170,35 @@ impl Tracer<'_> {
     }
 
     /// The ways up to a row.
-    fn ways(&self, row: usize) -> Ways {
+    fn ways(&self, row: usize) -> BTreeSet<Way> {
         let [kind, a, b, c] = self.rows[row];
         let both = || self.above(b).into_iter().chain(self.above(c));
         match kind {
-            1 if self.label(row) == UNLABELLED => Ways::new(),
-            1 => Ways::from([(row, 0)]),
-            2 => both().map(|way| self.applied(a, way)).collect(),
+            1 if self.label(row) == UNLABELLED => BTreeSet::new(),
+            1 => BTreeSet::from([(row, SoFar::NotYet)]),
+            2 if c == NONE => both().map(|way| self.applied(a, way)).collect(),
+            2 => both().map(mixed).collect(),
             3 => both().collect(),
-            _ => Ways::new(),
+            _ => BTreeSet::new(),
         }
     }
 
-    /// A way after a function: its operation counts where it is the first that the label supports.
-    fn applied(&self, function: u8, (column, operation): (usize, u8)) -> (usize, u8) {
+    /// A way after a function of one row: its operation counts where it is the first that the label
+    /// supports.
+    fn applied(&self, function: u8, (column, so_far): Way) -> Way {
         let k = self.contents.functions[usize::from(function)];
         let supported = self.contents.supported(self.label(column)) >> k & 1 == 1;
-        match operation {
-            0 if supported => (column, k),
-            _ => (column, operation),
+        match so_far {
+            SoFar::NotYet if supported => (column, SoFar::Has(k)),
+            _ => (column, so_far),
         }
+    }
+}
+
+/// A way after a function of two rows: neither it nor anything further up counts.
+fn mixed((column, so_far): Way) -> Way {
+    match so_far {
+        SoFar::NotYet => (column, SoFar::Ended),
+        SoFar::Has(_) | SoFar::Ended => (column, so_far),
     }
 }

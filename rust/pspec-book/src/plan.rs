@@ -28,7 +28,7 @@ pub struct PlanText {
 }
 
 /// No second row.
-const NONE: u8 = 255;
+pub(crate) const NONE: u8 = 255;
 
 const ROW: &str = "'column', a function, 'choose', 'output' or 'where'";
 

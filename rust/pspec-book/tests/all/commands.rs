@@ -22,8 +22,8 @@ fn checking_writes_nothing() {
 }
 
 /// What a plan on the small shop gives away.
-fn flows(plan: &str) -> (i32, String, String) {
-    let folder = shop(&format!("flows-{:x}", plan.len()));
+fn flows(test: &str, plan: &str) -> (i32, String, String) {
+    let folder = shop(test);
     fs::write(folder.join("p.txt"), plan).expect("it is written");
     run(&folder, &["flows", "shop.book", "p.txt"])
 }
@@ -36,11 +36,39 @@ fn what_a_plan_gives_away() {
                     output avg(Price), line 6 from line 1, line 7 from line 1\n\
                     condition State, line 8 from line 3\n\
                     condition Price, line 4 from line 1\n";
+    let flows = |plan: &str| flows("flows", plan);
     assert_eq!(flows(plan), (0, accesses.to_string(), String::new()));
     let nothing = "The plan gives nothing away.\n".to_string();
     assert_eq!(flows("price\n"), (0, nothing, String::new()));
     let complaint = "p.txt:1: refused 22: found row 0 named by row 0; expected a row above it\n";
     assert_eq!(flows("output 0"), (1, String::new(), complaint.to_string()));
+}
+
+/// A function of two rows does not count, nor does anything above it; what counts below it does.
+#[test]
+fn what_a_function_of_two_rows_gives_away() {
+    let gives = |plan: &str, accesses: &str| {
+        let said = flows("two-rows", plan);
+        assert_eq!(said, (0, accesses.to_string(), String::new()));
+    };
+    gives(
+        "state\nprice\nconcat(0, 1)\navg(2)\noutput 3\n",
+        "output State, line 5 from line 1\noutput Price, line 5 from line 2\n",
+    );
+    gives(
+        "price\navg(0)\nstate\nconcat(1, 2)\nsum(3)\noutput 4\n",
+        "output State, line 6 from line 3\noutput avg(Price), line 6 from line 1\n",
+    );
+    gives(
+        "price\navg(0, 0)\nwhere 1\n",
+        "condition Price, line 3 from line 1\n",
+    );
+    // A price mixed with the state, or another one alone.
+    gives(
+        "state\nprice\nconcat(0, 1)\nprice\nchoose 0 ? 2 : 3\navg(4)\noutput 5\n",
+        "output State, line 7 from line 1\noutput Price, line 7 from line 2\n\
+         output avg(Price), line 7 from line 4\ncondition State, line 5 from line 1\n",
+    );
 }
 
 #[test]

@@ -3,12 +3,15 @@
 use crate::common::{broken, numbered};
 use books::valid::{self, Size};
 use books::{plans, Random};
-use pspec::{Access, Plan};
+use pspec::{Access, Action, Plan};
 use pspec_book::breaking::breaking;
 use pspec_book::hierarchy::leaves;
 use pspec_book::lineage::traced;
 use pspec_book::named::NamedBook;
 use pspec_book::plan::PlanText;
+use second::plan::Row;
+use second::{path, reading};
+use std::collections::BTreeSet;
 
 const SIZES: [Size; 4] = [Size::Tiny, Size::Small, Size::Middle, Size::Large];
 
@@ -40,6 +43,59 @@ fn every_access_comes_from_somewhere() {
             }
         }
     }
+}
+
+/// Where each access of a plan comes from by the second implementation's paths: the access, the line
+/// that gives it and the column.
+fn origins(plan: &PlanText, named: &NamedBook) -> BTreeSet<(Access, usize, u8)> {
+    let book = reading::read(named.book.bytes()).expect("it is sound");
+    let rows = second::plan::read(plan.plan.bytes(), &book).expect("it is sound");
+    let mut found = BTreeSet::new();
+    for (row, line) in rows.iter().zip(&plan.lines) {
+        let (action, of) = match *row {
+            Row::Output(a) => (Action::Projection, a),
+            Row::Condition(a) | Row::Choose(a, ..) => (Action::Condition, a),
+            Row::Column(_) | Row::Apply(..) => continue,
+        };
+        for way in path::paths(&rows, of) {
+            if let Some(leaf) = book.columns[way.column] {
+                let access = Access {
+                    action,
+                    leaf: leaf as u8,
+                    operation: path::operation(&book, &way, leaf),
+                };
+                found.insert((access, *line, way.column as u8));
+            }
+        }
+    }
+    found
+}
+
+/// The lines of an access are those of the paths that give it, and no others.
+#[test]
+fn lines_are_those_of_paths() {
+    let mut compared = 0;
+    for seed in 0..800 {
+        let (named, mut plan) = case(seed);
+        // Few enough rows to go through all paths.
+        plan.lines.truncate(14);
+        let bytes = plan.plan.bytes();
+        plan.plan = Plan::new(&bytes[..4 * plan.lines.len()]);
+        let rows: Vec<[u8; 4]> = plan.plan.rows().collect();
+        let mut found = BTreeSet::new();
+        for of in traced(&plan, &named).expect("it is a plan") {
+            for (&sink, columns) in &of.lines {
+                found.extend(
+                    columns
+                        .iter()
+                        .map(|&line| (of.access, sink, rows[line - 1][1])),
+                );
+            }
+        }
+        assert_eq!(found, origins(&plan, &named));
+        compared += found.len();
+    }
+    assert!(compared > 1000, "{compared}");
 }
 
 /// A plan that gives these accesses and no others.
