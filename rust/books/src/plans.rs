@@ -10,10 +10,12 @@ enum Shape {
     Wide,
     /// Rows name the row just below, mostly.
     Deep,
-    /// Rows name the row just below twice: the paths double at each row.
+    /// Where two rows are named, both are the row just below, mostly: the paths double.
     Doubling,
-    /// A column, a function and an output, again and again.
+    /// A column, its functions and an output, again and again.
     Shown,
+    /// The same, but two values at a time meet in a function or a Choose, with functions above it.
+    Joined,
 }
 
 /// A random plan that is to be accepted with this book.
@@ -21,7 +23,13 @@ pub fn sound(random: &mut Random, draft: &Draft) -> Vec<u8> {
     if draft.columns.is_empty() {
         return vec![];
     }
-    let shape = random.one(&[Shape::Wide, Shape::Deep, Shape::Doubling, Shape::Shown]);
+    let shape = random.one(&[
+        Shape::Wide,
+        Shape::Deep,
+        Shape::Doubling,
+        Shape::Shown,
+        Shape::Joined,
+    ]);
     let rows = match random.below(4) {
         0 => 64,
         1 => random.below(65),
@@ -31,6 +39,7 @@ pub fn sound(random: &mut Random, draft: &Draft) -> Vec<u8> {
     while plan.rows.len() < rows {
         match shape {
             Shape::Shown => plan.add_shown(random, draft),
+            Shape::Joined => plan.add_joined(random, draft),
             _ => plan.add_row(random, draft, shape),
         }
     }
@@ -40,8 +49,9 @@ pub fn sound(random: &mut Random, draft: &Draft) -> Vec<u8> {
 
 /// A plan for the book, two times in three sound.
 pub fn any(random: &mut Random, draft: &Draft) -> Vec<u8> {
-    match random.below(3) {
-        0 => damaged(random, draft),
+    match random.below(6) {
+        0 | 1 => damaged(random, draft),
+        2 | 3 => few(random, draft),
         _ => sound(random, draft),
     }
 }
@@ -55,11 +65,17 @@ pub fn full(random: &mut Random, draft: &Draft) -> Vec<u8> {
     plan.rows.concat()
 }
 
-/// A sound plan of one to three columns, each with its functions and an output or a condition.
+/// A sound plan of one to three values, each with an output or a condition.
 pub fn few(random: &mut Random, draft: &Draft) -> Vec<u8> {
     let mut plan = Plan::default();
-    let columns = random.between(1, 3).min(draft.columns.len());
-    (0..columns).for_each(|_| plan.add_shown(random, draft));
+    let values = random.between(1, 3).min(draft.columns.len());
+    for _ in 0..values {
+        if random.chance(1, 2) {
+            plan.add_joined(random, draft);
+        } else {
+            plan.add_shown(random, draft);
+        }
+    }
     plan.rows.truncate(64);
     plan.rows.concat()
 }
@@ -72,17 +88,20 @@ struct Plan {
 }
 
 impl Plan {
-    fn add(&mut self, row: [u8; 4]) {
+    /// Adds a row, and gives its number.
+    fn add(&mut self, row: [u8; 4]) -> u8 {
+        let number = self.rows.len() as u8;
         if row[0] <= 3 {
-            self.namable.push(self.rows.len() as u8);
+            self.namable.push(number);
         }
         self.rows.push(row);
+        number
     }
 
     fn add_row(&mut self, random: &mut Random, draft: &Draft, shape: Shape) {
         let kind = match shape {
             _ if self.namable.is_empty() => 1,
-            Shape::Doubling => random.one(&[1, 2, 2, 2, 2, 2, 2, 3, 3, 4, 5]),
+            Shape::Doubling => random.one(&[1, 2, 2, 2, 2, 3, 3, 3, 3, 4, 5]),
             _ => random.one(&[1, 1, 1, 2, 2, 2, 2, 3, 4, 4, 5]),
         };
         let kind = match kind {
@@ -100,7 +119,7 @@ impl Plan {
             1 => [1, random.below(draft.columns.len()) as u8, 0, 0],
             2 => {
                 let function = random.below(draft.functions.len()) as u8;
-                let single = shape != Shape::Doubling && random.chance(1, 2);
+                let single = random.chance(1, 2);
                 [2, function, b, if single { 255 } else { c }]
             }
             3 => [3, a, b, c],
@@ -114,7 +133,7 @@ impl Plan {
         let just_below = match shape {
             Shape::Doubling => random.chance(9, 10),
             Shape::Deep => random.chance(3, 4),
-            Shape::Wide | Shape::Shown => false,
+            Shape::Wide | Shape::Shown | Shape::Joined => false,
         };
         if just_below {
             last
@@ -123,21 +142,57 @@ impl Plan {
         }
     }
 
+    /// A value, put out or decided by.
     fn add_shown(&mut self, random: &mut Random, draft: &Draft) {
+        let (value, _) = self.add_value(random, draft);
+        self.add([random.one(&[4, 4, 5]), value, 0, 0]);
+    }
+
+    /// A value joined with another or itself by a function or a Choose, put out or decided by.
+    fn add_joined(&mut self, random: &mut Random, draft: &Draft) {
+        let (value, label) = self.add_value(random, draft);
+        let other = match random.below(3) {
+            0 => value,
+            _ => self.add_value(random, draft).0,
+        };
+        let mut rows = [value, other];
+        random.shuffle(&mut rows);
+        let [b, c] = rows;
+        let joined = match random.below(3) {
+            1.. if !draft.functions.is_empty() => [2, function(random, draft, label), b, c],
+            _ => [3, random.one(&self.namable), b, c],
+        };
+        let joined = self.add(joined);
+        let value = self.add_functions(random, draft, label, joined);
+        self.add([random.one(&[4, 4, 5]), value, 0, 0]);
+    }
+
+    /// A column with functions above it: the row of the last one, and the column's label.
+    fn add_value(&mut self, random: &mut Random, draft: &Draft) -> (u8, u8) {
         let column = random.below(draft.columns.len());
-        let useful = supported_functions(draft, draft.columns[column]);
-        let mut before = self.rows.len() as u8;
-        self.add([1, column as u8, 0, 0]);
+        let label = draft.columns[column];
+        let row = self.add([1, column as u8, 0, 0]);
+        (self.add_functions(random, draft, label, row), label)
+    }
+
+    /// Functions of one row above a row, for a label: the row of the last one.
+    fn add_functions(&mut self, random: &mut Random, draft: &Draft, label: u8, row: u8) -> u8 {
+        let mut last = row;
         while !draft.functions.is_empty() && random.chance(1, 2) {
-            let any = random.below(draft.functions.len()) as u8;
-            let function = match random.below(4) {
-                0 => any,
-                _ => random.pick(&useful).unwrap_or(any),
-            };
-            self.add([2, function, before, 255]);
-            before += 1;
+            last = self.add([2, function(random, draft, label), last, 255]);
         }
-        self.add([random.one(&[4, 4, 5]), before, 0, 0]);
+        last
+    }
+}
+
+/// A function, mostly one whose operation the label supports. There is one.
+fn function(random: &mut Random, draft: &Draft, label: u8) -> u8 {
+    let any = random.below(draft.functions.len()) as u8;
+    match random.below(4) {
+        0 => any,
+        _ => random
+            .pick(&supported_functions(draft, label))
+            .unwrap_or(any),
     }
 }
 
