@@ -6,6 +6,7 @@ pub mod actions;
 pub mod answer;
 pub mod compare;
 pub mod engine;
+pub mod mixing;
 pub mod reached;
 pub mod run;
 pub mod submissions;

@@ -1,8 +1,9 @@
 //! What was reached.
 
-use crate::actions::{verdict_depends, PAIRS};
+use crate::actions::{self, PAIRS};
 use crate::answer::Answer;
 use crate::engine::unpacked;
+use crate::mixing::{self, MISREADINGS};
 use books::draft::BLOCK;
 use books::Case;
 use second::access::Access;
@@ -55,6 +56,12 @@ pub struct Reached {
     pub broken: u64,
     /// Judged plans whose verdict depends on each of [`PAIRS`].
     pub pairs: [u64; 6],
+    /// Plans given to Flows whose accesses depend on each of [`MISREADINGS`].
+    pub flows_misread: [u64; 6],
+    /// Judged plans whose verdict depends on each of them.
+    pub verdicts_misread: [u64; 6],
+    /// Submitted plans whose reply, or what their users then hold, depends on each of them.
+    pub submissions_misread: [u64; 6],
     /// Submitted plans that are admitted.
     pub admitted: u64,
     /// Submitted plans that are declined.
@@ -93,9 +100,9 @@ impl Reached {
             Answer::Idle => self.count_idle(case),
             Answer::Open => self.open += 1,
             Answer::Closed(value) => self.count_closed(case, value),
-            Answer::Admitted => self.admitted += 1,
-            Answer::Declined(_) => self.count_declined(case),
-            Answer::Rules(_) | Answer::Done => {}
+            Answer::Admitted | Answer::Declined(_) => self.count_submitted(case, answer),
+            Answer::Done => self.count_flows(case),
+            Answer::Rules(_) => {}
             Answer::NotIdle | Answer::NotClosed | Answer::Stated(_) => {}
         }
     }
@@ -103,9 +110,17 @@ impl Reached {
     fn count_judged(&mut self, case: &Case, mask: u32) {
         self.broken += u64::from(mask != 0);
         if let Case::Judge { book, user, plan } = case {
-            let depends = verdict_depends(book, *user as usize, plan);
-            let pairs = self.pairs.iter_mut().zip(depends.unwrap_or_default());
-            pairs.for_each(|(n, depends)| *n += u64::from(depends));
+            let user = *user as usize;
+            let by_pair = actions::verdict_depends(book, user, plan);
+            count_each(&mut self.pairs, by_pair);
+            let by_misreading = mixing::verdict_depends(book, user, plan);
+            count_each(&mut self.verdicts_misread, by_misreading);
+        }
+    }
+
+    fn count_flows(&mut self, case: &Case) {
+        if let Case::Flows { book, plan, .. } = case {
+            count_each(&mut self.flows_misread, mixing::flows_depend(book, plan));
         }
     }
 
@@ -142,12 +157,17 @@ impl Reached {
         }
     }
 
-    fn count_declined(&mut self, case: &Case) {
-        self.declined += 1;
-        if let Case::Submit(given) = case {
+    fn count_submitted(&mut self, case: &Case, answer: Answer) {
+        let Case::Submit(given) = case else { return };
+        if answer == Answer::Admitted {
+            self.admitted += 1;
+        } else {
+            self.declined += 1;
             let alone = second::judge(&given.book, given.user, &given.plan);
             self.declined_for_held += u64::from(alone == Ok(0));
         }
+        let by_misreading = mixing::submission_depends(given);
+        count_each(&mut self.submissions_misread, by_misreading);
     }
 
     /// The verdicts that depend on each pair, in words.
@@ -155,6 +175,17 @@ impl Reached {
         let each = PAIRS.iter().zip(self.pairs);
         let each = each.map(|((action, named), n)| format!("{action:?} against {named:?}: {n}"));
         each.collect::<Vec<_>>().join(", ")
+    }
+
+    /// The flows, verdicts and submissions that depend on each misreading, in words.
+    fn by_misreading(&self) -> String {
+        let each = MISREADINGS.iter().enumerate().map(|(i, misreading)| {
+            let flows = self.flows_misread[i];
+            let (verdicts, submissions) = (self.verdicts_misread[i], self.submissions_misread[i]);
+            format!("{misreading:?}: {flows}, {verdicts}, {submissions}")
+        });
+        let each = each.collect::<Vec<_>>().join("; ");
+        format!("flows, verdicts and submissions that depend on {each}")
     }
 
     /// The refusals by their numbers, in words.
@@ -180,6 +211,12 @@ impl Reached {
         let of_call = self.refusals.keys().filter(|(of, _)| *of == call);
         of_call.map(|(_, number)| *number).collect()
     }
+}
+
+/// Counts what holds; nothing for what is refused.
+fn count_each(counts: &mut [u64; 6], holds: Option<[bool; 6]>) {
+    let each = counts.iter_mut().zip(holds.unwrap_or_default());
+    each.for_each(|(n, holds)| *n += u64::from(holds));
 }
 
 fn call(case: &Case) -> &'static str {
@@ -261,6 +298,7 @@ impl fmt::Display for Reached {
         writeln!(f, "\nrefusals:{}", self.by_number())?;
         writeln!(f, "plans that break a rule: {}", self.broken)?;
         writeln!(f, "verdicts that depend on {}", self.by_pair())?;
+        writeln!(f, "{}", self.by_misreading())?;
         write!(
             f,
             "rules: {} needed ({} with fewer functions than document 01's order shows), \
