@@ -4,11 +4,13 @@
 mod actions;
 mod base;
 mod blocked;
+mod mixing;
 mod order;
 mod submit;
 
 use against::actions::PAIRS;
 use against::engine::{Blocking, Idleness, Search, Second, STEPS};
+use against::mixing::MISREADINGS;
 use against::run::try_case;
 use against::{run, text, Difference, Engine, Limit, Reached};
 use books::submissions::Submit;
@@ -136,6 +138,15 @@ fn each_fault_of_blocked_is_found_and_shown_again() {
     blocked::FAULTS
         .into_iter()
         .for_each(is_found_and_shown_again);
+}
+
+#[test]
+fn each_fault_of_mixing_is_found_and_shown_again() {
+    for misreading in MISREADINGS {
+        is_found_and_shown_again(mixing::InFlows(misreading));
+        is_found_and_shown_again(mixing::InJudge(misreading));
+        is_found_and_shown_again(mixing::InSubmit(misreading));
+    }
 }
 
 #[test]
