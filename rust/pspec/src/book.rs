@@ -47,7 +47,8 @@ impl Book {
         self.rule_count
     }
 
-    /// What a plan gives away.
+    /// What a plan gives away. A leaf is had under the first operation above its column that it
+    /// supports; a function of two rows does not count as an operation, and nothing above it does.
     ///
     /// ```
     /// use pspec::{Access, Action, Book, Plan};
@@ -58,6 +59,16 @@ impl Book {
     /// let accesses: Vec<Access> = book.flows(&plan)?.iter().collect();
     /// let average = Access { action: Action::Projection, leaf: 4, operation: 1 };
     /// assert_eq!(accesses, [average]);
+    ///
+    /// let mixed = Plan::new([
+    ///     1, 0, 0, 0, // row 0: column 0, a state
+    ///     1, 2, 0, 0, // row 1: column 2, a price
+    ///     2, 0, 0, 1, // row 2: function 0 of rows 0 and 1
+    ///     2, 1, 2, 255, // row 3: the average of row 2
+    ///     4, 3, 0, 0, // row 4: output of row 3
+    /// ]);
+    /// let raw = |leaf| Access { action: Action::Projection, leaf, operation: 0 };
+    /// assert!(book.flows(&mixed)?.iter().eq([raw(2), raw(4)]));
     /// # Ok::<(), pspec::Refusal>(())
     /// ```
     pub fn flows(&self, plan: &Plan) -> Result<Accesses, Refusal> {
