@@ -104,6 +104,24 @@ fn what_is_held() {
     assert_eq!(kept.counts(), (6, 1));
 }
 
+/// Document 02, N5: of avg(concat(State, Price)) both are held raw, where no rule stops it; of
+/// sum(concat(avg(Price), State)) the price is held averaged.
+#[test]
+fn what_is_held_of_a_mix() {
+    let above = [1, 0, 0, 0, 1, 2, 0, 0, 2, 0, 0, 1, 2, 1, 2, 255, 4, 3, 0, 0];
+    let below = [
+        1, 2, 0, 0, 2, 1, 0, 255, 1, 0, 0, 0, 2, 0, 1, 2, 2, 2, 3, 255, 4, 4, 0, 0,
+    ];
+    let [state, price] = [1 << 2, 1 << 4];
+    let mut kept = Kept::fresh(&small_shop());
+    assert_eq!(kept.submit(MARKETING, &above), Ok(0b011));
+    assert_eq!(kept.submit(MARKETING, &below), Ok(0));
+    assert_eq!(kept.words(), [(64, state), (65, price)]);
+    let mut kept = Kept::fresh(&small_shop().with_rules(&[]));
+    assert_eq!(kept.submit(MARKETING, &above), Ok(0));
+    assert_eq!(kept.words(), [(64, state | price)]);
+}
+
 /// "Judge's refusals, then 27 for a ledger not of 1,024 words, then 28"
 #[test]
 fn refusals_in_order() {
