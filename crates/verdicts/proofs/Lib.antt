@@ -14,6 +14,7 @@ pub mod DemandLaws
 pub mod Held
 pub mod ActionHierarchy
 pub mod Unchanged
+pub mod Stricter
 pub mod Sound
 pub mod Gate
 pub mod Vectors

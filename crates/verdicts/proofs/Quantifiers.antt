@@ -3,12 +3,12 @@
 use Prim.Native.Nat.{ℕ, zero, suc, _≤_, _<_}
 use native.Mathlib.Omega.{arith}
 use mathlib.Core.Path.{_≡_, refl, sym, _∙_}
-use mathlib.Core.Bool.{Bool, true, false, _&&_, _||_, false≢true}
+use mathlib.Core.Bool.{Bool, true, false, _&&_, _||_}
 use mathlib.Core.List.{List, [], _∷_}
 use lib.Dec.{eqb, ltb}
 use borrow.Author.Tests.{ltb-true, lt-ltb, eqb-true, eq-eqb}
 use Rattle.book.specs.Lists.{flat, any, all, from, upTo}
-use Rattle.book.proofs.Lists.{and-true, and-left, and-right, and-both, or-otherwise, or-rest, or-end, same-test}
+use Rattle.book.proofs.Lists.{and-true, and-left, and-right, and-both, or-end, same-test}
 use Rattle.book.proofs.Lists.{any-append, append-all, any-found, at-all, none-at, all-three}
 use Rattle.verdicts.specs.Accesses.{keep}
 
