@@ -301,28 +301,34 @@ kind-past plan i whole past =
     let l : length plan ≤ 4 * i = omega arith in
     rw (List·getD-eq-default plan 0 l)
 
+-- an Apply row is a row of the plan
+pub apply-within : (plan : List ℕ) (i : ℕ) → length plan % 4 ≡ 0 → kindAt plan i ≡ Apply → i < rowCount plan
+apply-within plan i whole e = go (ltb i (rowCount plan)) refl
+  where
+    unlike : Apply ≡ Unknown → ⊥
+    unlike u =
+        let z : _≡_ {A = ℕ} 0 1 = cc in
+        omega arith
+
+    go : (b : Bool) → ltb i (rowCount plan) ≡ b → i < rowCount plan
+    go true t = ltb-true i (rowCount plan) t
+    go false t = absurd (unlike (sym e ∙ kind-past plan i whole (ltb-false i (rowCount plan) t)))
+
 module _ (head plan : List ℕ) (book : HeadHolds head) (holds : PlanHolds head plan) where
   pub plan-sound : PlanSound head plan
   plan-sound =
       record {
         leaves = λ r d w. stands-leaf head plan holds r d w book;
-        operations = λ i e. go i e (ltb i (rowCount plan)) refl;
+        operations = operations-small;
         below = λ r d k. reaches-below head plan holds r d k book;
       }
     where
-      unlike : Apply ≡ Unknown → ⊥
-      unlike e =
-          let z : _≡_ {A = ℕ} 0 1 = cc in
-          omega arith
-
-      go : (i : ℕ) → kindAt plan i ≡ Apply → (b : Bool) → ltb i (rowCount plan) ≡ b → operation head (rowA plan i) < 16
-      go i e true t =
-          let row = holds .rows i (ltb-true i (rowCount plan) t) in
+      operations-small : (i : ℕ) → kindAt plan i ≡ Apply → operation head (rowA plan i) < 16
+      operations-small i e =
+          let row = holds .rows i (apply-within plan i (holds .whole) e) in
           let m : operation head (rowA plan i) ≤ 15 =
           book .operations-most (rowA plan i) (apply-holds head plan i row e .0) in
           omega arith
-      go i e false t =
-          absurd (unlike (sym e ∙ kind-past plan i (holds .whole) (ltb-false i (rowCount plan) t)))
 
   pub plan-given : (i : ℕ) → i < rowCount plan → Given plan (rowCount plan) i
   plan-given i l s g =

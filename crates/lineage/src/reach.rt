@@ -76,10 +76,10 @@ fn operated(row: [u64; 17], o: usize, supporting: [u64; 16]) -> [u64; 17]
 fn mixed(row: [u64; 17]) -> [u64; 17]
     ensures { λ r. ⌜ Mixed row r ⌝ }
 {
-    let mut next = row;
-    next[0] = 0;
-    next[16] = row[16] | row[0];
-    next
+    let mut ended = row;
+    ended[0] = 0;
+    ended[16] = row[16] | row[0];
+    ended
 }
 
 // The words of a Column row.

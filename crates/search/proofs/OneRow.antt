@@ -1,7 +1,7 @@
 -- Laws of a plan with one row more: it stands where the row holds, and what the row reaches and gives. Assumes nothing.
 use Prim.Native.Nat.{ℕ, zero, suc, _+_, _*_, _<_}
 use native.Mathlib.Omega.{arith}
-use mathlib.Core.Path.{_≡_, refl, ap, _∙_}
+use mathlib.Core.Path.{_≡_, refl, sym, ap, _∙_}
 use mathlib.Core.Bool.{Bool, true, false, _&&_, _||_, not, cond}
 use mathlib.Core.List.{List, [], _∷_, _++_}
 use lib.ListN.{length, length-append}
@@ -72,26 +72,44 @@ module _ (head p t : List ℕ) (i : ℕ) (l : i < rowCount p) where
       rw (kind-prefix p t i l, a-prefix p t i l, b-prefix p t i l, c-prefix p t i l)
       (sound-prefix (kindAt p i) (rowA p i) (rowB p i) (rowC p i))
 
--- A plan that stands: n rows, each of which holds
+-- A plan that stands: n rows, each of which holds, and every Apply of which has one row
 
 pub record Standing (head p : List ℕ) (n : ℕ) : Type 0 where
   pub whole : length p ≡ 4 * n
   pub rows : (i : ℕ) → i < n → rowHolds head p i ≡ true
+  pub single : (i : ℕ) → i < n → kindAt p i ≡ Apply → rowC p i ≡ 255
 
 pub standing-none : (head : List ℕ) → Standing head [] 0
-standing-none head = record { whole = refl; rows = λ i l. absurd (omega arith) }
+standing-none head =
+    record { whole = refl; rows = λ i l. absurd (omega arith); single = λ i l e. absurd (omega arith) }
 
 module _ (head p : List ℕ) (n kind a b c : ℕ) (stands : Standing head p n) where
   pub standing-more :
-      soundAs (kindOf kind) head (p ++ row kind a b c) n a b c ≡ true → Standing head (p ++ row kind a b c) (suc n)
+      soundAs (kindOf kind) head (p ++ row kind a b c) n a b c ≡ true
+      → (kindOf kind ≡ Apply → c ≡ 255)
+      → Standing head (p ++ row kind a b c) (suc n)
   unfolding rowHolds
-  standing-more h =
+  standing-more h one =
       let w = stands .whole in
       record {
         whole = omega (arith, length-append p (row kind a b c));
         rows = λ i l. go i l (ltb i n) refl;
+        single = λ i l. only i l (ltb i n) refl;
       }
     where
+      only : (i : ℕ) → i < suc n → (t : Bool) → ltb i n ≡ t → kindAt (p ++ row kind a b c) i ≡ Apply → rowC (p ++ row kind a b c) i ≡ 255
+      only i l true e apply =
+          let m = ltb-true i n e in
+          let w = stands .whole in
+          let t = row kind a b c in
+          c-prefix p t i (omega arith) ∙ stands .single i m (sym (kind-prefix p t i (omega arith)) ∙ apply)
+      only i l false e apply =
+          let m = ltb-false i n e in
+          let w = stands .whole in
+          let q : i ≡ n = omega arith in
+          rw (q, row-c p n kind a b c w)
+          (one (sym (row-kind p n kind a b c w) ∙ rw q at apply))
+
       go : (i : ℕ) → i < suc n → (t : Bool) → ltb i n ≡ t → rowHolds head (p ++ row kind a b c) i ≡ true
       go i l true e =
           let m = ltb-true i n e in
@@ -171,11 +189,14 @@ module _ (head p : List ℕ) (n column : ℕ) (stands : Standing head p n) where
       let w = stands .whole in
       let kind = row-kind p n 1 column 0 0 w in
       record {
-        stands = standing-more head p n 1 column 0 0 stands (rw (lt-ltb column (columnCount head) l));
+        stands = standing-more head p n 1 column 0 0 stands (rw (lt-ltb column (columnCount head) l)) (λ e. absurd (other e));
         value = rw kind;
         path = paths-column (p ++ row 1 column 0 0) n kind ∙ rw (row-a p n 1 column 0 0 w);
         given = λ s d k. row-gives head p n 1 column 0 0 stands s d k ∙ or-end (isAccess head p s d k);
       }
+    where
+      other : kindOf 1 ≡ Apply → ⊥
+      other e = let z : _≡_ {A = ℕ} 0 1 = cc in omega arith
 
 -- c is 255: an Apply with one row
 module _ (head before p : List ℕ) (n column function : ℕ) (old : Reaching head before p n (rawPath column)) where
@@ -194,7 +215,7 @@ module _ (head before p : List ℕ) (n column function : ℕ) (old : Reaching he
       record {
         stands =
             standing-more head p (suc n) 2 function n 255 (old .stands)
-            (rw (lt-ltb function (functionCount head) l, names-last p t n w (old .value)));
+            (rw (lt-ltb function (functionCount head) l, names-last p t n w (old .value))) (λ e. refl);
         value = rw kind;
         path =
             paths-apply (p ++ t) (suc n) kind (rw at-b (omega arith)) (rw at-c (omega arith))
@@ -221,6 +242,14 @@ last-sound head p s₀ i r h = go (eqb s₀ 0)
     go true = rw h
     go false = rw h
 
+last-other : (s₀ : ℕ) → kindOf (cond (eqb s₀ 0) 4 5) ≡ Apply → ⊥
+unfolding kindOf
+last-other s₀ = go (eqb s₀ 0)
+  where
+    go : (b : Bool) → kindOf (cond b 4 5) ≡ Apply → ⊥
+    go true e = let z : _≡_ {A = ℕ} 0 1 = cc in omega arith
+    go false e = let z : _≡_ {A = ℕ} 0 1 = cc in omega arith
+
 module _ (head before p : List ℕ) (n d₀ k₀ s₀ : ℕ) {only : Path} (old : Reaching head before p n only)
     (carried : (d k : ℕ) → carries head d k only ≡ (eqb d d₀ && eqb k k₀)) where
   reached : (t : List ℕ) (d k : ℕ) → reaches head (p ++ t) n d k ≡ (eqb d d₀ && eqb k k₀)
@@ -241,7 +270,7 @@ module _ (head before p : List ℕ) (n d₀ k₀ s₀ : ℕ) {only : Path} (old 
       let kind : ℕ = cond (eqb s₀ 0) 4 5 in
       let t = row kind n 0 0 in (
         standing-more head p (suc n) kind n 0 0 (old .stands)
-            (last-sound head (p ++ t) s₀ (suc n) n (names-last p t n w (old .value))),
+            (last-sound head (p ++ t) s₀ (suc n) n (names-last p t n w (old .value))) (λ e. absurd (last-other s₀ e)),
         λ s d k.
             row-gives head p (suc n) kind n 0 0 (old .stands) s d k
             ∙ rw (old .given s d k, gives-last s₀ s l, reached t d k),

@@ -14,11 +14,13 @@ use Rattle.book.specs.Tests.{firstFailing}
 use Rattle.book.proofs.Lists.{and-true, and-both, or-rest, or-assoc, or-end, any-none}
 use Rattle.book.proofs.Answers.{flat-passed}
 use Rattle.book.proofs.Accepted.{HeadHolds}
-use Rattle.lineage.specs.Rows.{rowCount, kindAt, rowA}
+use Rattle.lineage.specs.Rows.{Apply, rowCount, kindAt, rowA, rowC}
 use Rattle.lineage.specs.Paths.{labels, takes}
 use Rattle.lineage.specs.Accesses.{gives, reaches, isAccess}
 use Rattle.lineage.specs.Answers.{PlanAccepted, planLengthHolds, rowTests}
 use Rattle.lineage.proofs.PlanLaws.{plan-rows}
+use Rattle.lineage.proofs.Accepted.{apply-within}
+use Rattle.lineage.proofs.Mixing.{accessBefore, as-before}
 use Rattle.verdicts.specs.Accesses.{Access, accessesOf, fits, same}
 use Rattle.verdicts.proofs.Accesses.{fits-bounds}
 use Rattle.search.specs.Obtainable.{labelled, operated, canBeHad}
@@ -214,6 +216,18 @@ module _
     shown-accesses x =
         shows .given x
         ∙ rw (any-none (λ i. gives (kindAt [] i) (x .channel) && reaches head [] (rowA [] i) (x .leaf) (x .operation)))
+
+    -- "Shown plans use single-row Apply only, so their form holds."
+    pub shown-single : (i : ℕ) → kindAt (shownPlan head choice) i ≡ Apply → rowC (shownPlan head choice) i ≡ 255
+    shown-single i e =
+        let w = shows .stands .whole in
+        let l = apply-within (shownPlan head choice) i (omega arith) e in
+        shows .stands .single i (omega arith) e
+
+    -- so that they give what they gave
+    pub shown-as-before :
+        (s d k : ℕ) → isAccess head (shownPlan head choice) s d k ≡ accessBefore head (shownPlan head choice) s d k
+    shown-as-before = as-before (shownPlan head choice) shown-single head
 
     pub shown-whole : length (shownPlan head choice) ≡ 4 * rowCount (shownPlan head choice)
     shown-whole =
