@@ -1,6 +1,6 @@
 // The accesses of a plan as 32 words: bit d of word 16 × s + k for access (s, d, k).
 use crate::reach::by_operation;
-use crate::reach::reach_table;
+use crate::reach::fill_reach;
 use crate::rows::kind;
 use crate::rows::row_a;
 use book::fields::head_of;
@@ -61,6 +61,8 @@ pub fn accesses(book: &[u8], t: &[u64], plan: &[u8]) -> [u64; 32]
         return [0u64; 32];
     }
     let n = (plan.len() / 4) as u8;
-    let table = reach_table(head_of(book), t, plan, n);
+    let head = head_of(book);
+    let mut table = [0u64; 1088];
+    fill_reach(&mut table, head, t, plan, n);
     gathered(plan, &table, n)
 }

@@ -13,7 +13,7 @@ ghost use mathlib.Core.Path.{_≡_};
 ghost use Prim.Native.Nat.{ℕ, _≤_, _<_};
 ghost use lib.Bits.{bitOr};
 ghost use lib.Dec.{eqb};
-ghost use lib.ListN.{getD};
+ghost use lib.ListN.{getD, replicate};
 ghost use Rattle.book.specs.Lists.{any};
 ghost use Rattle.book.specs.Sets.{WordOf};
 ghost use Rattle.book.specs.Inner.Words.{HeadWords};
@@ -147,16 +147,16 @@ pub fn by_operation(table: &[u64], r: u8) -> [u64; 17]
     words
 }
 
-// The words of the first n rows, from row 0 up.
-pub fn reach_table(head: &[u8], t: &[u64], plan: &[u8], n: u8) -> [u64; 1088]
-    ensures { λ r. ⌜ (HeadWords (now (head .entry)) (now (t .entry)) → PlanSound (now (head .entry)) (now (plan .entry))
-        → n ≤ 64 → Reached (now (head .entry)) (now (plan .entry)) n r) ⌝ }
+// The words of the first n rows, from row 0 up, written where the caller keeps them: by value they
+// would be copied. The table is empty before.
+pub fn fill_reach(table: &mut [u64], head: &[u8], t: &[u64], plan: &[u8], n: u8)
+    ensures { λ _. ⌜ (HeadWords (now (head .entry)) (now (t .entry)) → PlanSound (now (head .entry)) (now (plan .entry))
+        → n ≤ 64 → now (table .entry) ≡ replicate 1088 0
+        → Reached (now (head .entry)) (now (plan .entry)) n (now (table .exit))) ⌝ }
 {
     let supporting = supporters(t, head);
-    let mut table = [0u64; 1088];
     for i in 0..n {
-        let row = row_reach(head, plan, supporting, &table, i);
-        store_row(&mut table, i, row);
+        let row = row_reach(head, plan, supporting, table, i);
+        store_row(table, i, row);
     }
-    table
 }

@@ -1,5 +1,6 @@
 -- The table is right for an accepted plan, and the words are determined by their members (`access-words`). Assumes nothing.
 use native.Mathlib.Omega.{arith}
+use mathlib.Core.Path.{refl}
 use mir.Syntax.{w64}
 use mir.Val.{Fits}
 use lib.ListN.{getD}
@@ -21,14 +22,15 @@ returns c words both =
 
 returns-2 : tie.Need-returns-2
 returns-2 c words both =
-    let a = c .before .before .before .before .before .before .before .before .args in
+    let filled = c .before .before .before .fill-reach in
+    let at-head = c .before .before .before .before .before in
+    let a = at-head .before .before .before .before .before .args in
     let head = headOf (a .book .now) in
     let b = accepted-head (a .book .now) (both .0) in
     let p = accepted-plan head (a .plan .now) (both .1) in
     let sound = plan-sound head (a .plan .now) b p in
-    let same = c .before .before .before .head-of .ensures in
-    let table : Reached head (a .plan .now) (rowCount (a .plan .now)) (c .before .before .reach-table .result) =
-    (rw same at (c .before .before .reach-table .ensures)) words sound (omega (arith, p .short)) in
+    let table : Reached head (a .plan .now) (rowCount (a .plan .now)) (filled .last .0) =
+    (rw (at-head .head-of .ensures) at (filled .ensures)) words sound (omega (arith, p .short)) refl in
     access-words head (a .plan .now) (c .gathered .result) (search needs) (λ w h. let f : Fits w64 (getD (c .gathered .result) w 0) = search needs in f .fits)
     (c .gathered .ensures head sound table (plan-given head (a .plan .now) b p))
 
@@ -39,6 +41,7 @@ accesses-spec =
     returns
     (λ c. search needs)
     (λ c κs. search needs)
+    (λ c. search needs)
     (λ c κs. search needs)
     (λ c. search needs)
     (λ c κs. search needs)
