@@ -205,6 +205,11 @@ module _ {A : Type 0} (f : A → Bool) where
   any-guarded true l = refl
   any-guarded false l = refl
 
+  pub all-guarded : (b : Bool) (l : List A) → (b ≡ true → all f l ≡ true) → all f (cond b l []) ≡ true
+  unfolding all
+  all-guarded true l h = h refl
+  all-guarded false l h = refl
+
   pub any-map : {B : Type 0} (g : B → A) (l : List B) → any f (map g l) ≡ any (λ x. f (g x)) l
   unfolding any
   any-map g [] = refl

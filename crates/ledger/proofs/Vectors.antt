@@ -52,7 +52,7 @@ days =
     -- an average may stand beside State, and an admitted plan may come again
     ∷ (1, price ∷ avg 0 ∷ output 1 ∷ [], Admitted)
     ∷ (1, state ∷ output 0 ∷ [], Admitted)
-    -- an average of both columns mixed protects neither; a mix with an average below it does
+    -- an average over both columns mixed is declined; with Price averaged below the mix it is admitted
     ∷ (2, state ∷ price ∷ concatBoth 0 1 ∷ avg 2 ∷ output 3 ∷ [], Declined 3)
     ∷ (2, state ∷ price ∷ avg 1 ∷ concatBoth 0 2 ∷ output 3 ∷ [], Admitted)
     ∷ []
@@ -79,10 +79,10 @@ unfolding days submissions plan all any upTo from has upwardIn upward under leaf
     usersBlockTests dataBlockTests columnsBlockTests functionsBlockTests ruleBlockTests blockTests checkTests
     kindTests contentTests lengthTests blockByBlock bookTests sealTests firstFailing refusedOr answered withCheck
     sealBytes padded block users categories columns functions rule rule0 rule1 rule2 shop kindOf kindAt isValue
-    names soundAs rowHolds planLengthHolds rowTests planTests appliedAs through pathsBy pathsIn paths labels takes counting
-    firstOperation operationOf carries reaches gives isAccess wordOf accessesOf flat keep everyAccess actionOf actionFits
-    channelFits fits fitting choicesFrom operations accepts refusesAll someChoiceRefused breaks brokenMask userTests
-    judgeTests accessWords heldBy union wordsOf heldFor joinedFor ledgerTests countsHold tallyTests submitTests
-    joinedAccesses unionMask submitAnswer ledgerAfter submitLedger tallyAfter submitTally replyTo next recordsAfter
-    log
+    names soundAs rowHolds planLengthHolds rowTests planTests appliedAs through pathsBy pathsIn paths labels takes
+    counting firstOperation operationOf carries reaches gives isAccess wordOf accessesOf flat keep everyAccess
+    actionOf actionFits channelFits fits fitting choicesFrom operations accepts refusesAll someChoiceRefused breaks
+    brokenMask userTests judgeTests accessWords heldBy union wordsOf heldFor joinedFor ledgerTests countsHold
+    tallyTests submitTests joinedAccesses unionMask submitAnswer ledgerAfter submitLedger tallyAfter submitTally
+    replyTo next recordsAfter log
 shop-days = refl

@@ -11,7 +11,7 @@ use borrow.Author.Tests.{ltb-true, ltb-false, lt-ltb, eqb-true}
 use Rattle.book.specs.Lists.{flat, upTo, all, any}
 use Rattle.book.specs.Head.{operation, label, columnCount, functionCount, isDataLeaf}
 use Rattle.book.specs.Refusals.{labelHolds}
-use Rattle.book.proofs.Lists.{and-true, and-left, and-both, or-end, append-all, all-one, map-all, any-found, any-nil}
+use Rattle.book.proofs.Lists.{and-true, and-left, and-both, or-end, append-all, all-guarded, all-one, map-all, any-found, any-nil}
 use Rattle.book.proofs.Answers.{first-passed, last-passed, passed-flat}
 use Rattle.book.proofs.Accepted.{HeadHolds}
 use Rattle.lineage.specs.Rows.{Kind, Column, Apply, Choose, Output, Condition, Unknown}
@@ -123,12 +123,6 @@ module _ (head : List ℕ) where
       and-true (ltb (p .column) (columnCount head)) (all (known head) (p .applies ++ (row ∷ []))) (b .0)
       (append-all (known head) (p .applies) (row ∷ []) (b .1) (all-one (known head) row ∙ l))
 
-  within-guarded :
-      (b : Bool) (l : List Path) → (b ≡ true → all (within head) l ≡ true) → all (within head) (cond b l []) ≡ true
-  unfolding all
-  within-guarded true l h = h refl
-  within-guarded false l h = refl
-
 module _ (head plan : List ℕ) (holds : PlanHolds head plan) where
   paths-below : (n i : ℕ) → i < n → i < rowCount plan → all (within head) (paths plan i) ≡ true
   unfolding pathsBy all
@@ -143,7 +137,7 @@ module _ (head plan : List ℕ) (holds : PlanHolds head plan) where
 
       lower : (r : ℕ) → (r < n → r < rowCount plan → all (within head) (paths plan r) ≡ true) → all (within head) (low r) ≡ true
       lower r h =
-          within-guarded head (ltb r i) (paths plan r)
+          all-guarded (within head) (ltb r i) (paths plan r)
           (λ t. let b : r < i = ltb-true r i t in h (omega arith) (omega arith))
 
       go :

@@ -36,7 +36,7 @@ counting-one [] f h = refl
 counting-one (OneRow g ∷ below) f h = ap (λ (fs : List ℕ). g ∷ fs) (counting-one below f h)
 counting-one (TwoRows g ∷ below) f h = absurd (false≢true (sym h))
 
-mixes-one : (below : List Applied) (f : ℕ) → mixes (below ++ (OneRow f ∷ [])) ≡ mixes below
+pub mixes-one : (below : List Applied) (f : ℕ) → mixes (below ++ (OneRow f ∷ [])) ≡ mixes below
 unfolding mixes
 mixes-one [] f = refl
 mixes-one (OneRow g ∷ below) f = mixes-one below f
@@ -51,7 +51,7 @@ mixes-two (TwoRows g ∷ below) f = refl
 -- The first operation of functions, and one more
 
 -- an operation that is taken is not 0
-pub taken-not-none : (head : List ℕ) (d k : ℕ) → takes head d k ≡ true → eqb k 0 ≡ false
+taken-not-none : (head : List ℕ) (d k : ℕ) → takes head d k ≡ true → eqb k 0 ≡ false
 unfolding takes
 taken-not-none head d k h = not-true (eqb k 0) (and-left (not (eqb k 0)) _ h)
 

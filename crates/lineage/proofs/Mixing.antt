@@ -1,23 +1,26 @@
--- Theorems about the definitions of document 02, N5: which functions of a path count, that rows with one Apply row each
--- give what document 01 gave, and what became of the accesses of every other plan. Assumes nothing.
+-- Theorems about the definitions of document 02, N5: which functions of a path count, what an Apply over one with two
+-- rows gives, that plans whose Apply rows have one row each have document 01's accesses, and what became of the
+-- accesses of every other plan. Assumes nothing.
 use Prim.Native.Nat.{ℕ, zero, suc, _≤_, _<_}
 use native.Mathlib.Omega.{arith}
 use mathlib.Core.Path.{_≡_, refl, sym, ap, _∙_}
 use mathlib.Core.Logic.{_⊎_, inl, inr}
 use mathlib.Core.Bool.{Bool, true, false, _&&_, _||_, not, cond, false≢true}
-use mathlib.Core.List.{List, [], _∷_, _++_, map}
+use mathlib.Core.List.{List, [], _∷_, _++_, map, append-assoc, append-nil}
 use lib.Dec.{eqb, ltb}
 use borrow.Author.Tests.{eq-eqb, eqb-true, ltb-true, lt-ltb, ne-eqb}
 use Rattle.book.specs.Lists.{all, any, upTo}
 use Rattle.book.specs.Head.{operation}
-use Rattle.book.proofs.Lists.{and-both, append-all, any-both, any-same, any-wider, map-all, or-true}
+use Rattle.book.proofs.Lists.{and-both, and-true, append-all, all-guarded, any-both, any-map, any-same, any-wider}
+use Rattle.book.proofs.Lists.{map-all, or-left, or-rest, or-right, or-true}
 use Rattle.lineage.specs.Rows.{Kind, Column, Apply, Choose, Output, Condition, Unknown}
 use Rattle.lineage.specs.Rows.{rowCount, kindAt, rowA, rowB, rowC}
 use Rattle.lineage.specs.Paths.{Applied, OneRow, TwoRows, appliedAs, Path, through, pathsBy, paths, labels, takes}
 use Rattle.lineage.specs.Paths.{counting, firstOperation, operationOf, carries}
 use Rattle.lineage.specs.Accesses.{reaches, gives, isAccess}
-use Rattle.lineage.proofs.Counting.{mixing-ends}
-use Rattle.lineage.proofs.Paths.{paths-step}
+use Rattle.lineage.specs.Inner.Table.{mixes}
+use Rattle.lineage.proofs.Counting.{mixes-one, mixing-ends}
+use Rattle.lineage.proofs.Paths.{any-lower, paths-apply, paths-step}
 
 -- Which functions count
 
@@ -32,7 +35,7 @@ pub those-below-count :
     (fs : List ℕ) (f : ℕ) (above : List Applied) → counting (map OneRow fs ++ (TwoRows f ∷ above)) ≡ fs
 those-below-count fs f above = mixing-ends (map OneRow fs) f above ∙ all-count fs
 
--- "also when b = c": row b twice is two rows
+-- row b twice is two rows
 pub same-row-twice :
     (plan : List ℕ) (i : ℕ) →
     kindAt plan i ≡ Apply →
@@ -45,6 +48,45 @@ unfolding pathsBy appliedAs
 same-row-twice plan i e twice low few =
     let n : rowB plan i ≡ 255 → ⊥ = λ z. omega arith in
     rw (paths-step plan i, e, twice, lt-ltb (rowB plan i) i low, ne-eqb (rowB plan i) 255 n)
+
+-- "an average over concatenated columns protects neither": an Apply over an Apply with two rows, whatever their
+-- functions, gives what those two rows give
+module _ (head plan : List ℕ) (i : ℕ) (upper : kindAt plan i ≡ Apply) (one : rowC plan i ≡ 255) (few : i ≤ 255)
+    (low : rowB plan i < i) (lower : kindAt plan (rowB plan i) ≡ Apply)
+    (two : rowC plan (rowB plan i) ≡ 255 → ⊥) where
+  abbrev mix : ℕ
+  mix = rowB plan i
+
+  above-mix :
+      (d k : ℕ) (p : Path) →
+      carries head d k (through (appliedAs (rowA plan i) 255) (through (TwoRows (rowA plan mix)) p)) ≡ carries head d k p
+  unfolding carries operationOf through appliedAs
+  above-mix d k p =
+      let f = rowA plan i in
+      let g = rowA plan mix in
+      let assoc = append-assoc (p .applies) (TwoRows g ∷ []) (OneRow f ∷ []) in
+      let same = ap counting assoc ∙ mixing-ends (p .applies) g (OneRow f ∷ []) in
+      ap (λ (fs : List ℕ). any (eqb d) (labels head (p .column)) && eqb k (firstOperation head d fs)) same
+
+  pub protects-neither :
+      (d k : ℕ) →
+      reaches head plan i d k ≡
+      ((ltb (rowB plan mix) mix && reaches head plan (rowB plan mix) d k)
+      || (ltb (rowC plan mix) mix && reaches head plan (rowC plan mix) d k))
+  unfolding reaches pathsBy appliedAs
+  protects-neither d k =
+      let f = carries head d k in
+      let b = rowB plan mix in
+      let c = rowC plan mix in
+      let l = cond (ltb b mix) (paths plan b) [] ++ cond (ltb c mix) (paths plan c) [] in
+      let outer = appliedAs (rowA plan i) 255 in
+      let inner = TwoRows (rowA plan mix) in
+      ap (any f) (paths-apply plan i upper low (rw one few) ∙ rw (one, append-nil))
+      ∙ any-map f (through outer) (paths plan mix)
+      ∙ rw (paths-step plan mix, lower, ne-eqb c 255 two)
+      (any-map (λ p. f (through outer p)) (through inner) l
+      ∙ any-same (λ p. f (through outer (through inner p))) f (above-mix d k) l
+      ∙ any-lower plan mix f b c)
 
 -- Document 01's lineage, without N5: every function on a path counts
 
@@ -77,29 +119,19 @@ any-among f g h (x ∷ l) e p =
     let b = and-both (h x) (all h l) p in
     rw (e x (b .0), any-among f g h l e (b .1))
 
-unfoldable single : Applied → Bool
-single (OneRow f) = true
-single (TwoRows f) = false
-
--- every Apply on the path has one row
+-- no Apply on the path has two rows
 unfoldable unmixed : Path → Bool
-unmixed p = all single (p .applies)
+unmixed p = not (mixes (p .applies))
 
-all-functions : (rows : List Applied) → all single rows ≡ true → counting rows ≡ functions rows
-unfolding counting functions all single
+all-functions : (rows : List Applied) → not (mixes rows) ≡ true → counting rows ≡ functions rows
+unfolding counting functions mixes
 all-functions [] h = refl
 all-functions (OneRow f ∷ above) h = ap (λ (l : List ℕ). f ∷ l) (all-functions above h)
 all-functions (TwoRows f ∷ above) h = absurd (false≢true h)
 
 module _ (plan : List ℕ) (each : (i : ℕ) → kindAt plan i ≡ Apply → rowC plan i ≡ 255) where
-  unmixed-guarded :
-      (b : Bool) (l : List Path) → (b ≡ true → all unmixed l ≡ true) → all unmixed (cond b l []) ≡ true
-  unfolding all
-  unmixed-guarded true l h = h refl
-  unmixed-guarded false l h = refl
-
   paths-unmixed : (n i : ℕ) → i < n → all unmixed (paths plan i) ≡ true
-  unfolding pathsBy all through appliedAs single unmixed
+  unfolding pathsBy all through appliedAs mixes unmixed
   paths-unmixed zero i m = absurd (omega arith)
   paths-unmixed (suc n) i m =
       rw (paths-step plan i)
@@ -111,7 +143,7 @@ module _ (plan : List ℕ) (each : (i : ℕ) → kindAt plan i ≡ Apply → row
 
       lower : (r : ℕ) → (r < n → all unmixed (paths plan r) ≡ true) → all unmixed (low r) ≡ true
       lower r h =
-          unmixed-guarded (ltb r i) (paths plan r) (λ t. let b : r < i = ltb-true r i t in h (omega arith))
+          all-guarded unmixed (ltb r i) (paths plan r) (λ t. let b : r < i = ltb-true r i t in h (omega arith))
 
       go :
           (kind : Kind) →
@@ -122,8 +154,7 @@ module _ (plan : List ℕ) (each : (i : ℕ) → kindAt plan i ≡ Apply → row
       go Column e b c = refl
       go Apply e b c =
           map-all unmixed (through (appliedAs (rowA plan i) (rowC plan i))) unmixed
-          (λ p h.
-          append-all single (p .applies) (appliedAs (rowA plan i) (rowC plan i) ∷ []) h (rw (each i e)))
+          (λ p h. rw (each i e, mixes-one (p .applies) (rowA plan i)) h)
           (low (rowB plan i) ++ low (rowC plan i))
           (append-all unmixed (low (rowB plan i)) (low (rowC plan i)) b c)
       go Choose e b c = append-all unmixed (low (rowB plan i)) (low (rowC plan i)) b c
@@ -142,7 +173,7 @@ module _ (plan : List ℕ) (each : (i : ℕ) → kindAt plan i ≡ Apply → row
       (λ p h. rw (all-functions (p .applies) h)) (paths-unmixed (suc (rowA plan i)) (rowA plan i) (omega arith))))
       (upTo (rowCount plan))
 
--- Every other plan: an access keeps its operation or loses it, and none gets one
+-- Every other plan: an access keeps its operation or loses it, none gets one, and there are no others
 
 module _ (head : List ℕ) (d : ℕ) where
   same-or-none :
@@ -205,6 +236,34 @@ module _ (head : List ℕ) (d : ℕ) where
         go t e (inl same) = rw (t, eq-eqb k before (e ∙ same))
         go t e (inr none) = absurd (some (e ∙ none))
 
+    had-some : carries head d k p ≡ true → (o : ℕ) × (carriedBefore head d o p ≡ true)
+    unfolding carriedBefore carries
+    had-some h =
+        let o = firstOperation head d (functions (p .applies)) in
+        let b = and-both held (eqb k (operationOf head d p)) h in
+        (o, and-true held (eqb o o) (b .0) (eq-eqb o o refl))
+
+any-some :
+    {A : Type 0} (f : A → Bool) (g : ℕ → A → Bool) (l : List A) →
+    ((x : A) → f x ≡ true → (o : ℕ) × (g o x ≡ true)) →
+    any f l ≡ true →
+    (o : ℕ) × (any (g o) l ≡ true)
+unfolding any
+any-some f g [] h p = absurd (false≢true p)
+any-some f g (x ∷ l) h p = go (f x) refl (any-some f g l h)
+  where
+    go :
+        (b : Bool) →
+        f x ≡ b →
+        (any f l ≡ true → (o : ℕ) × (any (g o) l ≡ true)) →
+        (o : ℕ) × ((g o x || any (g o) l) ≡ true)
+    go true e more =
+        let w = h x e in
+        (w .0, or-left (g (w .0) x) (any (g (w .0)) l) (w .1))
+    go false e more =
+        let w = more (or-rest (f x) (any f l) p e) in
+        (w .0, or-right (g (w .0) x) (any (g (w .0)) l) (w .1))
+
 module _ (head plan : List ℕ) (s d k : ℕ) where
   -- an access of document 01's is one still, or the label's raw access is
   pub kept-or-raw :
@@ -235,4 +294,17 @@ module _ (head plan : List ℕ) (s d k : ℕ) where
       rw (b .0)
       (any-wider (carries head d k) (carriedBefore head d k) (paths plan (rowA plan i))
       (λ p. none-new head d k p some) (b .1)))
+      h
+
+  -- an access was one of document 01's, with the same operation or another
+  pub none-added : isAccess head plan s d k ≡ true → (o : ℕ) × (accessBefore head plan s d o ≡ true)
+  unfolding accessBefore isAccess reachedBefore reaches
+  none-added h =
+      any-some (λ i. gives (kindAt plan i) s && any (carries head d k) (paths plan (rowA plan i)))
+      (λ o i. gives (kindAt plan i) s && any (carriedBefore head d o) (paths plan (rowA plan i))) (upTo (rowCount plan))
+      (λ i t.
+      let b = and-both (gives (kindAt plan i) s) (any (carries head d k) (paths plan (rowA plan i))) t in
+      let w =
+      any-some (carries head d k) (carriedBefore head d) (paths plan (rowA plan i)) (had-some head d k) (b .1) in
+      (w .0, and-true (gives (kindAt plan i) s) (any (carriedBefore head d (w .0)) (paths plan (rowA plan i))) (b .0) (w .1)))
       h

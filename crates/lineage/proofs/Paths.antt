@@ -124,7 +124,7 @@ module _ (plan : List ℕ) (i : ℕ) where
   paths-apply e low high = rw (paths-step plan i, e, lt-ltb (rowB plan i) i low, le-ltb (rowC plan i) i high)
 
   -- Output, Condition and every other kind
-  pub paths-none : isValue (kindAt plan i) ≡ false → paths plan i ≡ []
+  paths-none : isValue (kindAt plan i) ≡ false → paths plan i ≡ []
   paths-none h =
       paths-step plan i
       ∙ pathsBy-none (kindAt plan i) (λ r. cond (ltb r i) (paths plan r) []) (rowA plan i) (rowB plan i) (rowC plan i) h
@@ -136,7 +136,7 @@ module _ (plan : List ℕ) (i : ℕ) where
       let l : length plan ≤ 4 * i = omega arith in
       paths-none (rw (List·getD-eq-default plan 0 l))
 
-  any-lower :
+  pub any-lower :
       (f : Path → Bool) (b c : ℕ) →
       any f (cond (ltb b i) (paths plan b) [] ++ cond (ltb c i) (paths plan c) []) ≡
       ((ltb b i && any f (paths plan b)) || (ltb c i && any f (paths plan c)))

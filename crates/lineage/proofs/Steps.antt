@@ -172,15 +172,17 @@ mixed-row row size =
 -- Leaves by operation: those without one joined
 
 pub operations-of :
-    (table row : List ℕ) (r : ℕ) →
-    length row ≡ 17 →
+    (table row words : List ℕ) (r : ℕ) →
+    length words ≡ 16 →
+    ((k : ℕ) → k < 16 → getD words k 0 ≡ getD row k 0) →
     RowOf table r row →
-    ByOperation table r (set row 0 (bitOr (getD row 0 0) (getD row 16 0)))
-operations-of table row r size row-at whole zero small =
-    getD-set-same row 0 (bitOr (getD row 0 0) (getD row 16 0)) 0 (omega arith)
+    ByOperation table r (set words 0 (bitOr (getD row 0 0) (getD row 16 0)))
+operations-of table row words r size words-at row-at whole zero small =
+    getD-set-same words 0 (bitOr (getD row 0 0) (getD row 16 0)) 0 (omega arith)
     ∙ rw (row-at whole 0 (omega arith), row-at whole 16 (omega arith))
-operations-of table row r size row-at whole (suc k) small =
-    getD-set-other row 0 (suc k) (bitOr (getD row 0 0) (getD row 16 0)) 0 (λ z. omega arith)
+operations-of table row words r size words-at row-at whole (suc k) small =
+    getD-set-other words 0 (suc k) (bitOr (getD row 0 0) (getD row 16 0)) 0 (λ z. omega arith)
+    ∙ words-at (suc k) small
     ∙ row-at whole (suc k) (omega arith)
     ∙ rw (ne-eqb (suc k) 0 (λ z. omega arith))
 

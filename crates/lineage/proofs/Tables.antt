@@ -60,8 +60,8 @@ row-more {width} {first} {new} {old} {n} {l} {k} {v} r small m e =
         getD-set-other l (first + k) (first + j) v 0 (λ z. other (omega arith))
         ∙ r .own j (omega (arith, other))
 
--- all elements, when the row is written
-pub row-other :
+-- the elements outside it, when the row is written
+row-other :
     {width first : ℕ} {new old : ℕ → ℕ} {n : ℕ} {l : List ℕ} {k : ℕ} →
     Rowed width first new old n l k →
     width ≤ k →
@@ -84,7 +84,7 @@ word-past table r w past whole =
     let out : length table ≤ 17 * r + w = omega arith in
     sym (List·getD-eq-default table 0 out)
 
--- it has no row i
+-- one without row i
 pub stored-past :
     (i n r w x y : ℕ) → n < 17 * i + 17 → n % 17 ≡ 0 → w < 17 → 17 * r + w < n → y ≡ cond (eqb r i) x y
 stored-past i n r w x y past whole small h = rw (ne-eqb r i (λ e. omega arith))

@@ -126,7 +126,7 @@ cases =
     ∷ (price ∷ avg 0 ∷ output 0 ∷ output 1 ∷ [], (0, 4, 0) ∷ (0, 4, 1) ∷ [])
     ∷ []
 
--- the same for Apply rows with two rows
+-- the same for plans that have an Apply with two rows
 unfoldable pub mixing : List (List (List ℕ) × List Access)
 mixing =
     -- nothing above it counts: avg(concat(State, Price)), sum(avg(concat(State, Price)))
@@ -150,12 +150,11 @@ mixing =
       state ∷ price ∷ city ∷ concatBoth 0 1 ∷ avg 3 ∷ concatBoth 4 2 ∷ output 5 ∷ [],
       (0, 2, 0) ∷ (0, 3, 0) ∷ (0, 4, 0) ∷ [],
     )
-    -- it does not count itself, though its operation is supported: avg(Price, State), and avg(Price, Price), where c = b
+    -- it does not count itself, though its operation is supported: avg(Price, State); avg(Price, Price), where c = b
     ∷ (price ∷ state ∷ avgBoth 0 1 ∷ output 2 ∷ [], (0, 2, 0) ∷ (0, 4, 0) ∷ [])
     ∷ (price ∷ avgBoth 0 0 ∷ output 1 ∷ [], (0, 4, 0) ∷ [])
-    -- c = b has two rows: avg(concat(Price, Price)), and avg(concat(Price)) has one
+    -- c = b has two rows: avg(concat(Price, Price))
     ∷ (price ∷ concatBoth 0 0 ∷ avg 1 ∷ output 2 ∷ [], (0, 4, 0) ∷ [])
-    ∷ (price ∷ concat 0 ∷ avg 1 ∷ output 2 ∷ [], (0, 4, 1) ∷ [])
     -- as a of Choose, whose own paths are those of b and c: Choose on concat(State, Price) between City and avg(Price)
     ∷ (
       state ∷ price ∷ concatBoth 0 1 ∷ city ∷ avg 1 ∷ choose 2 3 4 ∷ output 5 ∷ [],
@@ -166,7 +165,7 @@ mixing =
       state ∷ price ∷ concatBoth 0 1 ∷ choose 0 1 2 ∷ avg 3 ∷ output 4 ∷ [],
       (0, 2, 0) ∷ (0, 4, 0) ∷ (0, 4, 1) ∷ (1, 2, 0) ∷ [],
     )
-    -- each path counts its own rows: concat(Price, avg(Price)), avg of it, and its condition
+    -- each path counts its own rows: sum(concat(Price, avg(Price))) output, and the concat as condition
     ∷ (
       price ∷ avg 0 ∷ concatBoth 0 1 ∷ sum 2 ∷ output 3 ∷ condition 2 ∷ [],
       (0, 4, 0) ∷ (0, 4, 1) ∷ (1, 4, 0) ∷ (1, 4, 1) ∷ [],
@@ -176,15 +175,17 @@ mixing =
 pub shop-accesses :
     _≡_ {A = List (List Access)} (map (λ c. accesses (headOf shop) (c .0)) cases) (map (λ c. c .1) cases)
 unfolding plan triples keep accesses cases any upTo from has upwardIn upward ownedBy support supportOf supports
-    weighted checkSum withCheck sealBytes answered refusedOr sealTests firstFailing padded block users categories columns functions shop kindOf kindAt
-    appliedAs through pathsBy pathsIn paths labels takes counting firstOperation operationOf carries reaches gives isAccess
+    weighted checkSum withCheck sealBytes answered refusedOr sealTests firstFailing padded block users
+    categories columns functions shop kindOf kindAt appliedAs through pathsBy pathsIn paths labels takes
+    counting firstOperation operationOf carries reaches gives isAccess
 shop-accesses = refl
 
 pub mixing-accesses :
     _≡_ {A = List (List Access)} (map (λ c. accesses (headOf shop) (c .0)) mixing) (map (λ c. c .1) mixing)
 unfolding plan triples keep accesses mixing any upTo from has upwardIn upward ownedBy support supportOf supports
-    weighted checkSum withCheck sealBytes answered refusedOr sealTests firstFailing padded block users categories columns functions shop kindOf kindAt
-    appliedAs through pathsBy pathsIn paths labels takes counting firstOperation operationOf carries reaches gives isAccess
+    weighted checkSum withCheck sealBytes answered refusedOr sealTests firstFailing padded block users
+    categories columns functions shop kindOf kindAt appliedAs through pathsBy pathsIn paths labels takes
+    counting firstOperation operationOf carries reaches gives isAccess
 mixing-accesses = refl
 
 -- an unsupported operation does not stop the count either: a fourth function, of operation 3, below avg
@@ -192,9 +193,10 @@ pub passed-over :
     _≡_ {A = List Access}
     (accesses (take 1536 shop ++ (4 ∷ 4 ∷ 0 ∷ 1 ∷ 2 ∷ 3 ∷ [])) (price ∷ apply 3 0 ∷ avg 1 ∷ output 2 ∷ []))
     ((0, 4, 1) ∷ [])
-unfolding plan triples keep accesses any upTo from has upwardIn upward ownedBy support supportOf supports weighted
-    checkSum withCheck sealBytes answered refusedOr sealTests firstFailing padded block users categories columns functions shop kindOf kindAt appliedAs through pathsBy
-    pathsIn paths labels takes counting firstOperation operationOf carries reaches gives isAccess
+unfolding plan triples keep accesses any upTo from has upwardIn upward ownedBy support supportOf supports
+    weighted checkSum withCheck sealBytes answered refusedOr sealTests firstFailing padded block users
+    categories columns functions shop kindOf kindAt appliedAs through pathsBy pathsIn paths labels takes
+    counting firstOperation operationOf carries reaches gives isAccess
 passed-over = refl
 
 -- each of the cases' plans is accepted
@@ -202,16 +204,18 @@ pub shop-plans :
     _≡_ {A = List Tested}
     (map (λ c. firstFailing (planTests (headOf shop) (plan (c .0)))) cases)
     (map (λ c. Passed) cases)
-unfolding plan cases upTo from weighted checkSum withCheck sealBytes answered refusedOr sealTests firstFailing padded block users categories columns
-    functions shop kindOf kindAt isValue names soundAs rowHolds flat planLengthHolds rowTests planTests
+unfolding plan cases upTo from weighted checkSum withCheck sealBytes answered refusedOr sealTests firstFailing
+    padded block users categories columns functions shop kindOf kindAt isValue names soundAs rowHolds flat
+    planLengthHolds rowTests planTests
 shop-plans = refl
 
 pub mixing-plans :
     _≡_ {A = List Tested}
     (map (λ c. firstFailing (planTests (headOf shop) (plan (c .0)))) mixing)
     (map (λ c. Passed) mixing)
-unfolding plan mixing upTo from weighted checkSum withCheck sealBytes answered refusedOr sealTests firstFailing padded block users categories columns
-    functions shop kindOf kindAt isValue names soundAs rowHolds flat planLengthHolds rowTests planTests
+unfolding plan mixing upTo from weighted checkSum withCheck sealBytes answered refusedOr sealTests firstFailing
+    padded block users categories columns functions shop kindOf kindAt isValue names soundAs rowHolds flat
+    planLengthHolds rowTests planTests
 mixing-plans = refl
 
 -- bit d of word 16 × s + k: avg(Price) output, and Choose on sum(Price) between State and City output
@@ -221,6 +225,7 @@ pub shop-words :
     (plan (price ∷ avg 0 ∷ sum 0 ∷ state ∷ city ∷ choose 2 3 4 ∷ output 1 ∷ output 5 ∷ [])))
     (12 ∷ 16 ∷ (replicate 16 0 ++ (16 ∷ replicate 13 0)))
 unfolding plan any upTo from has upwardIn upward ownedBy support supportOf supports weighted checkSum withCheck
-    sealBytes answered refusedOr sealTests firstFailing padded block users categories columns functions shop kindOf kindAt appliedAs through pathsBy pathsIn paths
-    labels takes counting firstOperation operationOf carries reaches gives isAccess wordOf accessWords
+    sealBytes answered refusedOr sealTests firstFailing padded block users categories columns functions shop
+    kindOf kindAt appliedAs through pathsBy pathsIn paths labels takes counting firstOperation operationOf
+    carries reaches gives isAccess wordOf accessWords
 shop-words = refl

@@ -58,7 +58,8 @@ labels head column = cond (eqb (label head column) 255) [] (label head column �
 unfoldable pub takes : (head : Head) (label operation : ℕ) → Bool
 takes head d k = not (eqb k 0) && supports head d k
 
--- the functions that count: "On a path, an Apply with two rows doesn't count as an operation, and nothing above it does."
+-- the functions that count, upward from the column: "On a path, an Apply with two rows doesn't count as an operation,
+-- and nothing above it does."
 unfoldable pub counting : List Applied → List ℕ
 counting [] = []
 counting (OneRow f ∷ above) = f ∷ counting above

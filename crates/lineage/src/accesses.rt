@@ -12,7 +12,7 @@ ghost use Rattle.lineage.specs.Answers.{BothAccepted};
 ghost use Rattle.lineage.specs.Inner.Table.{GatheredAll, GatheredStep, RowAdded};
 
 // The words with a row's words added to those of action s.
-fn with_row(words: [u64; 32], s: usize, row: [u64; 17]) -> [u64; 32]
+fn with_row(words: [u64; 32], s: usize, row: [u64; 16]) -> [u64; 32]
     ensures { λ r. ⌜ RowAdded words s row r ⌝ }
 {
     if 2 <= s {

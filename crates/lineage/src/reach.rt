@@ -138,11 +138,14 @@ fn store_row(table: &mut [u64], i: u8, row: [u64; 17])
 }
 
 // The leaves that reach row r, by operation: word 0 has all that have none.
-pub fn by_operation(table: &[u64], r: u8) -> [u64; 17]
+pub fn by_operation(table: &[u64], r: u8) -> [u64; 16]
     ensures { λ w. ⌜ ByOperation (now (table .entry)) r w ⌝ }
 {
     let row = row_words(table, r);
-    let mut words = row;
+    let mut words = [0u64; 16];
+    for k in 0..16usize {
+        words[k] = row[k];
+    }
     words[0] = row[0] | row[16];
     words
 }

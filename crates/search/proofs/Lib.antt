@@ -9,7 +9,7 @@ pub mod SettlingLaws
 pub mod UserLaws
 pub mod WeightLaws
 pub mod LowestLaws
-pub mod OneRow
+pub mod RowMore
 pub mod ShownPlans
 pub mod PlanWriting
 pub mod Rising

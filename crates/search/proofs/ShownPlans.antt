@@ -1,4 +1,5 @@
--- Laws of the shown plan: it is accepted, has at most nine rows, and its accesses are the chosen ones. Assumes nothing.
+-- Laws of the shown plan: it is accepted, has at most nine rows, every Apply of it has one row, and its accesses are the
+-- chosen ones. Assumes nothing.
 use Prim.Native.Nat.{ℕ, zero, suc, _+_, _*_, _%_, _≤_, _<_}
 use native.Mathlib.Omega.{arith}
 use mathlib.Core.Path.{_≡_, refl, sym, ap, _∙_}
@@ -29,8 +30,8 @@ use Rattle.search.specs.Shown.{lowest, columnFor, functionFor, columnRow
 use Rattle.search.specs.Shown.{shownFrom, shownPlan}
 use Rattle.search.proofs.PlaceLaws.{rows-few}
 use Rattle.search.proofs.LowestLaws.{lowest-passes}
-use Rattle.search.proofs.OneRow.{Standing, Reaching, standing-none, after-column, after-apply, after-last}
-use Rattle.search.proofs.OneRow.{rawPath, carries-raw, carries-operated}
+use Rattle.search.proofs.RowMore.{Standing, Reaching, standing-none, after-column, after-apply, after-last}
+use Rattle.search.proofs.RowMore.{rawPath, carries-raw, carries-operated}
 
 -- One access
 
@@ -224,7 +225,7 @@ module _
         let l = apply-within (shownPlan head choice) i (omega arith) e in
         shows .stands .single i (omega arith) e
 
-    -- so that they give what they gave
+    -- so they have document 01's accesses
     pub shown-as-before :
         (s d k : ℕ) → isAccess head (shownPlan head choice) s d k ≡ accessBefore head (shownPlan head choice) s d k
     shown-as-before = as-before (shownPlan head choice) shown-single head

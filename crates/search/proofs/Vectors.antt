@@ -78,11 +78,11 @@ pub firsts-shown :
 unfolding firsts two averages prices all any upTo from has upwardIn upward under leaf covers ownedBy support isUser
     isDataLeaf supportOf supports coversUser inLeafSet weighted checkSum withCheck sealBytes answered refusedOr
     sealTests firstFailing padded block users categories columns functions rule rule0 rule1 rule2 shop kindOf kindAt
-    appliedAs through pathsBy pathsIn paths labels takes counting firstOperation operationOf carries reaches gives isAccess accessesOf flat keep
-    everyAccess actionOf actionFits channelFits fits fitting choicesFrom operations accepts refusesAll
-    someChoiceRefused breaks labelled operated canBeHad choicesOf weight choicesByWeight forUsers candidates lowest
-    columnFor functionFor columnRow applyRow lastRow rowsOf accessRows shownFrom shownPlan breaksAlone
-    planBreaksAlone candidateAlone firstIn firstAlone firstInTurn
+    appliedAs through pathsBy pathsIn paths labels takes counting firstOperation operationOf carries reaches gives
+    isAccess accessesOf flat keep everyAccess actionOf actionFits channelFits fits fitting choicesFrom operations
+    accepts refusesAll someChoiceRefused breaks labelled operated canBeHad choicesOf weight choicesByWeight forUsers
+    candidates lowest columnFor functionFor columnRow applyRow lastRow rowsOf accessRows shownFrom shownPlan
+    breaksAlone planBreaksAlone candidateAlone firstIn firstAlone firstInTurn
 firsts-shown = refl
 
 -- n bytes to be written over
@@ -135,12 +135,12 @@ shop-outcomes :
     (map (λ c. (c .2, c .3 ++ ones (c .1 - length (c .3)))) cases)
 unfolding cases all any upTo from has upwardIn upward under leaf covers ownedBy support isUser isDataLeaf supportOf
     supports coversUser inLeafSet weighted checkSum withCheck sealBytes answered refusedOr sealTests firstFailing
-    padded block users categories columns functions rule rule0 rule1 rule2 shop kindOf kindAt appliedAs through pathsBy
-    pathsIn paths labels takes counting firstOperation operationOf carries reaches gives isAccess accessesOf flat keep everyAccess
-    actionOf actionFits channelFits fits fitting choicesFrom operations accepts refusesAll someChoiceRefused breaks
-    labelled operated canBeHad choicesOf weight choicesByWeight forUsers candidates lowest columnFor functionFor
-    columnRow applyRow lastRow rowsOf accessRows shownFrom shownPlan breaksAlone planBreaksAlone candidateAlone
-    firstIn firstAlone ruleTests bufferTests idlenessOf written outcome
+    padded block users categories columns functions rule rule0 rule1 rule2 shop kindOf kindAt appliedAs through
+    pathsBy pathsIn paths labels takes counting firstOperation operationOf carries reaches gives isAccess accessesOf
+    flat keep everyAccess actionOf actionFits channelFits fits fitting choicesFrom operations accepts refusesAll
+    someChoiceRefused breaks labelled operated canBeHad choicesOf weight choicesByWeight forUsers candidates lowest
+    columnFor functionFor columnRow applyRow lastRow rowsOf accessRows shownFrom shownPlan breaksAlone
+    planBreaksAlone candidateAlone firstIn firstAlone ruleTests bufferTests idlenessOf written outcome
 shop-outcomes = refl
 
 -- what Idle answers, and the buffer on leaving: the written bytes, then the rest unchanged

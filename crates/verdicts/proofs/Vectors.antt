@@ -1,5 +1,5 @@
--- Theorems about the definitions, by computation: all starred lines of document 01, as one list.
--- Assumes nothing.
+-- Theorems about the definitions, by computation: all starred lines of document 01, as one list, with document 02's
+-- mask for one of them; and two plans beside that one. Assumes nothing.
 use Prim.Native.Nat.{ℕ}
 use mathlib.Core.Path.{_≡_, refl}
 use mathlib.Core.List.{List, [], _∷_, map}
@@ -54,14 +54,19 @@ cases =
     ∷ (2, price ∷ sum 0 ∷ avg 1 ∷ output 2 ∷ [], 2)
     -- document 02, N5: "avg(concat(State, Price)) output by user 1 becomes 7 instead of 0"
     ∷ (1, state ∷ price ∷ concatBoth 0 1 ∷ avg 2 ∷ output 3 ∷ [], 7)
-    -- what counted below still counts: concat(State, avg(Price)) output, user 1
-    ∷ (1, state ∷ price ∷ avg 1 ∷ concatBoth 0 2 ∷ output 3 ∷ [], 0)
-    -- concat(State, Price) decides a Choose, no output: user 1
-    ∷ (1, state ∷ price ∷ concatBoth 0 1 ∷ choose 2 0 0 ∷ [], 2)
     -- "Price and avg(Price) both output, user 2: 2."
     ∷ (2, price ∷ avg 0 ∷ output 0 ∷ output 1 ∷ [], 2)
     -- "Choose on Price between State and State, no output: user 2 gives 2."
     ∷ (2, price ∷ state ∷ choose 0 1 1 ∷ [], 2)
+    ∷ []
+
+-- the same for two plans that have an Apply with two rows
+unfoldable pub mixing : List (ℕ × List (List ℕ) × ℕ)
+mixing =
+    -- what counted below it still counts: concat(State, avg(Price)) output, user 1
+    (1, state ∷ price ∷ avg 1 ∷ concatBoth 0 2 ∷ output 3 ∷ [], 0)
+    -- it decides a Choose: concat(State, Price), no output, user 1
+    ∷ (1, state ∷ price ∷ concatBoth 0 1 ∷ choose 2 0 0 ∷ [], 2)
     ∷ []
 
 -- Judge's answers, and beside them the checks of the last starred line
@@ -77,8 +82,24 @@ unfolding cases checkCases plan all any upTo from has upwardIn upward under leaf
     usersBlockTests dataBlockTests columnsBlockTests functionsBlockTests ruleBlockTests blockTests checkTests
     kindTests contentTests lengthTests blockByBlock bookTests sealTests firstFailing refusedOr answered withCheck
     sealBytes padded block users categories columns functions rule rule0 rule1 rule2 shop kindOf kindAt isValue
-    names soundAs rowHolds planLengthHolds rowTests planTests appliedAs through pathsBy pathsIn paths labels takes counting
-    firstOperation operationOf carries reaches gives isAccess wordOf accessesOf flat keep everyAccess actionOf actionFits
+    names soundAs rowHolds planLengthHolds rowTests planTests appliedAs through pathsBy pathsIn paths labels takes
+    counting firstOperation operationOf carries reaches gives isAccess wordOf accessesOf flat keep everyAccess
+    actionOf actionFits channelFits fits fitting choicesFrom operations accepts refusesAll someChoiceRefused breaks
+    brokenMask userTests judgeTests judgeAnswer
+starred = refl
+
+pub mixing-judged :
+    _≡_ {A = List Judged} (map (λ c. judgeAnswer shop (c .0) (plan (c .1))) mixing) (map (λ c. Broken (c .2)) mixing)
+unfolding mixing plan all any upTo from has upwardIn upward under leaf covers properDescendant ownedBy support
+    parentHolds isUser isDataLeaf supportOf supports coversUser inLeafSet weighted checkSum checkHolds between zeros
+    lengthHolds kindHolds usersCounted dataCounted columnsCounted functionsCounted ruleCounts referenceEnd ruleZeros
+    ruleCounted usersOrdered dataOrdered labelHolds labelsHold functionsHold userNumbersHold namesAction
+    referenceHolds numbersHold leafSetsApart referencesApart maskAllows maskHolds masksHold usersBlockTests
+    dataBlockTests columnsBlockTests functionsBlockTests ruleBlockTests blockTests checkTests kindTests contentTests
+    lengthTests blockByBlock bookTests sealTests firstFailing refusedOr answered withCheck sealBytes padded block
+    users categories columns functions rule rule0 rule1 rule2 shop kindOf kindAt isValue names soundAs rowHolds
+    planLengthHolds rowTests planTests appliedAs through pathsBy pathsIn paths labels takes counting firstOperation
+    operationOf carries reaches gives isAccess wordOf accessesOf flat keep everyAccess actionOf actionFits
     channelFits fits fitting choicesFrom operations accepts refusesAll someChoiceRefused breaks brokenMask userTests
     judgeTests judgeAnswer
-starred = refl
+mixing-judged = refl

@@ -32,7 +32,8 @@ unfoldable pub stands : (head : Head) (plan : Plan) (row label word : ℕ) → B
 stands head plan i d w =
     any (λ p. any (eqb d) (labels head (p .column)) && eqb w (wordFor head d p)) (paths plan i)
 
--- what an accepted plan for an accepted book gives: labels are data leaves, and functions have one of 16 operations
+-- what an accepted plan for an accepted book gives: labels are data leaves, functions have one of 16 operations, and so
+-- has what reaches a row: word 16 is no operation's
 pub record PlanSound (head : Head) (plan : Plan) : Type 0 where
   pub leaves : (r d w : ℕ) → stands head plan r d w ≡ true → isDataLeaf head d ≡ true
   pub operations : (i : ℕ) → kindAt plan i ≡ Apply → operation head (rowA plan i) < 16
