@@ -11,7 +11,8 @@ use borrow.Author.Tests.{ltb-true, ltb-false, lt-ltb, eqb-true}
 use Rattle.book.specs.Lists.{flat, upTo, all, any}
 use Rattle.book.specs.Head.{operation, label, columnCount, functionCount, isDataLeaf}
 use Rattle.book.specs.Refusals.{labelHolds}
-use Rattle.book.proofs.Lists.{and-true, and-left, and-both, or-end, append-all, all-guarded, all-one, map-all, any-found, any-nil}
+use Rattle.book.proofs.Lists.{and-true, and-left, and-both, or-end, append-all, all-guarded, all-one, map-all}
+use Rattle.book.proofs.Lists.{any-found, any-nil}
 use Rattle.book.proofs.Answers.{first-passed, last-passed, passed-flat}
 use Rattle.book.proofs.Accepted.{HeadHolds}
 use Rattle.lineage.specs.Rows.{Kind, Column, Apply, Choose, Output, Condition, Unknown}
@@ -200,7 +201,9 @@ module _ (head : List ℕ) (d : ℕ) where
 
   -- the functions that count are among those of the path
   counting-known :
-      (rows : List Applied) → all (known head) rows ≡ true → all (λ f. ltb f (functionCount head)) (counting rows) ≡ true
+      (rows : List Applied) →
+      all (known head) rows ≡ true →
+      all (λ f. ltb f (functionCount head)) (counting rows) ≡ true
   unfolding known counting all
   counting-known [] h = refl
   counting-known (OneRow f ∷ above) h =
@@ -248,9 +251,11 @@ module _ (head plan : List ℕ) (holds : PlanHolds head plan) (i d : ℕ) where
   path-found f h = go (ltb i (rowCount plan)) refl
     where
       go : (b : Bool) → ltb i (rowCount plan) ≡ b → (p : Path) × (f p ≡ true) × (within head p ≡ true)
-      go true e = any-found f (within head) (paths plan i) h (paths-within head plan holds i (ltb-true i (rowCount plan) e))
+      go true e =
+          any-found f (within head) (paths plan i) h (paths-within head plan holds i (ltb-true i (rowCount plan) e))
       go false e =
-          absurd (false≢true (sym (any-nil f) ∙ rw (paths-past plan i (holds .whole) (ltb-false i (rowCount plan) e)) at h))
+          let past = paths-past plan i (holds .whole) (ltb-false i (rowCount plan) e) in
+          absurd (false≢true (sym (any-nil f) ∙ rw past at h))
 
   pub reaches-had : (k : ℕ) → reaches head plan i d k ≡ true → Had head d k
   unfolding reaches

@@ -30,7 +30,9 @@ counting-mixed (OneRow g ∷ below) above h = ap (λ (fs : List ℕ). g ∷ fs) 
 counting-mixed (TwoRows g ∷ below) above h = refl
 
 counting-one :
-    (below : List Applied) (f : ℕ) → mixes below ≡ false → counting (below ++ (OneRow f ∷ [])) ≡ counting below ++ (f ∷ [])
+    (below : List Applied) (f : ℕ) →
+    mixes below ≡ false →
+    counting (below ++ (OneRow f ∷ [])) ≡ counting below ++ (f ∷ [])
 unfolding counting mixes
 counting-one [] f h = refl
 counting-one (OneRow g ∷ below) f h = ap (λ (fs : List ℕ). g ∷ fs) (counting-one below f h)
@@ -108,7 +110,8 @@ module _ (head : List ℕ) (d : ℕ) where
       go :
           (b : Bool) →
           mixes (p .applies) ≡ b →
-          cond (b && eqb next 0) 16 next ≡ cond (eqb (cond (b && eqb old 0) 16 old) 0) new (cond (b && eqb old 0) 16 old)
+          cond (b && eqb next 0) 16 next ≡
+          cond (eqb (cond (b && eqb old 0) 16 old) 0) new (cond (b && eqb old 0) 16 old)
       go true e = rw (counting-mixed (p .applies) (OneRow f ∷ []) e) (mixed-stays new old)
       go false e = rw (counting-one (p .applies) f e) (first-more (counting (p .applies)) f)
 
@@ -122,7 +125,9 @@ module _ (head : List ℕ) (d : ℕ) where
       old : ℕ
       old = firstOperation head d (counting (p .applies))
 
-      go : (b : Bool) → cond (eqb old 0) 16 old ≡ cond (eqb (cond (b && eqb old 0) 16 old) 0) 16 (cond (b && eqb old 0) 16 old)
+      go :
+          (b : Bool) →
+          cond (eqb old 0) 16 old ≡ cond (eqb (cond (b && eqb old 0) 16 old) 0) 16 (cond (b && eqb old 0) 16 old)
       go true = mixed-stays 16 old
       go false = refl
 

@@ -59,7 +59,8 @@ module _ (head plan : List ℕ) (i : ℕ) (upper : kindAt plan i ≡ Apply) (one
 
   above-mix :
       (d k : ℕ) (p : Path) →
-      carries head d k (through (appliedAs (rowA plan i) 255) (through (TwoRows (rowA plan mix)) p)) ≡ carries head d k p
+      carries head d k (through (appliedAs (rowA plan i) 255) (through (TwoRows (rowA plan mix)) p)) ≡
+      carries head d k p
   unfolding carries operationOf through appliedAs
   above-mix d k p =
       let f = rowA plan i in
@@ -225,13 +226,16 @@ module _ (head : List ℕ) (d : ℕ) where
         let b = and-both held (eqb k (firstOperation head d (counting (p .applies)))) h in
         go (b .0) (eqb-true k (firstOperation head d (counting (p .applies))) (b .1)) (same-or-none (p .applies))
       where
+        now : ℕ
+        now = firstOperation head d (counting (p .applies))
+
         before : ℕ
         before = firstOperation head d (functions (p .applies))
 
         go :
             held ≡ true →
-            k ≡ firstOperation head d (counting (p .applies)) →
-            (firstOperation head d (counting (p .applies)) ≡ before) ⊎ (firstOperation head d (counting (p .applies)) ≡ 0) →
+            k ≡ now →
+            (now ≡ before) ⊎ (now ≡ 0) →
             (held && eqb k before) ≡ true
         go t e (inl same) = rw (t, eq-eqb k before (e ∙ same))
         go t e (inr none) = absurd (some (e ∙ none))
@@ -306,5 +310,6 @@ module _ (head plan : List ℕ) (s d k : ℕ) where
       let b = and-both (gives (kindAt plan i) s) (any (carries head d k) (paths plan (rowA plan i))) t in
       let w =
       any-some (carries head d k) (carriedBefore head d) (paths plan (rowA plan i)) (had-some head d k) (b .1) in
-      (w .0, and-true (gives (kindAt plan i) s) (any (carriedBefore head d (w .0)) (paths plan (rowA plan i))) (b .0) (w .1)))
+      let before = any (carriedBefore head d (w .0)) (paths plan (rowA plan i)) in
+      (w .0, and-true (gives (kindAt plan i) s) before (b .0) (w .1)))
       h

@@ -1,5 +1,5 @@
 -- Laws of the pass up the rows: what the words of a row hold, by the row's kind. Assumes nothing.
-use Prim.Native.Nat.{ℕ, zero, suc, _+_, _*_, _-_, _/_, _%_, _^_, _≤_, _<_}
+use Prim.Native.Nat.{ℕ, zero, suc, _+_, _*_, _-_, _^_, _≤_, _<_}
 use native.Mathlib.Omega.{arith}
 use mathlib.Core.Path.{_≡_, refl, sym, _∙_}
 use mathlib.Core.Bool.{Bool, true, false, _&&_, _||_, not, cond, false≢true}
@@ -159,7 +159,8 @@ operated-some row supporting o size low high fits =
     ))
     (λ d. rw (has-or (getD row o 0) taken d, has-and (getD row 0 0) (getD supporting o 0) d, ne-eqb o 0 low))
 
-pub mixed-row : (row : List ℕ) → length row ≡ 17 → Mixed row (set (set row 0 0) 16 (bitOr (getD row 16 0) (getD row 0 0)))
+pub mixed-row :
+    (row : List ℕ) → length row ≡ 17 → Mixed row (set (set row 0 0) 16 (bitOr (getD row 16 0) (getD row 0 0)))
 mixed-row row size =
     moved-by row 16 0 (bitOr (getD row 16 0) (getD row 0 0)) size (λ z. omega arith) (omega arith) (λ d. true)
     (λ d. rw (has-zero d, and-end (has (getD row 0 0) d)) (sym (never (has (getD row 0 0) d))))

@@ -2,15 +2,15 @@
 use Prim.Native.Nat.{ℕ, zero, suc, _+_, _*_, _<_}
 use native.Mathlib.Omega.{arith}
 use mathlib.Core.Path.{_≡_, refl, sym, ap, _∙_}
-use mathlib.Core.Bool.{Bool, true, false, _&&_, _||_, not, cond}
+use mathlib.Core.Bool.{Bool, true, false, _&&_, _||_, cond}
 use mathlib.Core.List.{List, [], _∷_, _++_}
 use lib.ListN.{length, length-append}
 use lib.Seq.{getD-append-add}
 use lib.Dec.{eqb, ltb}
-use borrow.Author.Tests.{ltb-true, ltb-false, lt-ltb, le-ltb, eqb-true}
+use borrow.Author.Tests.{ltb-true, ltb-false, lt-ltb, eqb-true}
 use Rattle.book.specs.Lists.{any, from}
 use Rattle.book.specs.Head.{columnCount, functionCount, label, operation}
-use Rattle.book.proofs.Lists.{and-where, and-false, any-one, or-end}
+use Rattle.book.proofs.Lists.{and-where, any-one, or-end}
 use Rattle.lineage.specs.Rows.{Kind, Column, Apply, Choose, Output, Condition, Unknown}
 use Rattle.lineage.specs.Rows.{rowCount, kindOf, kindAt, rowA, rowB, rowC, isValue, names, soundAs, rowHolds}
 use Rattle.lineage.specs.Paths.{OneRow, appliedAs, Path, through, paths, labels, takes, counting, firstOperation}
@@ -97,7 +97,13 @@ module _ (head p : List ℕ) (n kind a b c : ℕ) (stands : Standing head p n) w
         single = λ i l. only i l (ltb i n) refl;
       }
     where
-      only : (i : ℕ) → i < suc n → (t : Bool) → ltb i n ≡ t → kindAt (p ++ row kind a b c) i ≡ Apply → rowC (p ++ row kind a b c) i ≡ 255
+      only :
+          (i : ℕ)
+          → i < suc n
+          → (t : Bool)
+          → ltb i n ≡ t
+          → kindAt (p ++ row kind a b c) i ≡ Apply
+          → rowC (p ++ row kind a b c) i ≡ 255
       only i l true e apply =
           let m = ltb-true i n e in
           let w = stands .whole in
@@ -189,7 +195,9 @@ module _ (head p : List ℕ) (n column : ℕ) (stands : Standing head p n) where
       let w = stands .whole in
       let kind = row-kind p n 1 column 0 0 w in
       record {
-        stands = standing-more head p n 1 column 0 0 stands (rw (lt-ltb column (columnCount head) l)) (λ e. absurd (other e));
+        stands =
+            standing-more head p n 1 column 0 0 stands (rw (lt-ltb column (columnCount head) l))
+            (λ e. absurd (other e));
         value = rw kind;
         path = paths-column (p ++ row 1 column 0 0) n kind ∙ rw (row-a p n 1 column 0 0 w);
         given = λ s d k. row-gives head p n 1 column 0 0 stands s d k ∙ or-end (isAccess head p s d k);

@@ -1,5 +1,5 @@
--- Laws of the shown plan: it is accepted, has at most nine rows, every Apply of it has one row, and its accesses are the
--- chosen ones. Assumes nothing.
+-- Laws of the shown plan: it is accepted, has at most nine rows, each of its Apply rows has one row, and its accesses
+-- are the chosen ones. Assumes nothing.
 use Prim.Native.Nat.{ℕ, zero, suc, _+_, _*_, _%_, _≤_, _<_}
 use native.Mathlib.Omega.{arith}
 use mathlib.Core.Path.{_≡_, refl, sym, ap, _∙_}
@@ -90,7 +90,8 @@ module _ (head : List ℕ) (x : Access) (h : showable head x ≡ true) where
     plain-shown e =
         let q = p ++ columnRow head (x .leaf) in
         let r =
-        after-last head p q n (x .leaf) 0 (x .channel) first (carries-raw head (x .leaf) column (had-column .1)) (had .2) in
+        after-last head p q n (x .leaf) 0 (x .channel) first (carries-raw head (x .leaf) column (had-column .1))
+        (had .2) in
         (r .0, λ y. rw e (r .1 (y .channel) (y .leaf) (y .operation)))
 
     applied-shown :

@@ -12,7 +12,8 @@ use lib.Bits.{bitAnd, bitOr, and-le-l}
 use borrow.Author.Tests.{not-true, eqb-true, eqb-false, eq-eqb, ne-eqb, lt-ltb, ltb-true, ltb-false}
 use Rattle.book.specs.Lists.{any, upTo}
 use Rattle.book.specs.Sets.{has, WordOf}
-use Rattle.book.proofs.Lists.{and-true, and-left, and-right, and-end, and-false, any-wider, or-neither, or-rest, or-true}
+use Rattle.book.proofs.Lists.{and-true, and-left, and-right, and-end, and-false, or-neither, or-rest, or-true}
+use Rattle.book.proofs.Lists.{any-wider}
 use Rattle.book.proofs.Members.{has-zero, has-or, has-minus, has-above, has-and}
 use Rattle.verdicts.proofs.Quantifiers.{at-any}
 use Rattle.search.specs.Inner.Places.{inPlaces, PlacesOf}

@@ -9,8 +9,8 @@ use mathlib.Core.List.{List, _∷_}
 use lib.ListN.{length, getD, set, length-set, List·getD-eq-default}
 use lib.Seq.{getD-set-same, getD-set-other}
 use lib.Dec.{eqb, ltb}
-use borrow.Author.Tests.{eqb-true, eqb-false, ltb-true, ltb-false, lt-ltb}
-use Rattle.book.specs.Lists.{all, any, upTo}
+use borrow.Author.Tests.{eqb-true, eqb-false, ltb-true, ltb-false}
+use Rattle.book.specs.Lists.{any, upTo}
 use Rattle.book.specs.Sets.{has}
 use Rattle.book.specs.Blocks.{headOf, ruleAt, ruleCount}
 use Rattle.book.specs.Rule.{coversUser, referenceCount, restrictionCount, restrictionMask}
@@ -152,7 +152,8 @@ module _ (head plan rule : List ℕ) (holds : RuleHolds head rule) where
       or-left (offers head rule now i k) (offers head rule now i 0)
       (in-offers head rule now i k x t (found .2) (found .3) (found .4)))
       (λ (t : now raw ≡ true).
-      or-right (offers head rule now i k) (offers head rule now i 0) (in-offers head rule now i 0 raw t (found .2) refl (omega arith)))
+      or-right (offers head rule now i k) (offers head rule now i 0)
+      (in-offers head rule now i 0 raw t (found .2) refl (omega arith)))
       (or-either (now x) (now raw) kept)
 
   breaks-still :
