@@ -17,7 +17,7 @@ use Rattle.book.proofs.Lists.{and-end, and-false, and-never, and-or, or-end, lt
 use Rattle.book.proofs.Members.{has-zero, has-and, has-or, has-minus}
 use Rattle.lineage.specs.Rows.{Column, Apply, Choose, isValue, kindAt, kindByte, kindOf, rowA, rowB, rowC}
 use Rattle.lineage.specs.Paths.{labels, takes}
-use Rattle.lineage.specs.Inner.Table.{ApplyStep, Brought, ByOperation, Mixed, Moved, Operated, PlanSound, Reached}
+use Rattle.lineage.specs.Inner.Table.{Brought, ByOperation, Mixed, Moved, Operated, PlanSound, Reached}
 use Rattle.lineage.specs.Inner.Table.{RowOf, RowReached, Stored, stands}
 use Rattle.book.specs.Inner.Reading.{Supporting}
 use Rattle.lineage.proofs.Paths.{stands-column, stands-choose, stands-one, stands-two, stands-none}
@@ -225,6 +225,22 @@ module _ (head plan : List ℕ) (i : ℕ) where
       (sym (and-or (ltb d 64) (ltb (rowB plan i) i && stands head plan (rowB plan i) d w)
       (ltb (rowC plan i) i && stands head plan (rowC plan i) d w)))
 
+  -- 255 in c is no lower row, and row b brings all
+  pub below-words :
+      (table below : List ℕ) →
+      Reached head plan i table →
+      RowOf table (rowB plan i) below →
+      rowC plan i ≡ 255 →
+      i ≤ 255 →
+      (w : ℕ) → w < 17 → WordOf (λ d. brought d w) (getD below w 0)
+  below-words table below reached row-at one few w small d =
+      rw (
+        row-at (reached .whole) w small,
+        reached .at (rowB plan i) w small d,
+        le-ltb (rowC plan i) i (rw one few),
+        or-end (ltb (rowB plan i) i && stands head plan (rowB plan i) d w),
+      )
+
   pub column-row :
       (row : List ℕ) →
       kindAt plan i ≡ Column →
@@ -264,7 +280,7 @@ module _ (head plan : List ℕ) (i : ℕ) where
   module _ (both supporting row : List ℕ) (e : kindAt plan i ≡ Apply) (sound : PlanSound head plan)
       (supports-at : Supporting head supporting)
       (both-at : (w : ℕ) → w < 17 → WordOf (λ d. brought d w) (getD both w 0)) where
-    one-row :
+    pub one-row :
         eqb (rowC plan i) 255 ≡ true →
         Operated both (operation head (rowA plan i)) supporting row →
         RowReached head plan i row
@@ -289,7 +305,7 @@ module _ (head plan : List ℕ) (i : ℕ) where
         go true false q = simp (leaf-brought sound d w q, leaf-brought sound d 0 q, and-false)
         go false l q = simp and-false
 
-    two-rows : eqb (rowC plan i) 255 ≡ false → Mixed both row → RowReached head plan i row
+    pub two-rows : eqb (rowC plan i) 255 ≡ false → Mixed both row → RowReached head plan i row
     two-rows two mixed-at w small d =
         mixed-at w d small
         ∙ rw (both-at w small d, both-at 0 (omega arith) d, stands-two head plan i d w e two) (go (ltb d 64))
@@ -300,13 +316,6 @@ module _ (head plan : List ℕ) (i : ℕ) where
             (t && ((brought d w && not (eqb w 0 && true)) || (eqb w 16 && (true && brought d 0))))
         go true = refl
         go false = and-false (eqb w 16)
-
-    pub apply-row : ApplyStep head plan supporting both i row → RowReached head plan i row
-    apply-row step = go (eqb (rowC plan i) 255) refl
-      where
-        go : (b : Bool) → eqb (rowC plan i) 255 ≡ b → RowReached head plan i row
-        go true q = one-row q (step .0 q)
-        go false q = two-rows q (step .1 q)
 
 -- The table, row by row
 

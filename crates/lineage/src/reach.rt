@@ -17,8 +17,9 @@ ghost use lib.ListN.{getD, replicate};
 ghost use Rattle.book.specs.Lists.{any};
 ghost use Rattle.book.specs.Sets.{WordOf};
 ghost use Rattle.book.specs.Inner.Words.{HeadWords};
+ghost use Rattle.lineage.specs.Rows.{Apply, kindAt};
 ghost use Rattle.lineage.specs.Paths.{labels};
-ghost use Rattle.lineage.specs.Inner.Table.{ApplyStep, Brought, ByOperation, ColumnReached, Mixed, Operated};
+ghost use Rattle.lineage.specs.Inner.Table.{Brought, ByOperation, ColumnReached, Mixed, Operated};
 ghost use Rattle.lineage.specs.Inner.Table.{PlanSound, Reached, RowOf, RowStep, Stored};
 
 // The words of row r; all zero past the table's end. One test a row, so that its words are copied
@@ -100,16 +101,17 @@ fn brought(plan: &[u8], table: &[u64], i: u8) -> [u64; 17]
     joined(b, c)
 }
 
-// The words of an Apply row, given those of the rows that it names, joined.
-fn applied(head: &[u8], plan: &[u8], supporting: [u64; 16], both: [u64; 17], i: u8) -> [u64; 17]
-    ensures { λ r. ⌜ ApplyStep (now (head .entry)) (now (plan .entry)) supporting both i r ⌝ }
+// The words of an Apply row: 255 in c is no second row.
+fn applied(head: &[u8], plan: &[u8], supporting: [u64; 16], table: &[u64], i: u8) -> [u64; 17]
+    ensures { λ r. ⌜ (kindAt (now (plan .entry)) i ≡ Apply
+        → RowStep (now (head .entry)) (now (plan .entry)) supporting (now (table .entry)) i r) ⌝ }
 {
     let c = row_c(plan, i);
-    // 255 is no second row
     if c == 255 {
-        return operated(both, operation(head, row_a(plan, i)), supporting);
+        let below = row_words(table, row_b(plan, i));
+        return operated(below, operation(head, row_a(plan, i)), supporting);
     }
-    mixed(both)
+    mixed(brought(plan, table, i))
 }
 
 // The words of row i, given those of the lower rows: no other row is read where the kind names none.
@@ -119,7 +121,7 @@ fn row_reach(head: &[u8], plan: &[u8], supporting: [u64; 16], table: &[u64], i: 
     let kind = kind(plan, i);
     match kind {
         1 => column_reach(head, row_a(plan, i)),
-        2 => applied(head, plan, supporting, brought(plan, table, i), i),
+        2 => applied(head, plan, supporting, table, i),
         3 => brought(plan, table, i),
         _ => [0u64; 17],
     }

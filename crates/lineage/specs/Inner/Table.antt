@@ -86,12 +86,6 @@ Operated row o supporting next = Moved row o (λ d. not (eqb o 0) && has (getD s
 abbrev pub Mixed : List ℕ → List ℕ → Type 0
 Mixed row next = Moved row 16 (λ d. true) next
 
--- the words of an Apply row, from those of the rows that it names, joined
-abbrev pub ApplyStep : Head → Plan → (supporting both : List ℕ) (i : ℕ) (row : List ℕ) → Type 0
-ApplyStep head plan supporting both i row =
-    (eqb (rowC plan i) 255 ≡ true → Operated both (operation head (rowA plan i)) supporting row)
-    × (eqb (rowC plan i) 255 ≡ false → Mixed both row)
-
 -- row r of a table of whole rows by operation: word 0 has every leaf without one
 abbrev pub ByOperation : (table : List ℕ) (r : ℕ) (words : List ℕ) → Type 0
 ByOperation table r words =

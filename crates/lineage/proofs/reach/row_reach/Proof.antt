@@ -1,6 +1,6 @@
 -- A law for each kind says what the row holds. Assumes nothing.
 use Rattle.lineage.specs.Rows.{kindAt, kindOf}
-use Rattle.lineage.proofs.Steps.{brought-words, column-row, apply-row, choose-row, no-row, kind-is, no-value}
+use Rattle.lineage.proofs.Steps.{brought-words, column-row, choose-row, no-row, kind-is, no-value}
 use borrow.Author.Needs.{needs}
 use Rattle.lineage.proofs.reach.row_reach.Statement.{statement}
 use Rattle.lineage.proofs.reach.row_reach.Tie as tie
@@ -17,19 +17,16 @@ returns c supporting sound reached =
 returns-2 : tie.Need-returns-2
 unfolding kindAt kindOf
 returns-2 c supporting sound reached =
-    let both = c .before .brought in
-    let k = c .before .before .before in
+    let k = c .before .before in
     let a = k .before .before .before .before .args in
-    apply-row (a .head .now) (a .plan .now) (a .i) (both .result) (a .supporting) (c .applied .result)
-    (kind-is (a .plan .now) (a .i) (k .kind .result) 2 (k .kind .ensures .0) (c .before .before .match .keys2))
-    sound supporting
-    (brought-words (a .head .now) (a .plan .now) (a .i) (a .table .now) (both .result) reached (both .ensures))
-    (c .applied .ensures)
+    c .applied .ensures
+    (kind-is (a .plan .now) (a .i) (k .kind .result) 2 (k .kind .ensures .0) (c .before .match .keys2))
+    supporting sound reached
 
 returns-3 : tie.Need-returns-3
 unfolding kindAt kindOf
 returns-3 c supporting sound reached =
-    let both = c .brought2 in
+    let both = c .brought in
     let k = c .before .before in
     let a = k .before .before .before .before .args in
     choose-row (a .head .now) (a .plan .now) (a .i) (both .result)
@@ -49,7 +46,6 @@ pub row-reach-spec : {M : Type 1} → statement M
 row-reach-spec =
     tie.close
     (tie.spec
-    (λ c κs. search needs)
     (λ c κs. search needs)
     (λ c κs. search needs)
     (λ c κs. search needs)
