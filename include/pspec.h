@@ -23,10 +23,10 @@
  * crates/capi/proofs/Unpacking.antt).
  *
  * Not proved: this file, and that there is stack enough. On the largest book and on one with 64
- * categories in a chain the smallest stacks that worked were 16 KiB for pspec_check, 34 KiB for
- * pspec_flows, pspec_judge and pspec_submit, 49 KiB for pspec_idle, 57 KiB for pspec_blocked (bench
- * stack); on a thread with less the process is stopped. Give them 128 KiB. The calls use memcpy,
- * memmove and memset and nothing else from outside.
+ * categories in a chain the smallest stacks that worked were 16 KiB for pspec_check, pspec_flows,
+ * pspec_judge and pspec_submit, 49 KiB for pspec_idle, 57 KiB for pspec_blocked (bench stack); on a
+ * thread with less the process is stopped. Give them 128 KiB. The calls use memcpy, memmove and memset
+ * and nothing else from outside.
  */
 #ifndef PSPEC_H
 #define PSPEC_H
@@ -90,8 +90,9 @@ uint64_t pspec_seal(uint8_t *block, size_t block_length);
 
 /*
  * Flows: writes a plan's accesses. Bit d of word 16 x s + k is set exactly when the plan gives access to
- * the leaf d by operation k, s being 0 for projection and 1 for condition. An Apply row with two rows (c
- * not 255) does not count as an operation, and nothing above it does. Refuses 1 to 9, 21, 22, 23. Value: 0.
+ * the leaf d by operation k, s being 0 for projection and 1 for condition. An Apply with two rows (c not
+ * 255) does not count as an operation, nor does anything applied to its result. Refuses 1 to 9, 21, 22,
+ * 23. Value: 0.
  */
 uint64_t pspec_flows(const uint8_t *book, size_t book_length, const uint8_t *plan, size_t plan_length,
                      uint64_t *words, size_t words_length);

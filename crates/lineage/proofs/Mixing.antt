@@ -1,5 +1,5 @@
 -- Theorems about the definitions of document 02, N5: which functions of a path count, what an Apply over one with two
--- rows gives, that plans whose Apply rows have one row each have document 01's accesses, and what became of the
+-- rows carries, that plans whose Apply rows have one row each have document 01's accesses, and what became of the
 -- accesses of every other plan. Assumes nothing.
 use Prim.Native.Nat.{ℕ, zero, suc, _≤_, _<_}
 use native.Mathlib.Omega.{arith}
@@ -49,8 +49,8 @@ same-row-twice plan i e twice low few =
     let n : rowB plan i ≡ 255 → ⊥ = λ z. omega arith in
     rw (paths-step plan i, e, twice, lt-ltb (rowB plan i) i low, ne-eqb (rowB plan i) 255 n)
 
--- "an average over concatenated columns protects neither": an Apply over an Apply with two rows, whatever their
--- functions, gives what those two rows give
+-- "an average over concatenated columns protects neither": an Apply with one row over an Apply with two rows, whatever
+-- their functions, carries what those two rows carry
 module _ (head plan : List ℕ) (i : ℕ) (upper : kindAt plan i ≡ Apply) (one : rowC plan i ≡ 255) (few : i ≤ 255)
     (low : rowB plan i < i) (lower : kindAt plan (rowB plan i) ≡ Apply)
     (two : rowC plan (rowB plan i) ≡ 255 → ⊥) where

@@ -47,11 +47,10 @@ fn no_difference_and_everything_reached() {
     };
     println!("{reached}");
     assert_eq!(reached.not_reached(), [0; 0], "{reached}");
-    // So few cases reach every refusal, but not everything else.
-    if cfg!(debug_assertions) {
-        return;
+    // Without optimizing, the cases are too few for these.
+    if !cfg!(debug_assertions) {
+        assert!(often(&reached).iter().all(|&n| n >= 5), "{reached}");
     }
-    assert!(often(&reached).iter().all(|&n| n >= 5), "{reached}");
     assert!(reached.fewer_functions * 100 > reached.needed, "{reached}");
     assert_eq!(reached.refusals_of("blocked"), BLOCKED_REFUSALS);
     assert_eq!(reached.refusals_of("submit"), SUBMIT_REFUSALS);

@@ -185,7 +185,7 @@ impl Plan {
     }
 }
 
-/// A function, mostly one whose operation the label supports. There is one.
+/// A function of a book that has some, mostly one whose operation the label supports.
 fn function(random: &mut Random, draft: &Draft, label: u8) -> u8 {
     let any = random.below(draft.functions.len()) as u8;
     match random.below(4) {

@@ -36,8 +36,8 @@ A plan, one row a line, its number optional; USER is a user without others below
   output 2
   where 1
 
-A column is had under the first operation above it that its label supports, or raw if there is none.
-A function of two rows does not count as an operation, and nothing above it does.
+A column is had under the first operation applied to it that its label supports, or raw if there is
+none. A function of two rows does not count as an operation, nor does anything applied to its result.
 
 Names are taken from BOOK.names; without that file they are numbers, such as user0 or data3.
 

@@ -47,8 +47,9 @@ impl Book {
         self.rule_count
     }
 
-    /// What a plan gives away. A leaf is had under the first operation above its column that it
-    /// supports; a function of two rows does not count as an operation, and nothing above it does.
+    /// What a plan gives away. A leaf is had under the first operation applied to its column that it
+    /// supports; a function of two rows does not count as an operation, nor does anything applied to
+    /// its result.
     ///
     /// ```
     /// use pspec::{Access, Action, Book, Plan};

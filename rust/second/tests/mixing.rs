@@ -109,7 +109,7 @@ fn a_mix_above_a_mix() {
     gives(&rows, &all);
 }
 
-/// avg(concat(Price)): with one row, concat is passed over as before.
+/// sum(avg(concat(Price))): with one row each, concat is passed over and avg counts, as before.
 #[test]
 fn one_row_is_as_before() {
     let rows = [
@@ -199,7 +199,8 @@ fn a_choose_beside_a_mix() {
     gives(&rows, &all);
 }
 
-/// What a mix decides is had raw: a is avg(Price, State), and avg(concat(Price, State)).
+/// As a of Choose, avg(Price, State) and avg(concat(Price, State)) give both columns raw, and
+/// concat(avg(Price), State) gives the price averaged.
 #[test]
 fn a_choose_decided_by_a_mix() {
     let raw = [condition(STATE, RAW), condition(PRICE, RAW)];

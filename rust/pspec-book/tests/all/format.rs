@@ -68,7 +68,7 @@ fn the_plans_are_judged_so() {
             judged += 1;
         }
     }
-    assert_eq!(judged, 16);
+    assert_eq!(judged, 20);
 }
 
 #[test]

@@ -71,7 +71,7 @@ fn origins(plan: &PlanText, named: &NamedBook) -> BTreeSet<(Access, usize, u8)> 
     found
 }
 
-/// The lines of an access are those of the paths that give it, and no others.
+/// The lines that give an access, and the columns that it comes from, are those of its paths.
 #[test]
 fn lines_are_those_of_paths() {
     let mut compared = 0;
