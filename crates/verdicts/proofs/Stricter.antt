@@ -1,5 +1,5 @@
--- Document 02, N5: "protects neither". A rule that a user and a plan break by document 01's lineage they break by N5's
--- too, for every accepted book: no plan passes that did not. Assumes nothing.
+-- What document 02's N5 does to verdicts: a rule that a user and a plan break by document 01's lineage they break by
+-- N5's too, for every accepted book. No plan passes that did not. Assumes nothing.
 use Prim.Native.Nat.{ℕ, zero, suc, _<_}
 use native.Mathlib.Omega.{arith}
 use mathlib.Core.Path.{_≡_, refl, sym, _∙_}
