@@ -20,15 +20,14 @@ use Rattle.search.specs.Inner.Places.{PlacesOf}
 use Rattle.search.specs.Inner.Table.{CoversHold, HadHolds, TableHolds}
 use Rattle.search.specs.Inner.Search.{candidate}
 use Rattle.blocked.specs.Answers.{blockedAnswer, blockedTests, blockingOf, closedAnswer, datumByte, forbidTests}
-use Rattle.blocked.specs.Inner.Pairs.{MetHolds, Ready}
-use Rattle.blocked.specs.Inner.Users.{DeniedFirst}
+use Rattle.blocked.specs.Inner.Pairs.{MetHolds}
 use Rattle.blocked.specs.Inner.First.{FirstDenied, Standing, associationAt, datumAt, noCell, pairAt}
+use Rattle.blocked.specs.Inner.Start.{Started}
 use Rattle.blocked.specs.declared.Blocking.{Blocking}
 use Rattle.blocked.specs.declared.Blocking.the-variants as blocking
 use Rattle.blocked.specs.declared.users.Denied.{Denied}
 use Rattle.blocked.specs.declared.users.Denied.the-variants.{Nobody, User}
 use Rattle.blocked.proofs.DemandLaws.{blocked-accepted, blocked-answer}
-use Rattle.blocked.proofs.Lifting.{lifted, ready}
 use Rattle.blocked.proofs.AssociationLaws.{data-absent, data-present}
 
 -- The outcome
@@ -113,23 +112,21 @@ module _ (u l m n : ℕ) (stands : Standing l m n) where
         g,
       )
 
--- What the search finds
+-- The tables
 
--- the tables say what the book says
-pub denied-first :
+-- they say what the book says
+pub started :
     (book : List ℕ)
     → BookAccepted book
     → ((i : ℕ) → getD book i 0 < 256)
-    → (r : ℕ)
-    → r < ruleCount book
-    → (total : ℕ)
+    → (r total : ℕ)
     → (ruleCount book ≤ 32 → total ≡ ruleCount book)
     → (rule head : List ℕ)
     → rule ≡ ruleAt book r
     → head ≡ headOf book
     → (references : ℕ)
     → references ≡ referenceCount rule
-    → (t had covered firsts seconds thirds met : List ℕ) (all : ℕ)
+    → (t met had covered firsts seconds thirds : List ℕ) (all : ℕ)
     → (total ≤ 32 → TableHolds book total t)
     → HadHolds head had
     → CoversHold book total covered
@@ -138,26 +135,27 @@ pub denied-first :
     → PlacesOf (candidate t r references had 2) thirds
     → MetHolds t met
     → WordOf (λ q. ltb q total) all
-    → (found : Denied)
-    → (Ready t met all seconds thirds covered → DeniedFirst t r firsts seconds thirds covered found)
-    → FirstDenied book r found
-denied-first
-    book accepted bytes r l total te rule head re he references ne t had covered firsts seconds thirds met all tables hads
-    covers first second third holds rules found h =
+    → Started book r t met
+    (record { all = all; scope = record { firsts = firsts; seconds = seconds; thirds = thirds }; covered = covered })
+started
+    book accepted bytes r total te rule head re he references ne t met had covered firsts seconds thirds all tables hads
+    covers first second third holds rules =
     let few : ruleCount book ≤ 32 = few-rules book accepted in
     let e : total ≡ ruleCount book = te few in
     let small : total ≤ 32 = omega arith in
     let m : references ≡ referenceCount (ruleAt book r) = ne ∙ ap referenceCount re in
-    let tables' = rw e at (tables small) in
-    let hads' = rw he at hads in
-    let covers' = rw e at covers in
-    let first' = rw m at first in
-    let second' = rw m at second in
-    let third' = rw m at third in
-    lifted book accepted bytes r l t had covered tables' hads' covers' firsts seconds thirds first' second' third' found
-    (h
-    (ready book accepted bytes r l t had covered tables' hads' covers' firsts seconds thirds first' second' third' met all
-    holds (rw e at rules)))
+    record {
+      bytes = bytes;
+      tables = rw e at (tables small);
+      met-holds = holds;
+      all-rules = rw e at rules;
+      covers = rw e at covers;
+      had = had;
+      hads = rw he at hads;
+      first = rw m at first;
+      second = rw m at second;
+      third = rw m at third;
+    }
 
 -- The whole answer
 

@@ -12,8 +12,8 @@ use lib.Dec.{eqb, ltb}
 use borrow.Author.Tests.{eq-eqb, ne-eqb, eqb-true, eqb-false, lt-ltb, ltb-true, ltb-false}
 use Rattle.book.specs.Lists.{any, upTo}
 use Rattle.book.specs.Sets.{has}
-use Rattle.book.proofs.Lists.{and-end, any-from-same, same-test}
-use Rattle.book.proofs.Members.{has-below, has-minus, has-zero}
+use Rattle.book.proofs.Lists.{and-end, and-false, any-from-same, same-test}
+use Rattle.book.proofs.Members.{has-and, has-below, has-minus, has-zero}
 use Rattle.verdicts.proofs.Marks.{not-empty}
 use Rattle.verdicts.proofs.Quantifiers.{at-any, any-at}
 use Rattle.search.specs.Inner.Places.{inPlaces}
@@ -103,6 +103,15 @@ cell-place places c h =
     let below = found .2 in
     (16 * c + found .0, omega arith, found .1)
 
+-- the group of cell c among the places of its word
+in-group :
+    (c p : ℕ) → p / 64 ≡ c / 4 → has ((65535 * 2 ^ (16 * (c % 4))) % 2 ^ 64) (p % 64) ≡ eqb (p / 16) c
+in-group c p same =
+    group-mask (c % 4) (p % 64) (omega arith)
+    ∙ same-test (eqb (p % 64 / 16) (c % 4)) (eqb (p / 16) c)
+    (λ h. eq-eqb (p / 16) c (omega (arith, eqb-true (p % 64 / 16) (c % 4) h)))
+    (λ h. eq-eqb (p % 64 / 16) (c % 4) (omega (arith, eqb-true (p / 16) c h)))
+
 -- a set whose word of cell c has lost the cell's group
 pub less-group :
     (places : List ℕ) (c p : ℕ)
@@ -129,15 +138,47 @@ less-group places c p room fits = go (eqb (p / 64) (c / 4)) refl
         let same = eqb-true (p / 64) (c / 4) e in
         rw (same, getD-set-same places (c / 4) word 0 room)
         (has-minus 64 (getD places (c / 4) 0) mask (p % 64) fits (omega arith)
-        ∙ ap (λ (t : Bool). has (getD places (c / 4) 0) (p % 64) && not t)
-        (group-mask (c % 4) (p % 64) (omega arith)
-        ∙ same-test (eqb (p % 64 / 16) (c % 4)) (eqb (p / 16) c)
-        (λ h. eq-eqb (p / 16) c (omega (arith, eqb-true (p % 64 / 16) (c % 4) h)))
-        (λ h. eq-eqb (p % 64 / 16) (c % 4) (omega (arith, eqb-true (p / 16) c h)))))
+        ∙ ap (λ (t : Bool). has (getD places (c / 4) 0) (p % 64) && not t) (in-group c p same))
     go false e =
         let other = eqb-false (p / 64) (c / 4) e in
         rw (getD-set-other places (c / 4) (p / 64) word 0 other, ne-eqb (p / 16) c (λ n. other (omega arith)))
         (sym (and-end (has (getD places (p / 64) 0) (p % 64))))
+
+-- a set with the group of cell c alone
+pub only-group :
+    (places empty : List ℕ) (c p : ℕ)
+    → c / 4 < length empty
+    → ((i : ℕ) → getD empty i 0 ≡ 0)
+    → inPlaces (set empty (c / 4) (bitAnd (getD places (c / 4) 0) ((65535 * 2 ^ (16 * (c % 4))) % 2 ^ 64))) p
+    ≡ (inPlaces places p && eqb (p / 16) c)
+unfolding inPlaces
+only-group places empty c p room zeros = go (eqb (p / 64) (c / 4)) refl
+  where
+    mask : ℕ
+    mask = (65535 * 2 ^ (16 * (c % 4))) % 2 ^ 64
+
+    word : ℕ
+    word = bitAnd (getD places (c / 4) 0) mask
+
+    go :
+        (t : Bool)
+        → eqb (p / 64) (c / 4) ≡ t
+        → has (getD (set empty (c / 4) word) (p / 64) 0) (p % 64)
+        ≡ (has (getD places (p / 64) 0) (p % 64) && eqb (p / 16) c)
+    go true e =
+        let same = eqb-true (p / 64) (c / 4) e in
+        rw (same, getD-set-same empty (c / 4) word 0 room)
+        (has-and (getD places (c / 4) 0) mask (p % 64)
+        ∙ ap (λ (t : Bool). has (getD places (c / 4) 0) (p % 64) && t) (in-group c p same))
+    go false e =
+        let other = eqb-false (p / 64) (c / 4) e in
+        rw (
+          getD-set-other empty (c / 4) (p / 64) word 0 other,
+          zeros (p / 64),
+          has-zero (p % 64),
+          ne-eqb (p / 16) c (λ n. other (omega arith)),
+        )
+        (sym (and-false (has (getD places (p / 64) 0) (p % 64))))
 
 -- Pairs
 

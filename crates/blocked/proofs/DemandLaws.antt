@@ -3,14 +3,14 @@
 use Prim.Native.Nat.{ℕ}
 use native.Mathlib.Omega.{arith}
 use mathlib.Core.Path.{_≡_, refl, sym, subst, _∙_}
-use mathlib.Core.Bool.{false≢true}
+use mathlib.Core.Bool.{Bool, true, false≢true}
 use mathlib.Core.List.{List, _++_}
 use lib.Dec.{ltb}
 use borrow.Author.Tests.{lt-ltb, ltb-true}
 use Rattle.book.specs.Blocks.{headOf, ruleAt, ruleCount}
 use Rattle.book.specs.Rule.{restrictionCount}
 use Rattle.book.specs.Tests.{Passes, firstFailing}
-use Rattle.book.specs.Refusals.{bookTests}
+use Rattle.book.specs.Refusals.{BookAccepted, bookTests}
 use Rattle.book.specs.Inner.Testing.{orElse}
 use Rattle.book.specs.declared.Refusal.{Refusal}
 use Rattle.book.specs.declared.Tested.{Tested}
@@ -22,7 +22,7 @@ use Rattle.search.specs.Answers.{ruleTests}
 use Rattle.blocked.specs.Associations.{Pair}
 use Rattle.blocked.specs.Open.{firstClosed}
 use Rattle.blocked.specs.Answers.{blockedAnswer, blockedTests, blockingOf, closedAnswer, forbidTests}
-use Rattle.blocked.specs.Demand.{Blocked, BlockedAccepted, ClosedFirst}
+use Rattle.blocked.specs.Demand.{Blocked, BlockedAccepted, ClosedFirst, InScope, NoneClosed}
 use Rattle.blocked.specs.declared.Blocking.{Blocking}
 use Rattle.blocked.specs.declared.Blocking.the-variants as blocking
 use Rattle.blocked.proofs.ScopeLaws.{first-closed, none-closed}
@@ -85,6 +85,35 @@ unlike p e =
     let z : _≡_ {A = ℕ} 0 1 = cc in
     omega arith
 
+abbrev every : ℕ → Bool
+every q = true
+
+-- what is found means what is asked
+module _ (book : List ℕ) (r : ℕ) where
+  pub none-means : firstClosed book r ≡ none → NoneClosed book r
+  none-means e p within closed = false≢true (sym (none-closed book r e p within) ∙ means-closed book every p closed)
+
+  pub first-means : (p : Pair) → BookAccepted book → firstClosed book r ≡ shown p → ClosedFirst book r p
+  first-means p accepted e =
+      let s = first-closed book r p e in
+      record {
+        scope = s .0;
+        closed = closed-means book every p accepted (s .1);
+        first = λ other within also. s .2 other within (means-closed book every other also);
+      }
+
+  -- Blocked's numbers name one pair of the scope
+  pub one-named :
+      (p q : Pair)
+      → BlockedAccepted book r
+      → InScope (headOf book) (ruleAt book r) p
+      → InScope (headOf book) (ruleAt book r) q
+      → closedAnswer p ≡ closedAnswer q
+      → p ≡ q
+  one-named p q given =
+      answer-names (headOf book) (ruleAt book r) (accepted-head book (given .book-accepted) .data-most)
+      (accepted-rule book (given .book-accepted) r (given .rule-there) .references-most) p q
+
 pub demand : (book : List ℕ) (r : ℕ) → BlockedAccepted book r → Blocked book r (blockedAnswer book r)
 unfolding blockingOf
 demand book r given =
@@ -93,31 +122,19 @@ demand book r given =
     go : (f : First Pair) → firstClosed book r ≡ f → Blocked book r (blockingOf f)
     go none e =
         record {
-          open-none =
-              λ i p within closed. false≢true (sym (none-closed book r e p within) ∙ means-closed book p closed);
+          open-none = λ i. none-means book r e;
           none-open = λ h. refl;
           otherwise = λ h. absurd (h refl);
           named = λ p within f. absurd (unlike p (sym f));
         }
     go (shown p) e =
-        let accepted = given .book-accepted in
-        let s = first-closed book r p e in
-        let closed = closed-means book p accepted (s .1) in
-        let first : ClosedFirst book r p =
-        record {
-          scope = s .0;
-          closed = closed;
-          first = λ other within also. s .2 other within (means-closed book other also);
-        } in
+        let first = first-means book r p (given .book-accepted) e in
         record {
           open-none = λ i. absurd (unlike p i);
-          none-open = λ h. absurd (h p (s .0) closed);
+          none-open = λ h. absurd (h p (first .scope) (first .closed));
           otherwise = λ h. (p, refl, first);
           named = λ q within f.
-              subst (ClosedFirst book r)
-              (answer-names (headOf book) (ruleAt book r) (accepted-head book accepted .data-most)
-              (accepted-rule book accepted r (given .rule-there) .references-most) p q (s .0) within f)
-              first;
+              subst (ClosedFirst book r) (one-named book r p q given (first .scope) within f) first;
         }
 
 -- an answer by the definition keeps it

@@ -13,5 +13,9 @@ pub mod TripleLaws
 pub mod UserLaws
 pub mod AssociationLaws
 pub mod Lifting
+pub mod TrialLaws
+pub mod FewLaws
+pub mod DroppingLaws
+pub mod FewLifting
 pub mod CallLaws
 pub mod Vectors

@@ -16,7 +16,8 @@ use Rattle.book.specs.Head.{userCount}
 use Rattle.book.specs.Rule.{coversUser, referenceCount}
 use Rattle.book.specs.Refusals.{BookAccepted}
 use Rattle.book.proofs.Accepted.{RuleHolds, accepted-head, accepted-rule}
-use Rattle.book.proofs.Lists.{and-both, and-left, and-right, and-true, any-from-same, or-either, same-test}
+use Rattle.book.proofs.Lists.{and-assoc, and-both, and-false, and-left, and-right, and-true, any-from-same, or-either}
+use Rattle.book.proofs.Lists.{same-test}
 use Rattle.verdicts.specs.Accesses.{Access, fits, members}
 use Rattle.verdicts.specs.Inner.Words.{RuleSound}
 use Rattle.verdicts.specs.Breaking.{breaks, someChoiceRefused}
@@ -35,11 +36,11 @@ use Rattle.search.proofs.ChoicePlaces.{Stand, choice-places, places-choice, sta
 use Rattle.search.proofs.ChoiceTables.{candidate-stands}
 use Rattle.blocked.specs.Associations.{Datum, Pair, accessTo, associationBefore, datumOf, inScopeAt, isAssociation}
 use Rattle.blocked.specs.Associations.{isAssociationFrom, pairBefore}
-use Rattle.blocked.specs.Open.{isClosed, someBroken}
+use Rattle.blocked.specs.Open.{isClosed, isClosedUnder, someBroken}
 use Rattle.blocked.specs.Demand.{Chooses, InScope}
 use Rattle.blocked.specs.Inner.Cells.{Cells, Opens, spares}
 use Rattle.blocked.specs.Inner.Pairs.{MetHolds, Ready, Whole}
-use Rattle.blocked.specs.Inner.Users.{DeniedFirst, DeniedUser, coveringRules}
+use Rattle.blocked.specs.Inner.Users.{DeniedFirst, DeniedUser, countingRules, coveringRules}
 use Rattle.blocked.specs.Inner.First.{FirstDenied, associationAt, pairAt}
 use Rattle.blocked.specs.declared.users.Denied.{Denied}
 use Rattle.blocked.specs.declared.users.Denied.the-variants.{Nobody, User}
@@ -88,7 +89,7 @@ module _ (book : List ℕ) (accepted : BookAccepted book) (bytes : (i : ℕ) →
   sound : (q : ℕ) → q < ruleCount book → RuleSound (headOf book) (ruleAt book q)
   sound q k = rules-sound book accepted bytes q k
 
-  covers-rule : (u : ℕ) → u < 32 → coversIn covered r u ≡ coversUser (headOf book) (ruleAt book r) u
+  pub covers-rule : (u : ℕ) → u < 32 → coversIn covered r u ≡ coversUser (headOf book) (ruleAt book r) u
   covers-rule u lu =
       let m = few-rules book accepted in
       covers r (omega arith) u lu ∙ rw (lt-ltb r (ruleCount book) l)
@@ -196,29 +197,32 @@ module _ (book : List ℕ) (accepted : BookAccepted book) (bytes : (i : ℕ) →
         closes-broken book (ruleCount book) t tables q k (sound q k) (leaves-apart q k)
         (holding q k .restrictions-most) a y x (m 0 a (stand .first)) (m 1 y (stand .second)) (m 2 x (stand .third))
 
-    -- the rules that cover a user are broken by the places as by their accesses
+    -- the rules that count and cover a user are broken by the places as by their accesses
     spares-broken :
-        (u : ℕ)
+        (rules : ℕ → Bool) (u : ℕ)
         → u < 32
-        → spares t (coveringRules covered u) a y x ≡ not (someBroken book u (choiceAt a y x))
+        → spares t (countingRules rules covered u) a y x ≡ not (someBroken book rules u (choiceAt a y x))
     unfolding spares someBroken breaks upTo
-    spares-broken u lu =
+    spares-broken rules u lu =
         ap not
-        (any-from-same (λ q. coversIn covered q u && closes t q a y x)
-        (λ q. ltb q (ruleCount book) && breaks (headOf book) (ruleAt book q) u (members (choiceAt a y x))) 0 32
-        (λ q lo hi. go q (omega arith) (ltb q (ruleCount book)) refl)
-        ∙ any-below (λ q. breaks (headOf book) (ruleAt book q) u (members (choiceAt a y x))) (ruleCount book) 32
+        (any-from-same (λ q. (rules q && coversIn covered q u) && closes t q a y x)
+        (λ q. ltb q (ruleCount book) && (rules q && breaks (headOf book) (ruleAt book q) u (members (choiceAt a y x)))) 0 32
+        (λ q lo hi.
+        and-assoc (rules q) (coversIn covered q u) (closes t q a y x)
+        ∙ go (rules q) q (omega arith) (ltb q (ruleCount book)) refl)
+        ∙ any-below (λ q. rules q && breaks (headOf book) (ruleAt book q) u (members (choiceAt a y x))) (ruleCount book) 32
         (few-rules book accepted))
       where
         go :
-            (q : ℕ)
+            (counts : Bool) (q : ℕ)
             → q < 32
             → (b : Bool)
             → ltb q (ruleCount book) ≡ b
-            → (has (getD covered q 0) u && closes t q a y x)
-            ≡ (b && breaks (headOf book) (ruleAt book q) u (members (choiceAt a y x)))
-        go q lq true e = rw (covers q lq u lu, e, closes-rule q (ltb-true q (ruleCount book) e))
-        go q lq false e = rw (covers q lq u lu, e)
+            → (counts && (has (getD covered q 0) u && closes t q a y x))
+            ≡ (b && (counts && breaks (headOf book) (ruleAt book q) u (members (choiceAt a y x))))
+        go false q lq b e = sym (and-false b)
+        go true q lq true e = rw (covers q lq u lu, e, closes-rule q (ltb-true q (ruleCount book) e))
+        go true q lq false e = rw (covers q lq u lu, e)
 
   -- Cells
 
@@ -246,9 +250,11 @@ module _ (book : List ℕ) (accepted : BookAccepted book) (bytes : (i : ℕ) →
           rw (of-cells (a .0) (y .0) (x .0) s, ea, ey, ex) at scope,
         )
 
-    module _ (u : ℕ) (lu : u < 32) where
-      -- places that break no rule are a choice that breaks none
-      opens-open : Opens t (coveringRules covered u) firsts seconds thirds b z w → isClosed book (pairAt u b z w) ≡ false
+    module _ (rules : ℕ → Bool) (u : ℕ) (lu : u < 32) where
+      -- places that break no rule that counts are a choice that breaks none
+      pub opens-open :
+          Opens t (countingRules rules covered u) firsts seconds thirds b z w
+          → isClosedUnder book rules (pairAt u b z w) ≡ false
       opens-open o =
           let lb : b < 132 = cells .below .0 in
           let lz : z < 132 = cells .below .1 in
@@ -262,10 +268,10 @@ module _ (book : List ℕ) (accepted : BookAccepted book) (bytes : (i : ℕ) →
           let c = choiceAt (o .first) (o .second) (o .third) in
           let chosen : Chooses (headOf book) (map datumOf c) c =
           choice-chooses (headOf book) (ruleAt book r) c (a-choice (o .first) (o .second) (o .third) s) .1 in
-          choice-open book (pairAt u b z w) accepted c
+          choice-open book rules (pairAt u b z w) accepted c
           (rw (of-cells (o .first) (o .second) (o .third) s, ea, ey, ex) at chosen)
-          (not-true (someBroken book u c)
-          (sym (spares-broken (o .first) (o .second) (o .third) s u lu) ∙ o .spared))
+          (not-true (someBroken book rules u c)
+          (sym (spares-broken (o .first) (o .second) (o .third) s rules u lu) ∙ o .spared))
 
       -- and back: a choice that breaks none is at places of these cells
       choice-opens :
@@ -273,8 +279,8 @@ module _ (book : List ℕ) (accepted : BookAccepted book) (bytes : (i : ℕ) →
           → c ≡ choiceAt a y x
           → Stand (headOf book) (ruleAt book r) (referenceCount (ruleAt book r)) a y x
           → map datumOf c ≡ associationAt b z w
-          → someBroken book u c ≡ false
-          → Opens t (coveringRules covered u) firsts seconds thirds b z w
+          → someBroken book rules u c ≡ false
+          → Opens t (countingRules rules covered u) firsts seconds thirds b z w
       choice-opens c a y x e s to free =
           let n = referenceCount (ruleAt book r) in
           let same : associationAt (a / 16) (y / 16) (x / 16) ≡ associationAt b z w =
@@ -292,16 +298,19 @@ module _ (book : List ℕ) (accepted : BookAccepted book) (bytes : (i : ℕ) →
             in-first = (q .0, chosen firsts 0 a first (omega arith) ∙ s .first);
             in-second = (q .1, chosen seconds 1 y second (omega arith) ∙ s .second);
             in-third = (q .2, chosen thirds 2 x third (omega arith) ∙ s .third);
-            spared = spares-broken a y x s u lu ∙ ap (λ (d : List Access). not (someBroken book u d)) (sym e) ∙ ap not free;
+            spared =
+                spares-broken a y x s rules u lu
+                ∙ ap (λ (d : List Access). not (someBroken book rules u d)) (sym e)
+                ∙ ap not free;
           }
 
-      open-opens :
+      pub open-opens :
           coversUser (headOf book) (ruleAt book r) u ≡ true
-          → isClosed book (pairAt u b z w) ≡ false
-          → Opens t (coveringRules covered u) firsts seconds thirds b z w
+          → isClosedUnder book rules (pairAt u b z w) ≡ false
+          → Opens t (countingRules rules covered u) firsts seconds thirds b z w
       unfolding isChoice
       open-opens user h =
-          let found = open-choice book (pairAt u b z w) h in
+          let found = open-choice book rules (pairAt u b z w) h in
           let choice =
           chooses-choice (headOf book) (ruleAt book r) (pairAt u b z w) (found .0)
           (record { covered = user; association = cells-shape .1 }) (found .1) in
@@ -366,7 +375,8 @@ module _ (book : List ℕ) (accepted : BookAccepted book) (bytes : (i : ℕ) →
       let small = user-small (p .user) (within .covered) in
       let at = scope-cells p within in
       ap (λ (a : List Datum). isClosed book (pair (p .user) a)) (at .3)
-      ∙ opens-open (at .0) (at .1) (at .2) (at .4) (p .user) small (free (at .0) (at .1) (at .2) small (at .3) (at .4))
+      ∙ opens-open (at .0) (at .1) (at .2) (at .4) (λ q. true) (p .user) small
+      (free (at .0) (at .1) (at .2) small (at .3) (at .4))
 
   -- a pair before the one that was found
   earlier :
@@ -421,4 +431,4 @@ module _ (book : List ℕ) (accepted : BookAccepted book) (bytes : (i : ℕ) →
           → isClosed book (pairAt u b z w) ≡ c
           → c ≡ true
       go user cells true e = refl
-      go user cells false e = absurd (h .shut .closed (open-opens b z w cells u (h .below) user e))
+      go user cells false e = absurd (h .shut .closed (open-opens b z w cells (λ q. true) u (h .below) user e))

@@ -11,10 +11,10 @@ use Rattle.book.specs.Blocks.{headOf, ruleAt, ruleCount}
 use Rattle.book.specs.Rule.{referenceCount}
 use Rattle.book.specs.Refusals.{BookAccepted}
 use Rattle.book.proofs.Accepted.{HeadHolds, accepted-head}
-use Rattle.book.proofs.Lists.{and-true, and-left, and-both, none-at}
+use Rattle.book.proofs.Lists.{and-true, and-left, and-both}
 use Rattle.verdicts.specs.Accesses.{Access, fits, keep, members}
 use Rattle.verdicts.specs.Breaking.{breaks}
-use Rattle.verdicts.proofs.Quantifiers.{any-at}
+use Rattle.verdicts.proofs.Quantifiers.{any-at, at-any}
 use Rattle.search.specs.Obtainable.{canBeHad, labelled, operated}
 use Rattle.search.specs.Choices.{isChoice, isChoiceFrom}
 use Rattle.search.proofs.Rising.{all-member, any-member, flat-from, flat-member, keep-member, keep-passes, member-any}
@@ -22,8 +22,8 @@ use Rattle.search.proofs.Rising.{upTo-member}
 use Rattle.search.proofs.Orders.{choice-had, had-small}
 use Rattle.blocked.specs.Associations.{Datum, Pair, accessTo, datumOf, inScopeAt, isAssociation}
 use Rattle.blocked.specs.Associations.{isAssociationFrom}
-use Rattle.blocked.specs.Open.{isClosed, operationChoices, someBroken}
-use Rattle.blocked.specs.Demand.{Chooses, Closed, InScope, SomeBroken}
+use Rattle.blocked.specs.Open.{isClosedUnder, operationChoices, someBroken}
+use Rattle.blocked.specs.Demand.{Chooses, ClosedUnder, InScope, SomeBroken}
 
 -- Choices of operations
 
@@ -135,34 +135,50 @@ module _ (head rule : List ℕ) where
     record { to = refl; had = choice-had head rule (referenceCount rule) 0 c h },
   )
 
--- Open and closed
+-- Open and closed, under the rules that count
 
-module _ (book : List ℕ) (p : Pair) where
+module _ (book : List ℕ) (rules : ℕ → Bool) (p : Pair) where
   -- no rule is broken under a choice of operations
   spares : List Access → Bool
-  spares c = not (someBroken book (p .user) c)
+  spares c = not (someBroken book rules (p .user) c)
+
+  -- some rule that counts is broken
+  broken-some : (c : List Access) → someBroken book rules (p .user) c ≡ true → SomeBroken book rules (p .user) c
+  unfolding someBroken
+  broken-some c e =
+      let breaking : ℕ → Bool = λ q. breaks (headOf book) (ruleAt book q) (p .user) (members c) in
+      let found = any-at (λ q. rules q && breaking q) (ruleCount book) e in
+      let both = and-both (rules (found .0)) (breaking (found .0)) (found .1) in
+      (found .0, found .2, both .0, both .1)
+
+  pub some-broken : (c : List Access) → SomeBroken book rules (p .user) c → someBroken book rules (p .user) c ≡ true
+  unfolding someBroken
+  some-broken c broken =
+      let breaking : ℕ → Bool = λ q. breaks (headOf book) (ruleAt book q) (p .user) (members c) in
+      at-any (λ q. rules q && breaking q) (ruleCount book) (broken .0) (broken .1)
+      (and-true (rules (broken .0)) (breaking (broken .0)) (broken .2) (broken .3))
 
   pub open-choice :
-      isClosed book p ≡ false
+      isClosedUnder book rules p ≡ false
       → (c : List Access)
       × Chooses (headOf book) (p .association) c
-      × (someBroken book (p .user) c ≡ false)
-  unfolding isClosed spares
+      × (someBroken book rules (p .user) c ≡ false)
+  unfolding isClosedUnder spares
   open-choice h =
       let choices = operationChoices (headOf book) (p .association) in
       let found = any-member spares choices (not-false (any spares choices) h) in (
         found .0,
         choices-choose (headOf book) (p .association) (found .0) (found .1),
-        not-true (someBroken book (p .user) (found .0)) (found .2),
+        not-true (someBroken book rules (p .user) (found .0)) (found .2),
       )
 
   pub choice-open :
       BookAccepted book
       → (c : List Access)
       → Chooses (headOf book) (p .association) c
-      → someBroken book (p .user) c ≡ false
-      → isClosed book p ≡ false
-  unfolding isClosed spares
+      → someBroken book rules (p .user) c ≡ false
+      → isClosedUnder book rules p ≡ false
+  unfolding isClosedUnder spares
   choice-open accepted c chosen h =
       let choices = operationChoices (headOf book) (p .association) in
       let listed = choose-choices (headOf book) (accepted-head book accepted) (p .association) c chosen in
@@ -170,26 +186,18 @@ module _ (book : List ℕ) (p : Pair) where
       rw some
 
   -- the test means the proposition
-  pub closed-means : BookAccepted book → isClosed book p ≡ true → Closed book p
-  unfolding someBroken
-  closed-means accepted h c chosen = go (someBroken book (p .user) c) refl
+  pub closed-means : BookAccepted book → isClosedUnder book rules p ≡ true → ClosedUnder book rules p
+  closed-means accepted h c chosen = go (someBroken book rules (p .user) c) refl
     where
-      go : (b : Bool) → someBroken book (p .user) c ≡ b → SomeBroken book (p .user) c
-      go true e =
-          let found = any-at (λ q. breaks (headOf book) (ruleAt book q) (p .user) (members c)) (ruleCount book) e in
-          (found .0, found .2, found .1)
+      go : (b : Bool) → someBroken book rules (p .user) c ≡ b → SomeBroken book rules (p .user) c
+      go true e = broken-some c e
       go false e = absurd (false≢true (sym (choice-open accepted c chosen e) ∙ h))
 
-  pub means-closed : Closed book p → isClosed book p ≡ true
-  unfolding someBroken
-  means-closed closed = go (isClosed book p) refl
+  pub means-closed : ClosedUnder book rules p → isClosedUnder book rules p ≡ true
+  means-closed closed = go (isClosedUnder book rules p) refl
     where
-      go : (b : Bool) → isClosed book p ≡ b → b ≡ true
+      go : (b : Bool) → isClosedUnder book rules p ≡ b → b ≡ true
       go true e = refl
       go false e =
           let found = open-choice e in
-          let broken = closed (found .0) (found .1) in
-          let spared =
-          none-at (λ q. breaks (headOf book) (ruleAt book q) (p .user) (members (found .0))) (ruleCount book)
-          (found .2) (broken .0) (broken .1) in
-          absurd (false≢true (sym spared ∙ broken .2))
+          absurd (false≢true (sym (found .2) ∙ some-broken (found .0) (closed (found .0) (found .1))))

@@ -73,7 +73,7 @@ module _ (book : List ℕ) (p : Pair) (closed : Closed book p) (plan : List ℕ)
         broken .0,
         broken .1,
         breaks-monotone head (ruleAt book (broken .0)) (members c) D (members-within c D (chosen .2)) (p .user)
-            (broken .2),
+            (broken .3),
       )
 
   -- so Judge never answers that none is
@@ -111,7 +111,7 @@ unfolding someBroken datumOf accessTo
 open-plan book accepted r l p within h =
     let head = headOf book in
     let rule = ruleAt book r in
-    let found = open-choice book p h in
+    let found = open-choice book (λ q. true) p h in
     let c = found .0 in
     let chosen = chooses-choice head rule p c within (found .1) in
     let holds = accepted-head book accepted in
@@ -150,6 +150,6 @@ for-plans book r given =
       open-passes = λ p within not-closed.
           let found =
           open-plan book (given .book-accepted) r (given .rule-there) p within
-          (fails (isClosed book p) (λ h. not-closed (closed-means book p (given .book-accepted) h))) in
+          (fails (isClosed book p) (λ h. not-closed (closed-means book (λ q. true) p (given .book-accepted) h))) in
           (found .0, found .2, (found .1, found .3));
     }

@@ -40,17 +40,24 @@ part : (all rules q : ℕ) → q < 32 → has (bitAnd all rules) q ≡ true → 
 part all rules q l h = and-left (has all q) (has rules q) (sym (has-and all rules q) ∙ h)
 
 -- what holds of the tables for all rules holds for some
+pub fewer-prepared :
+    (t met : List ℕ) (s : Scope) (some rules : ℕ → Bool)
+    → ((q : ℕ) → q < 32 → some q ≡ true → rules q ≡ true)
+    → Prepared t met rules (s .seconds) (s .thirds)
+    → Prepared t met some (s .seconds) (s .thirds)
+fewer-prepared t met s some rules within given =
+    record {
+      met-holds = given .met-holds;
+      seconds-whole = λ q i p l h. given .seconds-whole q i p l (within q l h);
+      thirds-whole = λ q i p l h. given .thirds-whole q i p l (within q l h);
+      repeats = λ q i j p l h. given .repeats q i j p l (within q l h);
+    }
+
 pub part-prepared :
     (t met : List ℕ) (s : Scope) (all rules : ℕ)
     → Prepared t met (has all) (s .seconds) (s .thirds)
     → Prepared t met (has (bitAnd all rules)) (s .seconds) (s .thirds)
-part-prepared t met s all rules given =
-    record {
-      met-holds = given .met-holds;
-      seconds-whole = λ q i p l h. given .seconds-whole q i p l (part all rules q l h);
-      thirds-whole = λ q i p l h. given .thirds-whole q i p l (part all rules q l h);
-      repeats = λ q i j p l h. given .repeats q i j p l (part all rules q l h);
-    }
+part-prepared t met s all rules = fewer-prepared t met s (has (bitAnd all rules)) (has all) (part all rules)
 
 -- Sets of rules that leave a row open
 

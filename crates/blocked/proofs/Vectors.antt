@@ -33,7 +33,7 @@ use Rattle.search.specs.Obtainable.{labelled, operated, canBeHad}
 use Rattle.search.specs.Alone.{firstIn}
 use Rattle.search.specs.Answers.{ruleTests}
 use Rattle.blocked.specs.Associations.{accessTo, inScopeAt, everyDatum, associations, scope}
-use Rattle.blocked.specs.Open.{operationChoices, someBroken, isClosed, firstClosed}
+use Rattle.blocked.specs.Open.{operationChoices, someBroken, isClosedUnder, firstClosed}
 use Rattle.blocked.specs.Answers.{forbidTests, blockedTests, datumByte, closedAnswer, blockingOf, blockedAnswer}
 use Rattle.blocked.specs.declared.Blocking.{Blocking}
 use Rattle.blocked.specs.declared.Blocking.the-variants as blocking
@@ -120,7 +120,7 @@ unfolding all any upTo from has upwardIn upward under leaf covers ownedBy suppor
     padded block users categories columns functions rule rule0 rule1 rule2 shop labels same flat keep everyAccess
     actionOf actionFits channelFits fits fitting choicesFrom operations accepts refusesAll someChoiceRefused breaks
     labelled operated canBeHad firstIn accessTo inScopeAt everyDatum associations scope operationChoices someBroken
-    isClosed firstClosed ruleTests forbidTests datumByte closedAnswer blockingOf outcome sums three forbids near
+    isClosedUnder firstClosed ruleTests forbidTests datumByte closedAnswer blockingOf outcome sums three forbids near
     conditions together states no-avg cases
 cases-outcomes = refl
 

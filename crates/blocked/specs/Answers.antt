@@ -1,4 +1,5 @@
--- The tests of Blocked in document 02's order, and what it answers, whole. Document 02, N1. Assumes nothing.
+-- The tests of Blocked and Culprits in document 02's order, and what they answer, whole. Document 02, N1 and N6. Assumes
+-- nothing.
 use Prim.Native.Nat.{ℕ, zero, suc, _+_, _*_}
 use mathlib.Core.List.{List, [], _∷_, _++_}
 use lib.Dec.{ltb}
@@ -10,8 +11,11 @@ use Rattle.search.specs.Alone.{First, none, shown}
 use Rattle.search.specs.Answers.{ruleTests}
 use Rattle.blocked.specs.Associations.{Datum, Pair}
 use Rattle.blocked.specs.Open.{firstClosed}
+use Rattle.blocked.specs.Few.{fewRules}
 use Rattle.blocked.specs.declared.Blocking.{Blocking}
 use Rattle.blocked.specs.declared.Blocking.the-variants as blocking
+use Rattle.blocked.specs.declared.Causes.{Causes}
+use Rattle.blocked.specs.declared.Causes.the-variants as causes
 
 -- the refusal's number
 abbrev pub ruleForbids : ℕ
@@ -43,3 +47,12 @@ blockingOf (shown p) = closedAnswer p
 
 unfoldable pub blockedAnswer : (book : Book) (r : ℕ) → Blocking
 blockedAnswer book r = answered (blockedTests book r) blocking.Refused (blockingOf (firstClosed book r))
+
+-- "An unblocked rule gets that reply and no mask."
+unfoldable pub causesOf : (book : Book) (r : ℕ) → First Pair → Causes
+causesOf book r none = causes.Unblocked
+causesOf book r (shown p) = causes.Few (fewRules book r p)
+
+-- "The refusals are N1's." "For the user and association of N1"
+unfoldable pub culpritsAnswer : (book : Book) (r : ℕ) → Causes
+culpritsAnswer book r = answered (blockedTests book r) causes.Refused (causesOf book r (firstClosed book r))

@@ -3,7 +3,7 @@
 use Prim.Native.Nat.{ℕ, _<_}
 use mathlib.Core.Path.{_≡_}
 use mathlib.Core.Logic.{_⊎_}
-use mathlib.Core.Bool.{true}
+use mathlib.Core.Bool.{Bool, true}
 use mathlib.Core.List.{List, map}
 use Rattle.book.specs.Lists.{all}
 use Rattle.book.specs.Blocks.{Book, Head, Rule, headOf, ruleAt, ruleCount}
@@ -33,21 +33,28 @@ pub record Chooses (head : Head) (association : List Datum) (choice : List Acces
   pub to : map datumOf choice ≡ association
   pub had : all (canBeHad head) choice ≡ true
 
--- some rule of the book is broken by a user and the accesses chosen
-abbrev pub SomeBroken : (book : Book) (user : ℕ) (choice : List Access) → Type 0
-SomeBroken book user choice =
-    (q : ℕ) × (q < ruleCount book) × (breaks (headOf book) (ruleAt book q) user (members choice) ≡ true)
+-- some rule of the book that counts is broken by a user and the accesses chosen
+abbrev pub SomeBroken : (book : Book) (rules : ℕ → Bool) (user : ℕ) (choice : List Access) → Type 0
+SomeBroken book rules user choice =
+    (q : ℕ)
+    × (q < ruleCount book)
+    × (rules q ≡ true)
+    × (breaks (headOf book) (ruleAt book q) user (members choice) ≡ true)
 
--- "admit[s] no choice of operations under which no rule is broken". Source document 001, definition 4.8: the book is
--- inconsistent with regard to the rule asked about when a user and an associated data access of its scope are
--- inaccessible under all rules, the asking one among them; that rule is the seed rule, and as there it does not forbid.
--- Other than there, a user is a leaf, a datum is a leaf that some column carries, an operation has to be one that can
--- be had, and a choice has one access for each reference.
-abbrev pub Closed : Book → Pair → Type 0
-Closed book p =
+-- "admit[s] no choice of operations under which no rule is broken", of the rules that count
+abbrev pub ClosedUnder : Book → (rules : ℕ → Bool) → Pair → Type 0
+ClosedUnder book rules p =
     (choice : List Access)
     → Chooses (headOf book) (p .association) choice
-    → SomeBroken book (p .user) choice
+    → SomeBroken book rules (p .user) choice
+
+-- Every rule of the book counts. Source document 001, definition 4.8: the book is inconsistent with regard to the rule
+-- asked about when a user and an associated data access of its scope are inaccessible under all rules, the asking one
+-- among them; that rule is the seed rule, and as there it does not forbid. Other than there, a user is a leaf, a datum
+-- is a leaf that some column carries, an operation has to be one that can be had, and a choice has one access for each
+-- reference.
+abbrev pub Closed : Book → Pair → Type 0
+Closed book = ClosedUnder book (λ q. true)
 
 -- what is promised of a user and an association that are given
 pub record ClosedFirst (book : Book) (r : ℕ) (p : Pair) : Type 0 where

@@ -3,4 +3,6 @@ pub mod Cells
 pub mod Pairs
 pub mod Rows
 pub mod Users
+pub mod Few
 pub mod First
+pub mod Start

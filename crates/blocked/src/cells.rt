@@ -54,3 +54,15 @@ pub fn less_cell(set: [u64; 33], c: usize) -> [u64; 33]
     rest[c / 4] = set[c / 4] & !(65535u64 << (16 * (c % 4)));
     rest
 }
+
+// The places of cell c in a set.
+pub fn only_cell(set: [u64; 33], c: usize) -> [u64; 33]
+    ensures { λ r. ⌜ (c < pastCells → PlacesOf (λ p. inPlaces set p && eqb (p / 16) c) r) ⌝ }
+{
+    let mut rest = [0u64; 33];
+    if PAST_CELLS <= c {
+        return rest;
+    }
+    rest[c / 4] = set[c / 4] & (65535u64 << (16 * (c % 4)));
+    rest
+}

@@ -69,7 +69,7 @@ pub struct Asked {
 }
 
 // The rules that cover user u.
-fn covering(covered: [u64; 32], u: u8) -> u64
+pub fn covering(covered: [u64; 32], u: u8) -> u64
     ensures { λ w. ⌜ ((q : ℕ) → has w q ≡ (ltb q 32 && coveringRules covered u q)) ⌝ }
 {
     let mut found = 0u64;

@@ -29,6 +29,9 @@ unfolding wordOf
 wordOf-end f [] n = omega arith
 wordOf-end f (x ∷ s) n = rw (wordOf-end f s n) (omega arith)
 
+pub word-more : (f : ℕ → Bool) (n : ℕ) → wordOf f (upTo (suc n)) ≡ wordOf f (upTo n) + cond (f n) (2 ^ n) 0
+word-more f n = ap (wordOf f) (upTo-more n) ∙ wordOf-end f (upTo n) n
+
 -- the sum that adds bit n, as a union
 plus-bit : (b : Bool) (n word : ℕ) → word < 2 ^ n → word + cond b (2 ^ n) 0 ≡ bitOr (cond b (2 ^ n) 0) word
 plus-bit true n word h =
@@ -60,15 +63,12 @@ unfolding wordOf upTo from
 word-of f zero = (pow-pos 0, λ d. rw (has-zero d, le-ltb d 0 (omega arith)))
 word-of f (suc n) = step (word-of f n)
   where
-    sum : wordOf f (from 0 (suc n)) ≡ wordOf f (from 0 n) + cond (f n) (2 ^ n) 0
-    sum = ap (wordOf f) (upTo-more n) ∙ wordOf-end f (from 0 n) n
-
     step :
         (wordOf f (from 0 n) < 2 ^ n) × ((d : ℕ) → has (wordOf f (from 0 n)) d ≡ (ltb d n && f d)) →
         (wordOf f (from 0 (suc n)) < 2 ^ suc n) × ((d : ℕ) → has (wordOf f (from 0 (suc n))) d ≡ (ltb d (suc n) && f d))
     step old =
         let e : wordOf f (from 0 (suc n)) ≡ bitOr (cond (f n) (2 ^ n) 0) (wordOf f (from 0 n)) =
-        sum ∙ plus-bit (f n) n (wordOf f (from 0 n)) (old .0) in (
+        word-more f n ∙ plus-bit (f n) n (wordOf f (from 0 n)) (old .0) in (
           rw e
               (or-lt (suc n) (cond (f n) (2 ^ n) 0) (wordOf f (from 0 n)) (bit-fits (f n) n)
               (lt-trans (old .0) (pow-lt {i = n} {j = suc n} (omega arith)))),

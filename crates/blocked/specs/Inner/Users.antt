@@ -19,6 +19,10 @@ use Rattle.blocked.specs.declared.users.Denied.the-variants.{Nobody, Use
 abbrev pub coveringRules : List ℕ → ℕ → ℕ → Bool
 coveringRules covered u q = coversIn covered q u
 
+-- those of them that count
+abbrev pub countingRules : (ℕ → Bool) → List ℕ → ℕ → ℕ → Bool
+countingRules rules covered u q = rules q && coveringRules covered u q
+
 -- the rules that cover each user, if r is one of them
 abbrev pub OwnRules : ℕ → List ℕ → List ℕ → Type 0
 OwnRules r covered own =
