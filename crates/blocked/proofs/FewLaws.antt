@@ -1,7 +1,7 @@
 -- N6: the rules that are left when the others have been tried leave the association closed with the asking rule, none
 -- of them can be spared, and their mask is the least; what Culprits answers says so. Assumes nothing.
 use Prim.Native.Nat.{ℕ, _%_, _^_, _≤_, _<_}
-use native.Mathlib.Nat.{le-trans, lt-of-le-of-lt}
+use native.Mathlib.Nat.{le-trans, lt-of-le-of-lt, lt-of-lt-of-le}
 use native.Mathlib.Omega.{arith}
 use mathlib.Core.Path.{_≡_, refl, sym, ap, subst, fun-ext, _∙_}
 use mathlib.Core.Logic.{⊎-elim}
@@ -9,6 +9,7 @@ use mathlib.Core.Bool.{Bool, true, false, _&&_, _||_, not, false≢true}
 use mathlib.Core.List.{List}
 use lib.Bits.{bitAnd, and-le-l, and-le-r}
 use lib.Dec.{eqb, ltb}
+use lib.Pow.{pow-mono}
 use borrow.Author.Tests.{eq-eqb, eqb-false, lt-ltb, le-ltb, ltb-true, ne-eqb}
 use Rattle.book.specs.Lists.{upTo}
 use Rattle.book.specs.Sets.{has}
@@ -16,6 +17,7 @@ use Rattle.book.specs.Blocks.{ruleCount}
 use Rattle.book.specs.Refusals.{BookAccepted}
 use Rattle.book.specs.Tests.{Passes, firstFailing}
 use Rattle.book.specs.declared.Refusal.{Refusal}
+use Rattle.book.specs.declared.Tested.{Tested}
 use Rattle.book.specs.declared.Tested.the-variants as tested
 use Rattle.book.proofs.Answers.{answered-passed, answered-refused}
 use Rattle.book.proofs.Lists.{and-both, and-false, and-left, and-right, and-second, and-true, or-either, or-left, or-right}
@@ -199,6 +201,14 @@ module _ (book : List ℕ) (r : ℕ) where
   culprits-refused x h =
       sym (answered-refused (blockedTests book r) causes.Refused (causesOf book r (firstClosed book r)) x h)
 
+  -- an answer that is no refusal was given to an accepted call
+  pub culprits-given : ((x : Refusal) → culpritsAnswer book r ≡ causes.Refused x → ⊥) → BlockedAccepted book r
+  culprits-given told = go (firstFailing (blockedTests book r)) refl
+    where
+      go : (f : Tested) → firstFailing (blockedTests book r) ≡ f → BlockedAccepted book r
+      go tested.Passed e = blocked-accepted book r e
+      go (tested.Refused x) e = absurd (told x (sym (culprits-refused x e)))
+
   -- the rule by its number
   pub culprits-told :
       (answer : Causes)
@@ -255,6 +265,36 @@ caused book r given =
               let here : p ≡ q = one-named book r p q given (first .scope) within (sym told ∙ other) in
               rw (← same, ← here) behind;
         }
+
+-- a mask that is given has 32 bits, and the asking rule's is clear
+pub culprits-mask :
+    (book : List ℕ) (r mask : ℕ)
+    → culpritsAnswer book r ≡ causes.Few mask
+    → BlockedAccepted book r × (r < 32) × (mask < 2 ^ 32) × (has mask r ≡ false)
+unfolding causesOf
+culprits-mask book r mask h =
+    let given = culprits-given book r (λ x e. refused x (sym h ∙ e)) in
+    let few : ruleCount book ≤ 32 = few-rules book (given .book-accepted) in
+    let l : r < ruleCount book = given .rule-there in
+    let told = go given few (firstClosed book r) (sym (culprits-answer book r (blocked-passes book r given)) ∙ h) in
+    (given, omega arith, told .0, told .1)
+  where
+    refused : (x : Refusal) → causes.Few mask ≡ causes.Refused x → ⊥
+    refused x e = let z : _≡_ {A = ℕ} 0 1 = cc in omega arith
+
+    go :
+        BlockedAccepted book r
+        → ruleCount book ≤ 32
+        → (f : First Pair)
+        → causesOf book r f ≡ causes.Few mask
+        → (mask < 2 ^ 32) × (has mask r ≡ false)
+    go given few none e = let z : _≡_ {A = ℕ} 0 1 = cc in absurd (omega arith)
+    go given few (shown p) e =
+        let accepted = given .book-accepted in
+        let same : fewRules book r p ≡ mask = cc in (
+          rw (← same) (lt-of-lt-of-le (few-small book accepted r p) (pow-mono few)),
+          rw (← same) (asking-clear book accepted r p),
+        )
 
 -- an answer by the definition keeps it
 pub culprits-promises :

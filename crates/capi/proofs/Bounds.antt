@@ -37,7 +37,9 @@ use Rattle.search.specs.declared.Idleness.the-variants as idleness
 use Rattle.blocked.specs.Associations.{Pair}
 use Rattle.blocked.specs.Open.{firstClosed}
 use Rattle.blocked.specs.Answers.{forbidTests, blockedTests, closedAnswer, blockingOf, blockedAnswer}
+use Rattle.blocked.specs.Answers.{causesOf, culpritsAnswer}
 use Rattle.blocked.specs.declared.Blocking.the-variants as blocking
+use Rattle.blocked.specs.declared.Causes.the-variants as causes
 
 -- a refusal that fits one byte for its number and one for its place
 pub record Small (x : Refusal) : Type 0 where
@@ -182,7 +184,7 @@ plan-bounded head plan =
     flat-bounded (rowTests head plan) (rowCount plan)
     (λ i l. last-bounded _ _ _ (omega arith) (omega arith) (omega (arith, short .1))))
 
--- The seven calls
+-- The eight calls
 
 -- an answer is a refusal only where a test refuses
 refused-small :
@@ -223,6 +225,12 @@ pub never-refused : (f : First Pair) (x : Refusal) → blockingOf f ≡ blocking
 unfolding blockingOf closedAnswer
 never-refused none x e = let z : _≡_ {A = ℕ} 0 1 = cc in omega arith
 never-refused (shown p) x e = let z : _≡_ {A = ℕ} 0 1 = cc in omega arith
+
+pub no-cause-refused :
+    (book : List ℕ) (r : ℕ) (f : First Pair) (x : Refusal) → causesOf book r f ≡ causes.Refused x → ⊥
+unfolding causesOf
+no-cause-refused book r none x e = let z : _≡_ {A = ℕ} 0 1 = cc in omega arith
+no-cause-refused book r (shown p) x e = let z : _≡_ {A = ℕ} 0 1 = cc in omega arith
 
 module _ (book : List ℕ) where
   pub flows-small : (plan words : List ℕ) (x : Refusal) → flowsAnswer book plan words ≡ flowed.Refused x → Small x
@@ -279,12 +287,22 @@ module _ (book : List ℕ) where
       (λ e. last-bounded _ _ _ (omega arith) (omega arith) (omega arith)))
       (λ e. last-bounded _ _ _ (omega arith) (omega arith) (omega arith)))
 
-  pub blocked-small : (r : ℕ) (x : Refusal) → blockedAnswer book r ≡ blocking.Refused x → Small x
-  unfolding blockedAnswer blockedTests ruleTests forbidTests
-  blocked-small r =
-      refused-small (blockedTests book r) blocking.Refused (blockingOf (firstClosed book r)) (λ x y e. cc)
-      (never-refused (firstClosed book r))
-      (append-bounded (bookTests book ++ ruleTests book r) (forbidTests (ruleAt book r))
+  blocked-bounded : (r : ℕ) → Bounded (blockedTests book r)
+  unfolding blockedTests ruleTests forbidTests
+  blocked-bounded r =
+      append-bounded (bookTests book ++ ruleTests book r) (forbidTests (ruleAt book r))
       (append-bounded (bookTests book) (ruleTests book r) (book-bounded book)
       (λ e. last-bounded _ _ _ (omega arith) (omega arith) (omega arith)))
-      (λ e. last-bounded _ _ _ (omega arith) (omega arith) (omega arith)))
+      (λ e. last-bounded _ _ _ (omega arith) (omega arith) (omega arith))
+
+  pub blocked-small : (r : ℕ) (x : Refusal) → blockedAnswer book r ≡ blocking.Refused x → Small x
+  unfolding blockedAnswer
+  blocked-small r =
+      refused-small (blockedTests book r) blocking.Refused (blockingOf (firstClosed book r)) (λ x y e. cc)
+      (never-refused (firstClosed book r)) (blocked-bounded r)
+
+  pub culprits-small : (r : ℕ) (x : Refusal) → culpritsAnswer book r ≡ causes.Refused x → Small x
+  unfolding culpritsAnswer
+  culprits-small r =
+      refused-small (blockedTests book r) causes.Refused (causesOf book r (firstClosed book r)) (λ x y e. cc)
+      (no-cause-refused book r (firstClosed book r)) (blocked-bounded r)

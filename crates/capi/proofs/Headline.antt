@@ -1,9 +1,10 @@
--- What the numbers of pspec_judge, pspec_idle, pspec_blocked and pspec_submit say: the demands, over the packed answer.
--- Assumes nothing.
-use Prim.Native.Nat.{ℕ, _+_, _*_, _/_, _%_, _≤_}
+-- What the numbers of pspec_judge, pspec_idle, pspec_blocked, pspec_culprits and pspec_submit say: the demands, over the
+-- packed answer. Assumes nothing.
+use Prim.Native.Nat.{ℕ, _+_, _*_, _/_, _%_, _^_, _≤_, _<_}
 use native.Mathlib.Omega.{arith}
-use mathlib.Core.Path.{_≡_, refl, sym, subst, _∙_}
+use mathlib.Core.Path.{_≡_, refl, sym, ap, subst, _∙_}
 use mathlib.Core.List.{List}
+use lib.Pow.{pow-pos}
 use Rattle.book.specs.Blocks.{headOf}
 use Rattle.book.specs.Tests.{firstFailing}
 use Rattle.book.specs.declared.Refusal.{Refusal}
@@ -37,16 +38,21 @@ use Rattle.search.proofs.DemandLaws.{demand, idle-answer}
 use Rattle.search.proofs.IdleLaws.{idle-accepted, idle-refused, idle-told}
 use Rattle.blocked.specs.Associations.{Pair}
 use Rattle.blocked.specs.Open.{firstClosed}
-use Rattle.blocked.specs.Answers.{closedAnswer, blockedAnswer}
+use Rattle.blocked.specs.Answers.{closedAnswer, blockedAnswer, culpritsAnswer}
 use Rattle.blocked.specs.Demand.{BlockedAccepted}
+use Rattle.blocked.specs.Minimal.{Behind}
 use Rattle.blocked.specs.declared.Blocking.{Blocking}
 use Rattle.blocked.specs.declared.Blocking.the-variants as blocking
+use Rattle.blocked.specs.declared.Causes.{Causes}
+use Rattle.blocked.specs.declared.Causes.the-variants as causes
 use Rattle.blocked.proofs.DemandLaws as blocked
+use Rattle.blocked.proofs.FewLaws as few
 use Rattle.capi.specs.Packing.{packed, refusalPacked, judgePacked, idlePacked, blockedPacked}
-use Rattle.capi.specs.Packing.{submitPacked}
-use Rattle.capi.specs.Demands.{JudgeSays, IdleSays, BlockedParts, BlockedSays, SubmitSays}
-use Rattle.capi.proofs.Bounds.{Small, judge-small, idle-small, blocked-small, submit-small}
-use Rattle.capi.proofs.Bounds.{no-refusal, never-refused}
+use Rattle.capi.specs.Packing.{culpritsPacked, submitPacked}
+use Rattle.capi.specs.Demands.{JudgeSays, IdleSays, BlockedParts, BlockedSays, CulpritsSays, SubmitSays}
+use Rattle.capi.proofs.Bounds.{Small, judge-small, idle-small, blocked-small, culprits-small, submit-small}
+use Rattle.capi.proofs.Bounds.{no-cause-refused, no-refusal, never-refused}
+use Rattle.capi.proofs.Masks.{asking-bits, asking-fits, asking-some}
 use Rattle.capi.proofs.Unpacking.{Bytes, judge-mask, idle-parts, blocked-bytes}
 
 -- a refusal's number is past every value
@@ -248,6 +254,91 @@ module _ (book : List ℕ) (r : ℕ) where
             none-zero = λ g n. absurd (tells g x h);
             shows = λ some low. absurd (omega arith);
             named = λ p within parts some low. absurd (omega arith);
+          }
+
+-- Culprits
+
+module _ (book : List ℕ) (r : ℕ) where
+  -- a pair that the number of Blocked is read as is Blocked's answer
+  reads :
+      (p : Pair)
+      → BlockedAccepted book r
+      → (blockedAnswer book r ≡ blocking.Open → ⊥)
+      → BlockedParts (blockedPacked (blockedAnswer book r)) p
+      → blockedAnswer book r ≡ closedAnswer p
+  unfolding blockedPacked packed
+  reads p given closed = go (blockedAnswer book r) refl
+    where
+      go : (a : Blocking) → blockedAnswer book r ≡ a → BlockedParts (blockedPacked a) p → a ≡ closedAnswer p
+      go blocking.Open h parts = absurd (closed h)
+      go (blocking.Closed user first second third) h parts =
+          of-parts (blockedPacked (blocking.Closed user first second third)) user first second third (omega arith)
+          (blocked-bytes book r user first second third h) p parts
+      go (blocking.Refused x) h parts = absurd (tells book r given x h)
+
+  same-few : (a b : ℕ) → causes.Few a ≡ causes.Few b → a ≡ b
+  same-few a b e = cc
+
+  tells-causes : BlockedAccepted book r → (x : Refusal) → culpritsAnswer book r ≡ causes.Refused x → ⊥
+  tells-causes given x h =
+      no-cause-refused book r (firstClosed book r) x
+      (sym (few.culprits-answer book r (blocked.blocked-passes book r given)) ∙ h)
+
+  pub culprits-says : (answer : ℕ) → answer ≡ culpritsPacked r (culpritsAnswer book r) → CulpritsSays book r answer
+  unfolding culpritsPacked packed
+  culprits-says answer same = go (culpritsAnswer book r) refl
+    where
+      go : (a : Causes) → culpritsAnswer book r ≡ a → CulpritsSays book r answer
+      go causes.Unblocked h =
+          let e : answer ≡ 0 = same ∙ rw h (omega arith) in
+          let given =
+          few.culprits-given book r (λ x f. let k = sym h ∙ f in let z : _≡_ {A = ℕ} 0 1 = cc in omega arith) in
+          record {
+            accepted = λ l. given;
+            accepts = λ g. omega arith;
+            zero-none = λ z. few.caused book r given .unblocked-none h;
+            none-zero = λ g n. e;
+            shows = λ some low. absurd (omega arith);
+            named = λ p mask within parts f low. let some = pow-pos r in absurd (omega arith);
+          }
+      go (causes.Few mask) h =
+          let e : answer ≡ mask + 2 ^ r = same ∙ rw h (omega arith) in
+          let m = few.culprits-mask book r mask h in
+          let given = m .0 in
+          let holds = few.caused book r given in
+          let closed : culpritsAnswer book r ≡ causes.Unblocked → ⊥ =
+          λ f. let k = sym h ∙ f in let z : _≡_ {A = ℕ} 0 1 = cc in omega arith in
+          let fits : answer < 4294967296 = rw e (asking-fits mask r (m .2) (m .1) (m .3)) in
+          let some : 0 < answer = rw e (asking-some mask r (m .2) (m .1) (m .3)) in
+          let told = holds .otherwise closed in
+          let same-mask : told .1 ≡ mask = same-few (told .1) mask (sym (told .2) ∙ h) in
+          record {
+            accepted = λ l. given;
+            accepts = λ g. fits;
+            zero-none = λ z. absurd (omega arith);
+            none-zero = λ g n. absurd (closed (holds .none-unblocked n));
+            shows = λ there low. (
+              told .0,
+              mask,
+              record { value = e; bits = λ q. rw e (asking-bits mask r (m .2) (m .1) (m .3) q) },
+              subst (Behind book r (told .0)) same-mask (told .3),
+            );
+            named = λ p other within parts f low.
+                let same : mask ≡ other = omega arith in
+                holds .named p other within
+                (reads p given (λ f. closed (holds .none-unblocked (blocked.demand book r given .open-none f))) parts)
+                (h ∙ ap causes.Few same);
+          }
+      go (causes.Refused x) h =
+          let e : answer ≡ refusalPacked x = same ∙ rw h in
+          let past = refusal-past x (culprits-small book r x h) in
+          record {
+            accepted = λ l. absurd (omega arith);
+            accepts = λ g. absurd (tells-causes g x h);
+            zero-none = λ z. absurd (omega arith);
+            none-zero = λ g n. absurd (tells-causes g x h);
+            shows = λ some low. absurd (omega arith);
+            named = λ p mask within parts f low. absurd (omega arith);
           }
 
 -- Submit

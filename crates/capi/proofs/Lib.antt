@@ -1,4 +1,5 @@
 pub mod Bounds
+pub mod Masks
 pub mod PackedLaws
 pub mod Unpacking
 pub mod Headline

@@ -1,11 +1,13 @@
 -- Each call's number is its answer, packed: a refusal by its two bytes (`Bounds`), any other answer by its value.
 -- Assumes nothing.
-use Prim.Native.Nat.{ℕ, _+_, _*_, _%_, _<_}
+use Prim.Native.Nat.{ℕ, _+_, _*_, _%_, _^_, _<_}
 use native.Mathlib.Omega.{arith}
 use mathlib.Core.Path.{_≡_, sym, _∙_}
 use mathlib.Core.List.{List}
+use lib.Bits.{bitOr, or-comm}
 use Rattle.book.specs.Answers.{checkAnswer, sealAnswer}
 use Rattle.book.specs.declared.Refusal.{Refusal}
+use Rattle.book.proofs.Members.{single-shift}
 use Rattle.book.specs.declared.Checked.{Checked}
 use Rattle.book.specs.declared.Checked.the-variants as checked
 use Rattle.book.specs.declared.Sealed.{Sealed}
@@ -23,13 +25,17 @@ use Rattle.ledger.specs.declared.Submitted.the-variants as submitted
 use Rattle.search.specs.Answers.{idleAnswer}
 use Rattle.search.specs.declared.Idleness.{Idleness}
 use Rattle.search.specs.declared.Idleness.the-variants as idleness
-use Rattle.blocked.specs.Answers.{blockedAnswer}
+use Rattle.blocked.specs.Answers.{blockedAnswer, culpritsAnswer}
 use Rattle.blocked.specs.declared.Blocking.{Blocking}
 use Rattle.blocked.specs.declared.Blocking.the-variants as blocking
+use Rattle.blocked.specs.declared.Causes.{Causes}
+use Rattle.blocked.specs.declared.Causes.the-variants as causes
+use Rattle.blocked.proofs.FewLaws.{culprits-mask}
 use Rattle.capi.specs.Packing.{packed, refusalPacked, checkPacked, sealPacked, flowsPacked, judgePacked}
-use Rattle.capi.specs.Packing.{idlePacked, blockedPacked, submitPacked}
+use Rattle.capi.specs.Packing.{idlePacked, blockedPacked, culpritsPacked, submitPacked}
 use Rattle.capi.proofs.Bounds.{Small, check-small, seal-small, flows-small, judge-small, idle-small}
-use Rattle.capi.proofs.Bounds.{blocked-small, submit-small}
+use Rattle.capi.proofs.Bounds.{blocked-small, culprits-small, submit-small}
+use Rattle.capi.proofs.Masks.{both}
 
 -- below 256 a number is its last byte
 pub refusal-packed :
@@ -116,6 +122,32 @@ module _ (book : List ℕ) (rule : ℕ) (a : Blocking) (same : a ≡ blockedAnsw
       → 16777216 * user + first + 256 * second + 65536 * third ≡ blockedPacked (blockedAnswer book rule)
   unfolding blockedPacked packed
   blocked-closed user first second third e = rw (sym same ∙ e) (omega arith)
+
+module _ (book : List ℕ) (rule : ℕ) (a : Causes) (same : a ≡ culpritsAnswer book rule) where
+  pub culprits-refused :
+      (x : Refusal) (r : ℕ) → a ≡ causes.Refused x → Packs r x → r ≡ culpritsPacked rule (culpritsAnswer book rule)
+  unfolding culpritsPacked
+  culprits-refused x r e p = let h = sym same ∙ e in rw h (small-packs r x (culprits-small book rule x h) p)
+
+  pub culprits-unblocked : a ≡ causes.Unblocked → 0 ≡ culpritsPacked rule (culpritsAnswer book rule)
+  unfolding culpritsPacked packed
+  culprits-unblocked e = rw (sym same ∙ e) (omega arith)
+
+  -- the code's `mask | (1 << (rule % 32))`
+  pub culprits-few :
+      (mask : ℕ)
+      → a ≡ causes.Few mask
+      → bitOr mask ((1 * 2 ^ (rule % 32)) % 2 ^ 64) ≡ culpritsPacked rule (culpritsAnswer book rule)
+  unfolding culpritsPacked packed
+  culprits-few mask e =
+      let h = sym same ∙ e in
+      let m = culprits-mask book rule mask h in
+      let low : rule < 32 = m .1 in
+      let number : rule % 32 ≡ rule = omega arith in
+      let bit : (1 * 2 ^ rule) % 2 ^ 64 ≡ 2 ^ rule = single-shift 64 rule (omega arith) in
+      let sum : bitOr mask (2 ^ rule) ≡ mask + 2 ^ rule =
+      or-comm mask (2 ^ rule) ∙ sym (both mask rule (m .2) low (m .3)) in
+      rw (h, number, bit, sum) (omega arith)
 
 module _
     (book : List ℕ)

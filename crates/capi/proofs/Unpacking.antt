@@ -1,12 +1,13 @@
 -- A call's number can be taken apart again: the refusal's number, its place and the value are the answer's own, so two
 -- different answers are never one number. Assumes nothing.
-use Prim.Native.Nat.{ℕ, zero, suc, _+_, _*_, _/_, _%_, _≤_, _<_}
+use Prim.Native.Nat.{ℕ, zero, suc, _+_, _*_, _/_, _%_, _^_, _≤_, _<_}
 use native.Mathlib.Omega.{arith}
 use mathlib.Core.Path.{_≡_, refl, sym, _∙_}
 use mathlib.Core.Bool.{Bool, true, false, cond, false≢true}
 use mathlib.Core.List.{List, [], _∷_, _++_}
 use lib.ListN.{length, length-append}
 use lib.Dec.{eqb}
+use Rattle.book.specs.Sets.{has}
 use Rattle.book.specs.Blocks.{headOf, ruleAt, ruleCount}
 use Rattle.book.specs.Head.{dataCount, userCount}
 use Rattle.book.specs.Rule.{referenceCount}
@@ -43,15 +44,19 @@ use Rattle.search.proofs.IdleLaws.{idle-told}
 use Rattle.search.proofs.Orders.{shown-alone}
 use Rattle.search.proofs.ShownPlans.{shown-few}
 use Rattle.blocked.specs.Associations.{Datum, Pair, inScopeAt, isAssociation, isAssociationFrom}
-use Rattle.blocked.specs.Answers.{datumByte, closedAnswer, blockedAnswer}
+use Rattle.blocked.specs.Few.{withAsking}
+use Rattle.blocked.specs.Answers.{datumByte, closedAnswer, blockedAnswer, culpritsAnswer}
 use Rattle.blocked.specs.Demand.{InScope}
 use Rattle.blocked.specs.declared.Blocking.the-variants as blocking
+use Rattle.blocked.specs.declared.Causes.the-variants as causes
 use Rattle.blocked.proofs.DemandLaws.{blocked-told, demand}
 use Rattle.blocked.proofs.ScopeLaws.{covers-user, datum-bounds}
+use Rattle.blocked.proofs.FewLaws.{culprits-mask}
 use Rattle.capi.specs.Packing.{packed, refusalPacked, checkPacked, sealPacked, flowsPacked, judgePacked}
-use Rattle.capi.specs.Packing.{idlePacked, blockedPacked, submitPacked}
+use Rattle.capi.specs.Packing.{idlePacked, blockedPacked, culpritsPacked, submitPacked}
 use Rattle.capi.proofs.Bounds.{Small, check-small, seal-small, flows-small, judge-small, idle-small}
-use Rattle.capi.proofs.Bounds.{blocked-small, submit-small}
+use Rattle.capi.proofs.Bounds.{blocked-small, culprits-small, submit-small}
+use Rattle.capi.proofs.Masks.{asking-bits, asking-fits, asking-some}
 
 -- what is taken out of r: the bits from 40 on, the 8 bits from 32 on, the low 32 bits
 pub record Parts (r number place value : ℕ) : Type 0 where
@@ -113,6 +118,13 @@ module _ (x : Refusal) where
       → Refuses (blockedPacked (blockedAnswer book r)) x
   unfolding blockedPacked
   blocked-refused-parts book r h = rw h (refusal-parts x (blocked-small book r x h))
+
+  pub culprits-refused-parts :
+      (book : List ℕ) (r : ℕ)
+      → culpritsAnswer book r ≡ causes.Refused x
+      → Refuses (culpritsPacked r (culpritsAnswer book r)) x
+  unfolding culpritsPacked
+  culprits-refused-parts book r h = rw h (refusal-parts x (culprits-small book r x h))
 
   pub submit-refused-parts :
       (book : List ℕ) (user : ℕ) (plan ledger : List ℕ) (tally : Tally)
@@ -294,6 +306,22 @@ unfolding blockedPacked
 blocked-parts book r user first second third h =
     let b = blocked-bytes book r user first second third h in
     (rw h (packed-parts 0 0 (16777216 * user + first + 256 * second + 65536 * third) (omega arith) (omega arith)), b)
+
+-- Culprits: the rules have 32 bits, and the asking one is among them, so that r is not unblocked's 0
+
+pub culprits-parts :
+    (book : List ℕ) (r mask : ℕ)
+    → culpritsAnswer book r ≡ causes.Few mask
+    → Parts (culpritsPacked r (culpritsAnswer book r)) 0 0 (mask + 2 ^ r)
+    × (0 < mask + 2 ^ r)
+    × ((q : ℕ) → has (mask + 2 ^ r) q ≡ withAsking r (has mask) q)
+unfolding culpritsPacked
+culprits-parts book r mask h =
+    let m = culprits-mask book r mask h in (
+      rw h (packed-parts 0 0 (mask + 2 ^ r) (omega arith) (asking-fits mask r (m .2) (m .1) (m .3))),
+      asking-some mask r (m .2) (m .1) (m .3),
+      asking-bits mask r (m .2) (m .1) (m .3),
+    )
 
 -- Submit: the mask of a plan that is declined has 32 bits and is not 0, so that r is not admitted's 0
 

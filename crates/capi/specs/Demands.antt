@@ -1,10 +1,11 @@
--- What the numbers of pspec_judge, pspec_idle, pspec_blocked and pspec_submit say, for whoever calls the C library:
--- demands 2 and 3, N1 and N3 over the number itself. A number from 2^32 on is a refusal; below it, it is the value.
--- Assumes nothing.
-use Prim.Native.Nat.{ℕ, _+_, _/_, _%_, _≤_, _<_}
+-- What the numbers of pspec_judge, pspec_idle, pspec_blocked, pspec_culprits and pspec_submit say, for whoever calls the
+-- C library: demands 2 and 3, N1, N6 and N3 over the number itself. A number from 2^32 on is a refusal; below it, it is
+-- the value. Assumes nothing.
+use Prim.Native.Nat.{ℕ, _+_, _/_, _%_, _^_, _≤_, _<_}
 use mathlib.Core.Path.{_≡_}
 use mathlib.Core.List.{List}
 use lib.ListN.{getD}
+use Rattle.book.specs.Sets.{has}
 use Rattle.book.specs.Blocks.{Book, headOf, ruleAt}
 use Rattle.lineage.specs.Rows.{Plan}
 use Rattle.verdicts.specs.Accesses.{Access, accessesOf}
@@ -16,8 +17,11 @@ use Rattle.ledger.specs.Demand.{SubmitAccepted, Continues}
 use Rattle.ledger.specs.declared.Tally.{Tally}
 use Rattle.search.specs.Demand.{IdleAccepted, NobodyAlone, ShownIn}
 use Rattle.blocked.specs.Associations.{Pair}
-use Rattle.blocked.specs.Answers.{datumByte}
+use Rattle.blocked.specs.Few.{withAsking}
+use Rattle.blocked.specs.Answers.{blockedAnswer, datumByte}
 use Rattle.blocked.specs.Demand.{BlockedAccepted, InScope, ClosedFirst, NoneClosed}
+use Rattle.blocked.specs.Minimal.{Behind}
+use Rattle.capi.specs.Packing.{blockedPacked}
 
 -- the least number that is a refusal
 abbrev pub refusals : ℕ
@@ -74,6 +78,33 @@ pub record BlockedSays (book : Book) (r : ℕ) (answer : ℕ) : Type 0 where
       → 0 < answer
       → answer < refusals
       → ClosedFirst book r p
+
+-- the number taken apart: bit r, and a mask that has it not
+pub record CulpritsParts (r answer mask : ℕ) : Type 0 where
+  pub value : answer ≡ mask + 2 ^ r
+  pub bits : (q : ℕ) → has answer q ≡ withAsking r (has mask) q
+
+-- pspec_culprits: the number is 0, or the rules that close it, the asking one among them
+pub record CulpritsSays (book : Book) (r : ℕ) (answer : ℕ) : Type 0 where
+  -- nothing is refused exactly when pspec_blocked refuses nothing
+  pub accepted : answer < refusals → BlockedAccepted book r
+  pub accepts : BlockedAccepted book r → answer < refusals
+  -- 0: every user and association of the rule's scope can be opened
+  pub zero-none : answer ≡ 0 → NoneClosed book r
+  pub none-zero : BlockedAccepted book r → NoneClosed book r → answer ≡ 0
+  -- any other value: for the first user and association that cannot, the few rules behind that
+  pub shows :
+      0 < answer
+      → answer < refusals
+      → (p : Pair) × (mask : ℕ) × CulpritsParts r answer mask × Behind book r p mask
+  -- whoever reads the number of pspec_blocked as a user and an association of the scope has those behind that pair
+  pub named :
+      (p : Pair) (mask : ℕ)
+      → InScope (headOf book) (ruleAt book r) p
+      → BlockedParts (blockedPacked (blockedAnswer book r)) p
+      → answer ≡ mask + 2 ^ r
+      → answer < refusals
+      → Behind book r p mask
 
 -- pspec_submit: the number is the mask of the union, 0 when the plan is admitted
 pub record SubmitSays

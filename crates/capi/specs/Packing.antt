@@ -1,6 +1,6 @@
 -- Each answer as one number: refusal number × 2^40 + place × 2^32 + value, the refusal 0 where nothing is refused and
 -- the value 0 where something is. Assumes nothing.
-use Prim.Native.Nat.{ℕ, _+_, _*_}
+use Prim.Native.Nat.{ℕ, _+_, _*_, _^_}
 use Rattle.book.specs.declared.Refusal.{Refusal}
 use Rattle.book.specs.declared.Checked.{Checked}
 use Rattle.book.specs.declared.Checked.the-variants as checked
@@ -16,6 +16,8 @@ use Rattle.search.specs.declared.Idleness.{Idleness}
 use Rattle.search.specs.declared.Idleness.the-variants as idleness
 use Rattle.blocked.specs.declared.Blocking.{Blocking}
 use Rattle.blocked.specs.declared.Blocking.the-variants as blocking
+use Rattle.blocked.specs.declared.Causes.{Causes}
+use Rattle.blocked.specs.declared.Causes.the-variants as causes
 
 unfoldable pub packed : ℕ → ℕ → ℕ → ℕ
 packed number place value = 1099511627776 * number + 4294967296 * place + value
@@ -55,6 +57,12 @@ blockedPacked blocking.Open = packed 0 0 0
 blockedPacked (blocking.Closed user first second third) =
     packed 0 0 (16777216 * user + first + 256 * second + 65536 * third)
 blockedPacked (blocking.Refused refusal) = refusalPacked refusal
+
+-- Culprits: 0 when unblocked, else the mask and 2^r: all rules that close it, the asking one among them
+unfoldable pub culpritsPacked : (r : ℕ) → Causes → ℕ
+culpritsPacked r causes.Unblocked = packed 0 0 0
+culpritsPacked r (causes.Few mask) = packed 0 0 (mask + 2 ^ r)
+culpritsPacked r (causes.Refused refusal) = refusalPacked refusal
 
 -- Submit: 0 when admitted, else the mask
 unfoldable pub submitPacked : Submitted → ℕ

@@ -1,9 +1,11 @@
-// The seven calls for C and Rust, each answer packed in one number (specs/Packing.antt). What the
-// numbers of Judge, Idle, Blocked and Submit mean is specs/Demands.antt. A slice is a pointer and a
-// length in elements, a record a pointer.
+// The eight calls for C and Rust, each answer packed in one number (specs/Packing.antt). What the
+// numbers of Judge, Idle, Blocked, Culprits and Submit mean is specs/Demands.antt. A slice is a pointer
+// and a length in elements, a record a pointer.
 // No call asks anything of the bytes or the numbers it is given.
 use blocked::Blocking;
+use blocked::Causes;
 use blocked::blocked;
+use blocked::culprits;
 use book::Checked;
 use book::Refusal;
 use book::Sealed;
@@ -25,10 +27,10 @@ ghost use Rattle.lineage.specs.Answers.{flowsAnswer, flowsWords};
 ghost use Rattle.verdicts.specs.Answers.{judgeAnswer};
 ghost use Rattle.ledger.specs.Answers.{submitAnswer, submitLedger, submitTally};
 ghost use Rattle.search.specs.Answers.{idleAnswer, idleBuffer};
-ghost use Rattle.blocked.specs.Answers.{blockedAnswer};
-ghost use Rattle.capi.specs.Demands.{BlockedSays, IdleSays, JudgeSays, SubmitSays};
-ghost use Rattle.capi.specs.Packing.{blockedPacked, checkPacked, flowsPacked, idlePacked, judgePacked};
-ghost use Rattle.capi.specs.Packing.{refusalPacked, sealPacked, submitPacked};
+ghost use Rattle.blocked.specs.Answers.{blockedAnswer, culpritsAnswer};
+ghost use Rattle.capi.specs.Demands.{BlockedSays, CulpritsSays, IdleSays, JudgeSays, SubmitSays};
+ghost use Rattle.capi.specs.Packing.{blockedPacked, checkPacked, culpritsPacked, flowsPacked, idlePacked};
+ghost use Rattle.capi.specs.Packing.{judgePacked, refusalPacked, sealPacked, submitPacked};
 
 // A refusal's number and place, above the value's 32 bits.
 fn packed(refusal: Refusal) -> u64
@@ -115,6 +117,18 @@ pub extern "C" fn pspec_blocked(book: &[u8], rule: u32) -> u64
             + first as u64
             + 256 * (second as u64)
             + 65536 * (third as u64),
+    }
+}
+
+#[no_mangle]
+pub extern "C" fn pspec_culprits(book: &[u8], rule: u32) -> u64
+    ensures { λ r. ⌜ (r ≡ culpritsPacked rule (culpritsAnswer (now (book .entry)) rule))
+        × CulpritsSays (now (book .entry)) rule r ⌝ }
+{
+    match culprits(book, rule) {
+        Causes::Refused(refusal) => packed(refusal),
+        Causes::Unblocked => 0,
+        Causes::Few(mask) => mask as u64 | (1u64 << (rule % 32)),
     }
 }
 
