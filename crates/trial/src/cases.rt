@@ -7,6 +7,7 @@ use crate::answers::malformed;
 use crate::answers::say;
 use crate::blocking;
 use crate::books::build;
+use crate::causing;
 use crate::checking;
 use crate::flowing;
 use crate::idling;
@@ -33,6 +34,7 @@ pub enum Call {
     Judge,
     Idle,
     Blocked,
+    Culprits,
     Submit,
     Readers,
 }
@@ -53,6 +55,7 @@ fn may_ask(call: Call, asked: Numbers) -> bool {
         Call::Judge => asked.within(1, 3),
         Call::Idle => asked.within(1, 4),
         Call::Blocked => asked.within(1, 2),
+        Call::Culprits => asked.within(1, 2),
         Call::Submit => asked.within(1, 4),
         Call::Readers => asked.within(1, 4),
     }
@@ -65,6 +68,7 @@ fn answered(call: Call, asked: Numbers, book: &[u8], plan: &[u8], records: &mut 
         Call::Judge => judging::answered(asked, book, plan),
         Call::Idle => idling::answered(asked, book),
         Call::Blocked => blocking::answered(asked, book),
+        Call::Culprits => causing::answered(asked, book),
         Call::Submit => submitting::answered(asked, book, plan, records),
         _ => reading::answered(asked, book),
     }

@@ -6,6 +6,7 @@ mod answers; // answers as text
 mod blocking; // Blocked
 mod books; // building books to try
 mod cases; // a file's lines
+mod causing; // Culprits
 mod checking; // Book check
 mod flowing; // Flows
 mod idling; // Idle
@@ -30,6 +31,7 @@ fn main() {
     try_file(Call::Judge, b"judge.cases");
     try_file(Call::Idle, b"idle.cases");
     try_file(Call::Blocked, b"blocked.cases");
+    try_file(Call::Culprits, b"culprits.cases");
     try_file(Call::Submit, b"submit.cases");
     try_file(Call::Readers, b"readers.cases");
 }
