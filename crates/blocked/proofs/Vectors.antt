@@ -1,5 +1,5 @@
--- Theorems about the definitions, by computation: what Blocked answers for each rule of the small shop, and of books
--- near it. Assumes nothing.
+-- Theorems about the definitions, by computation: what Blocked and Culprits answer for each rule of the small shop, and
+-- of books near it. Assumes nothing.
 use Prim.Native.Nat.{ℕ}
 use mathlib.Core.Path.{_≡_, refl, _∙_}
 use mathlib.Core.List.{List, [], _∷_, _++_, map}
@@ -22,9 +22,11 @@ use Rattle.book.specs.Tests.{firstFailing, refusedOr, answered}
 use Rattle.book.specs.Answers.{withCheck, sealBytes}
 use Rattle.book.specs.Inner.Testing.{orElse}
 use Rattle.book.specs.Shop.{padded, block, users, categories, columns, functions, rule, rule0, rule1, rule2, shop}
+use Rattle.book.specs.declared.Refusal.{Refusal}
 use Rattle.book.specs.declared.Tested.{Tested}
 use Rattle.book.specs.declared.Tested.the-variants.{Passed}
 use Rattle.book.proofs.Answers.{first-append}
+use Rattle.lineage.specs.Accesses.{wordOf}
 use Rattle.lineage.specs.Paths.{labels}
 use Rattle.verdicts.specs.Actions.{actionFits, channelFits}
 use Rattle.verdicts.specs.Accesses.{same, keep, everyAccess, fits, fitting}
@@ -34,15 +36,23 @@ use Rattle.search.specs.Alone.{firstIn}
 use Rattle.search.specs.Answers.{ruleTests}
 use Rattle.blocked.specs.Associations.{accessTo, inScopeAt, everyDatum, associations, scope}
 use Rattle.blocked.specs.Open.{operationChoices, someBroken, isClosedUnder, firstClosed}
+use Rattle.blocked.specs.Few.{withAsking, others, without, afterTrials, leavesClosed, fewLeft, fewRules}
 use Rattle.blocked.specs.Answers.{forbidTests, blockedTests, datumByte, closedAnswer, blockingOf, blockedAnswer}
+use Rattle.blocked.specs.Answers.{causesOf, culpritsAnswer}
 use Rattle.blocked.specs.declared.Blocking.{Blocking}
 use Rattle.blocked.specs.declared.Blocking.the-variants as blocking
+use Rattle.blocked.specs.declared.Causes.{Causes}
+use Rattle.blocked.specs.declared.Causes.the-variants as causes
 
 -- The rules
 
 -- "Report, access Price, [{sum}]"
 unfoldable pub sums : List ℕ
 sums = rule 1 1 (4 ∷ 3 ∷ []) [] [] (0 ∷ 4 ∷ [])
+
+-- Analyst, access Price, with one mask
+unfoldable pub prices : ℕ → List ℕ
+prices mask = rule 1 0 (4 ∷ 3 ∷ []) [] [] (0 ∷ mask ∷ [])
 
 -- Analyst, projection State, projection City, access Price, [none, none, {avg}]
 unfoldable pub three : List ℕ
@@ -77,51 +87,79 @@ states labels = near labels (4 ∷ 3 ∷ 0 ∷ 1 ∷ 2 ∷ []) (rule0 ++ forbids
 unfoldable pub no-avg : List ℕ
 no-avg = near (3 ∷ 4 ∷ 2 ∷ 3 ∷ 4 ∷ 255 ∷ []) (4 ∷ 2 ∷ 0 ∷ 2 ∷ []) rule1
 
-abbrev refused : ℕ → Blocking
-refused number = blocking.Refused (record { number = number; place = 0 })
+-- Price has three operations, of which each of three rules accepts two
+unfoldable pub threes : List ℕ
+threes =
+    users
+    ++ (block (2 ∷ 5 ∷ 0 ∷ 0 ∷ 0 ∷ 0 ∷ 0 ∷ 0 ∷ 1 ∷ 0 ∷ 0 ∷ 1 ∷ 0 ∷ 0 ∷ 0 ∷ 0 ∷ 14 ∷ [])
+    ++ (columns ++ (block (4 ∷ 3 ∷ 1 ∷ 2 ∷ 3 ∷ []) ++ (prices 6 ++ (prices 12 ++ prices 10)))))
+
+-- what both answer for a rule
+abbrev Both : Type 0
+Both = Blocking × Causes
+
+abbrev open-to-all : Both
+open-to-all = (blocking.Open, causes.Unblocked)
+
+abbrev refused : ℕ → Both
+refused number =
+    (blocking.Refused (record { number = number; place = 0 }), causes.Refused (record { number = number; place = 0 }))
+
+-- user, the bytes of the references, and the other rules
+abbrev closed : ℕ → ℕ → ℕ → ℕ → ℕ → Both
+closed user first second third others = (blocking.Closed user first second third, causes.Few others)
 
 -- a book, rules of it, and what is answered
-unfoldable pub cases : List (Book × List ℕ × List Blocking)
+unfoldable pub cases : List (Book × List ℕ × List Both)
 cases =
-    (shop, 0 ∷ 1 ∷ 2 ∷ 3 ∷ [], blocking.Open ∷ blocking.Open ∷ blocking.Open ∷ refused 24 ∷ [])
-    -- avg for one rule, sum for another: no operation on Price is left for Report
+    (shop, 0 ∷ 1 ∷ 2 ∷ 3 ∷ [], open-to-all ∷ open-to-all ∷ open-to-all ∷ refused 24 ∷ [])
+    -- avg for one rule, sum for another: no operation on Price is left for Report. Rule 0 takes both, so rules 1 and 3
+    -- are needed; rule 2 demands avg as rule 1 does, and is dropped
     ∷ (
       shop ++ sums,
       0 ∷ 1 ∷ 2 ∷ 3 ∷ 4 ∷ [],
-      blocking.Closed 1 130 132 0
-          ∷ blocking.Closed 1 132 0 0
-          ∷ blocking.Closed 1 130 132 0
-          ∷ blocking.Closed 1 132 0 0
-          ∷ refused 24
-          ∷ [],
+      closed 1 130 132 0 10 ∷ closed 1 132 0 0 8 ∷ closed 1 130 132 0 8 ∷ closed 1 132 0 0 2 ∷ refused 24 ∷ [],
     )
+    -- two rules that demand sum: the lower number stays
+    ∷ (
+      shop ++ (sums ++ sums),
+      0 ∷ 1 ∷ 3 ∷ 4 ∷ [],
+      closed 1 130 132 0 10 ∷ closed 1 132 0 0 8 ∷ closed 1 132 0 0 2 ∷ closed 1 132 0 0 2 ∷ [],
+    )
+    -- three needed together
+    ∷ (threes, 0 ∷ 1 ∷ 2 ∷ [], closed 1 132 0 0 6 ∷ closed 1 132 0 0 5 ∷ closed 1 132 0 0 3 ∷ [])
     -- a rule that forbids closes too; 26 for that rule; 24 comes first
-    ∷ (conditions, 0 ∷ 1 ∷ 2 ∷ [], blocking.Closed 2 130 131 196 ∷ refused 26 ∷ refused 24 ∷ [])
+    ∷ (conditions, 0 ∷ 1 ∷ 2 ∷ [], closed 2 130 131 196 2 ∷ refused 26 ∷ refused 24 ∷ [])
     -- Price alone stays open
-    ∷ (together, 0 ∷ 1 ∷ 2 ∷ [], blocking.Closed 1 131 132 0 ∷ blocking.Open ∷ refused 26 ∷ [])
+    ∷ (together, 0 ∷ 1 ∷ 2 ∷ [], closed 1 131 132 0 4 ∷ open-to-all ∷ refused 26 ∷ [])
     -- "one covered leaf that some column carries"
-    ∷ (states (3 ∷ 2 ∷ 3 ∷ 4 ∷ []), 0 ∷ [], blocking.Open ∷ [])
-    ∷ (states (3 ∷ 3 ∷ 4 ∷ 3 ∷ 2 ∷ []), 0 ∷ [], blocking.Closed 1 130 132 0 ∷ [])
-    -- "Operations are those that can be had": the rule closes what it asks for itself
-    ∷ (no-avg, 0 ∷ [], blocking.Closed 1 132 0 0 ∷ [])
+    ∷ (states (3 ∷ 2 ∷ 3 ∷ 4 ∷ []), 0 ∷ [], open-to-all ∷ [])
+    ∷ (states (3 ∷ 3 ∷ 4 ∷ 3 ∷ 2 ∷ []), 0 ∷ [], closed 1 130 132 0 2 ∷ [])
+    -- "Operations are those that can be had": the rule closes what it asks for itself. "The mask may be empty."
+    ∷ (no-avg, 0 ∷ [], closed 1 132 0 0 0 ∷ [])
     ∷ []
 
 -- By computation
 
--- Blocked's answer for a book that is accepted
-unfoldable outcome : Book → ℕ → Blocking
+-- what is answered for a book that is accepted
+unfoldable told : {A : Type 0} (book : Book) (r : ℕ) (refuse : Refusal → A) (value : A) → A
+told book r refuse value = answered (ruleTests book r ++ forbidTests (ruleAt book r)) refuse value
+
+unfoldable outcome : Book → ℕ → Both
 outcome book r =
-    answered (ruleTests book r ++ forbidTests (ruleAt book r)) blocking.Refused (blockingOf (firstClosed book r))
+    let first = firstClosed book r in
+    (told book r blocking.Refused (blockingOf first), told book r causes.Refused (causesOf book r first))
 
 cases-outcomes :
-    _≡_ {A = List (List Blocking)} (map (λ c. map (outcome (c .0)) (c .1)) cases) (map (λ c. c .2) cases)
+    _≡_ {A = List (List Both)} (map (λ c. map (outcome (c .0)) (c .1)) cases) (map (λ c. c .2) cases)
 unfolding all any upTo from has upwardIn upward under leaf covers ownedBy support isUser isDataLeaf supportOf
     supports coversUser inLeafSet weighted checkSum withCheck sealBytes answered refusedOr sealTests firstFailing
     padded block users categories columns functions rule rule0 rule1 rule2 shop labels same flat keep everyAccess
     actionOf actionFits channelFits fits fitting choicesFrom operations accepts refusesAll someChoiceRefused breaks
     labelled operated canBeHad firstIn accessTo inScopeAt everyDatum associations scope operationChoices someBroken
-    isClosedUnder firstClosed ruleTests forbidTests datumByte closedAnswer blockingOf outcome sums three forbids near
-    conditions together states no-avg cases
+    isClosedUnder firstClosed wordOf withAsking others without afterTrials leavesClosed fewLeft fewRules ruleTests
+    forbidTests datumByte closedAnswer blockingOf causesOf told outcome sums three forbids prices near conditions
+    together states no-avg threes cases
 cases-outcomes = refl
 
 cases-pass : _≡_ {A = List Tested} (map (λ c. firstFailing (bookTests (c .0))) cases) (map (λ c. Passed) cases)
@@ -133,14 +171,17 @@ unfolding all any upTo from has upwardIn upward under leaf covers properDescenda
     columnsBlockTests functionsBlockTests ruleBlockTests blockTests checkTests kindTests contentTests lengthTests
     blockByBlock bookTests sealTests flat firstFailing refusedOr answered withCheck sealBytes padded block users
     categories columns functions rule rule0 rule1 rule2 shop sums three forbids near conditions together states
-    no-avg cases
+    no-avg prices threes cases
 cases-pass = refl
 
 -- The answers
 
-after-check : (book : Book) (r : ℕ) → BookAccepted book → blockedAnswer book r ≡ outcome book r
-unfolding blockedAnswer blockedTests answered orElse outcome
-after-check book r accepted =
+after-check :
+    {A : Type 0} (book : Book) (r : ℕ) (refuse : Refusal → A) (value : A)
+    → BookAccepted book
+    → answered (blockedTests book r) refuse value ≡ told book r refuse value
+unfolding blockedTests answered orElse told
+after-check book r refuse value accepted =
     rw (
       first-append (bookTests book ++ ruleTests book r) (forbidTests (ruleAt book r)),
       first-append (bookTests book) (ruleTests book r),
@@ -148,22 +189,32 @@ after-check book r accepted =
       accepted,
     )
 
-rules-answers :
-    (book : Book) → BookAccepted book → (rules : List ℕ) → map (blockedAnswer book) rules ≡ map (outcome book) rules
+answers : Book → ℕ → Both
+answers book r = (blockedAnswer book r, culpritsAnswer book r)
+
+rules-answers : (book : Book) → BookAccepted book → (rules : List ℕ) → map (answers book) rules ≡ map (outcome book) rules
+unfolding blockedAnswer culpritsAnswer answers outcome
 rules-answers book accepted [] = refl
-rules-answers book accepted (r ∷ rules) = rw (after-check book r accepted, rules-answers book accepted rules)
+rules-answers book accepted (r ∷ rules) =
+    rw (
+      after-check book r blocking.Refused (blockingOf (firstClosed book r)) accepted,
+      after-check book r causes.Refused (causesOf book r (firstClosed book r)) accepted,
+      rules-answers book accepted rules,
+    )
 
 each-answers :
-    (l : List (Book × List ℕ × List Blocking))
+    (l : List (Book × List ℕ × List Both))
     → _≡_ {A = List Tested} (map (λ c. firstFailing (bookTests (c .0))) l) (map (λ c. Passed) l)
-    → map (λ c. map (blockedAnswer (c .0)) (c .1)) l ≡ map (λ c. map (outcome (c .0)) (c .1)) l
+    → map (λ c. map (answers (c .0)) (c .1)) l ≡ map (λ c. map (outcome (c .0)) (c .1)) l
 each-answers [] h = refl
 each-answers (c ∷ l) h =
     let accepted : firstFailing (bookTests (c .0)) ≡ Passed = cc in
     let rest : _≡_ {A = List Tested} (map (λ d. firstFailing (bookTests (d .0))) l) (map (λ d. Passed) l) = cc in
     rw (rules-answers (c .0) accepted (c .1), each-answers l rest)
 
--- what Blocked answers
+-- what Blocked and Culprits answer
 pub cases-answers :
-    _≡_ {A = List (List Blocking)} (map (λ c. map (blockedAnswer (c .0)) (c .1)) cases) (map (λ c. c .2) cases)
+    _≡_ {A = List (List Both)} (map (λ c. map (λ r. (blockedAnswer (c .0) r, culpritsAnswer (c .0) r)) (c .1)) cases)
+    (map (λ c. c .2) cases)
+unfolding answers
 cases-answers = each-answers cases cases-pass ∙ cases-outcomes
