@@ -1,5 +1,6 @@
 //! Rules made from a rule: equal to it, stronger, weaker, several that cover it together, several
-//! that can't all be kept with it, or some that stop a part of its data where they are raw.
+//! that can't all be kept with it or with each other, or some that stop a part of its data where they
+//! are raw.
 
 use crate::draft::{below, leaves, under, Draft, Reference, Rule, ACCESS, CONDITION, PROJECTION};
 use crate::random::Random;
@@ -201,24 +202,62 @@ fn patches(random: &mut Random, draft: &Draft, rule: &Rule) -> Vec<Rule> {
 fn deal_out(random: &mut Random, draft: &Draft, rule: &Rule) -> Vec<Rule> {
     let place = random.below(rule.references.len());
     let supported = draft.supported(rule.references[place].category);
-    let mut shares = vec![0; random.between(2, 3)];
-    for k in (1..16).filter(|k| supported >> k & 1 == 1) {
-        let share = random.below(shares.len());
-        shares[share] |= 1 << k;
-    }
+    let count = random.between(2, 3);
+    let shares = dealt(random, supported, count);
     let (of, place) = match random.below(2) {
         0 => (keep(rule, &[place]), 0),
         _ => (rule.clone(), place),
     };
-    let without = |share: u16| {
-        let mut masks = [0; 3];
-        masks[place] = supported & !share;
-        Rule {
-            restrictions: vec![masks],
-            ..of.clone()
-        }
-    };
+    let without = |share: u16| asking(&of, place, supported & !share);
     shares.into_iter().map(without).collect()
+}
+
+/// The operations of a mask, dealt out in so many shares, in turn.
+fn dealt(random: &mut Random, operations: u16, count: usize) -> Vec<u16> {
+    let mut each: Vec<u16> = (1..16).filter(|k| operations >> k & 1 == 1).collect();
+    random.shuffle(&mut each);
+    let mut shares = vec![0; count];
+    for (k, i) in each.into_iter().zip((0..count).cycle()) {
+        shares[i] |= 1 << k;
+    }
+    shares
+}
+
+/// The rule with one restriction, which asks for these operations of one reference.
+fn asking(rule: &Rule, place: usize, operations: u16) -> Rule {
+    let mut masks = [0; 3];
+    masks[place] = operations;
+    Rule {
+        restrictions: vec![masks],
+        ..rule.clone()
+    }
+}
+
+/// Two to four rules that close the rule's data together and not without one of them, and the rule made
+/// to take all that they take: what can be had of a reference is dealt out in shares, and each takes all
+/// but one share. There may be a twin, so that either would do, or rules for some users in place of one.
+pub fn closed_together(random: &mut Random, draft: &Draft, rule: &Rule) -> Vec<Rule> {
+    let supported = |place: &usize| draft.supported(rule.references[*place].category);
+    let had = had(draft);
+    let places = 0..rule.references.len();
+    let place = places.max_by_key(|place| (supported(place) & had).count_ones());
+    let place = place.expect("a rule has a reference");
+    let supported = supported(&place);
+    let count = random.between(2, 4);
+    let mut shares = dealt(random, supported & had, count);
+    // An empty share is no reason to need its rule, and a mask of none would ask for nothing.
+    shares.retain(|&share| share != 0 && share != supported);
+    let without = |share: u16| asking(rule, place, supported & !share);
+    let mut rules: Vec<Rule> = shares.into_iter().map(without).collect();
+    if let Some(one) = rules.pop() {
+        match random.below(3) {
+            0 => rules.extend([one.clone(), one]),
+            1 => rules.extend(by_user(draft, &one)),
+            _ => rules.push(one),
+        }
+    }
+    rules.push(asking(rule, place, supported));
+    rules
 }
 
 /// The rule with few restrictions and any action, and rules that stop some of its data where they
@@ -248,8 +287,7 @@ pub fn raw_stopped(random: &mut Random, draft: &Draft, rule: &Rule) -> Vec<Rule>
 
 /// The rule with restrictions that accept when any operation is applied to one of its data.
 fn some_applied(draft: &Draft, rule: &Rule) -> Rule {
-    let belongs = |k: &u16| draft.functions.contains(&(*k as u8));
-    let had: u16 = (1..16).filter(belongs).map(|k| 1 << k).sum();
+    let had = had(draft);
     let applied = |place: usize| {
         let mut masks = [0; 3];
         masks[place] = draft.supported(rule.references[place].category) & had;
@@ -260,6 +298,12 @@ fn some_applied(draft: &Draft, rule: &Rule) -> Rule {
         restrictions: each.filter(|masks| *masks != [0; 3]).collect(),
         ..rule.clone()
     }
+}
+
+/// The operations that functions have.
+fn had(draft: &Draft) -> u16 {
+    let belongs = |k: &u16| draft.functions.contains(&(*k as u8));
+    (1..16).filter(belongs).map(|k| 1 << k).sum()
 }
 
 /// The rule of one reference with its lowest leaf, without its highest, with projections or with

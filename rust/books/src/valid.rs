@@ -131,8 +131,8 @@ fn functions(random: &mut Random, alphabet: &[u8], most: usize) -> Vec<u8> {
 }
 
 /// Rules of their own, and relatives of rules before: so that many are idle, some only by two
-/// others together, many have data that stay closed, and some are broken alone by raw data only
-/// late in the order.
+/// others together, many have data that stay closed, by one rule or by several together, and some are
+/// broken alone by raw data only late in the order.
 fn rules(random: &mut Random, draft: &Draft, most: usize) -> Vec<Rule> {
     let mut n = up_to(random, 0, most);
     let mut rules: Vec<Rule> = Vec::new();
@@ -145,6 +145,11 @@ fn rules(random: &mut Random, draft: &Draft, most: usize) -> Vec<Rule> {
         let of = rule(random, draft);
         rules.extend(relatives::opposed(random, draft, &of));
         rules.push(of);
+    }
+    if random.chance(1, 5) {
+        let of = rule(random, draft);
+        rules.extend(relatives::closed_together(random, draft, &of));
+        n = n.max(rules.len()).min(most);
     }
     if random.chance(1, 4) {
         let of = rule(random, draft);

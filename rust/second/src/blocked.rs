@@ -22,15 +22,16 @@ pub struct Datum {
 /// The first user and association that stay closed, if any do.
 pub type Closed = Option<(usize, Vec<Datum>)>;
 
-/// Every covered user, every association, every choice of operations: "some covered user and some
-/// association in its scope admit no choice of operations under which no rule is broken. [..] The
-/// first such user and association is given, ordered by user, then reference by reference by action
-/// and leaf."
+/// Every covered user, every association, every choice of operations: "with all rules of the book:
+/// [..] some covered user and some association in its scope admit no choice of operations under which
+/// no rule is broken. [..] The first such user and association is given, ordered by user, then
+/// reference by reference by action and leaf."
 pub fn naive(book: &Book, rule: usize) -> Closed {
+    let all = book.all_rules();
     let rule = &book.rules[rule];
     let scope: Vec<Vec<Datum>> = rule.references.iter().map(|r| data(book, r)).collect();
     rule.users.iter().find_map(|&user| {
-        let mut closed = |association: &[Datum]| !opens(book, user, association);
+        let mut closed = |association: &[Datum]| !opens(book, &all, user, association);
         choice::first(&scope, &mut closed).map(|association| (user, association))
     })
 }
@@ -58,13 +59,13 @@ fn accesses(book: &Book, datum: &Datum) -> Vec<Access> {
     all.filter(|access| book.can_be_had(access)).collect()
 }
 
-/// Is there a "choice of operations under which no rule is broken"? All rules of the book count, by
-/// the accesses chosen and no others.
-pub fn opens(book: &Book, user: usize, association: &[Datum]) -> bool {
+/// Is there a "choice of operations under which no rule is broken"? These rules count, and of accesses
+/// those that are chosen.
+pub fn opens(book: &Book, rules: &BTreeSet<usize>, user: usize, association: &[Datum]) -> bool {
     let offered: Vec<Vec<Access>> = association.iter().map(|d| accesses(book, d)).collect();
     let mut breaks_none = |choice: &[Access]| {
         let chosen = choice.iter().copied().collect();
-        broken(book, user, &chosen).is_empty()
+        broken(book, user, &chosen).is_disjoint(rules)
     };
     choice::first(&offered, &mut breaks_none).is_some()
 }
@@ -90,6 +91,13 @@ pub fn within(book: &Book, rule: usize, steps: u64) -> Option<Closed> {
     Some(None)
 }
 
+/// The accesses that a datum may become, one of each kind before these rules.
+pub fn candidates(book: &Book, rules: &[&Rule], datum: &Datum) -> Vec<Candidate> {
+    let all = accesses(book, datum).into_iter();
+    let all = all.map(|access| Candidate::new(access, rules));
+    alike::first_of_each_kind(all.collect())
+}
+
 /// A datum with the accesses that it may become, one of each kind.
 struct Offer {
     datum: Datum,
@@ -108,11 +116,9 @@ struct Search<'a> {
 impl<'a> Search<'a> {
     fn new(book: &'a Book, rule: usize, covering: &[usize], steps: u64) -> Search<'a> {
         let rules: Vec<&Rule> = covering.iter().map(|&r| &book.rules[r]).collect();
-        let offer = |datum: Datum| {
-            let all = accesses(book, &datum).into_iter();
-            let all = all.map(|access| Candidate::new(access, &rules));
-            let accesses = alike::first_of_each_kind(all.collect());
-            Offer { datum, accesses }
+        let offer = |datum: Datum| Offer {
+            accesses: candidates(book, &rules, &datum),
+            datum,
         };
         let references = book.rules[rule].references.iter();
         let scope = references.map(|reference| {

@@ -36,6 +36,11 @@ impl Book {
             && self.functions.contains(&access.operation)
     }
 
+    /// The numbers of all rules.
+    pub fn all_rules(&self) -> BTreeSet<usize> {
+        (0..self.rules.len()).collect()
+    }
+
     /// The rules that cover a user, lowest first.
     pub fn covering(&self, user: usize) -> Vec<usize> {
         (0..self.rules.len())

@@ -1,8 +1,9 @@
-//! The seven calls: what is refused, in the documents' order, and what is answered.
+//! The eight calls: what is refused, in the documents' order, and what is answered.
 
 use crate::access::Access;
 use crate::blocked::{self, Datum};
 use crate::book::Book;
+use crate::culprits::{self, Others};
 use crate::idle::{self, Found};
 use crate::ledger::{self, Tally};
 use crate::refusal::*;
@@ -64,9 +65,13 @@ fn judged(book: &[u8], user: u32, plan: &[u8]) -> Result<Judged, Refusal> {
 impl Judged {
     /// The mask of the rules that the user breaks with these accesses.
     fn mask(&self, accesses: &BTreeSet<Access>) -> u32 {
-        let broken = breaking::broken(&self.book, self.user, accesses);
-        broken.into_iter().map(|r| 2u32.pow(r as u32)).sum()
+        mask(&breaking::broken(&self.book, self.user, accesses))
     }
+}
+
+/// "bit r for rule r"
+fn mask(rules: &BTreeSet<usize>) -> u32 {
+    rules.iter().map(|&r| 2u32.pow(r as u32)).sum()
 }
 
 /// "A user is a leaf of block 0."
@@ -167,6 +172,34 @@ fn with_restrictions(book: &[u8], rule: u32) -> Result<(Book, usize), Refusal> {
 
 fn numbered(closed: blocked::Closed) -> Blocking {
     closed.map(|(user, association)| (user as u32, association))
+}
+
+/// The mask of the other rules behind a block; none for a rule that is not blocked.
+type Behind = Option<u32>;
+
+/// **Culprits** (document 02, N6). "The mask may be empty. [..] An unblocked rule gets that reply and
+/// no mask." `None` is unblocked.
+pub fn culprits(book: &[u8], rule: u32) -> Result<Behind, Refusal> {
+    let answer = culprits_within(book, rule, u64::MAX);
+    answer.expect("no search takes so many steps")
+}
+
+/// Culprits by trying every choice of operations for each rule dropped, for small books.
+pub fn culprits_naive(book: &[u8], rule: u32) -> Result<Behind, Refusal> {
+    let (book, rule) = with_restrictions(book, rule)?;
+    Ok(masked(culprits::naive(&book, rule)))
+}
+
+/// Culprits, or nothing when the search takes more than so many steps. "The refusals are N1's."
+pub fn culprits_within(book: &[u8], rule: u32, steps: u64) -> Option<Result<Behind, Refusal>> {
+    match with_restrictions(book, rule) {
+        Err(refusal) => Some(Err(refusal)),
+        Ok((book, rule)) => Some(Ok(masked(culprits::within(&book, rule, steps)?))),
+    }
+}
+
+fn masked(others: Others) -> Behind {
+    others.map(|rules| mask(&rules))
 }
 
 /// **Submit** (document 02, N3). "A plan is declined exactly when its accesses joined with those held

@@ -1,4 +1,4 @@
-//! A second implementation of the seven calls of the policy engine.
+//! A second implementation of the eight calls of the policy engine.
 //!
 //! It is written from the sentences of documents 01 and 02, each quoted where it is followed, with
 //! ordinary sets, explicit paths and explicit choices. It is made to be read and believed, not to be quick:
@@ -18,6 +18,7 @@ pub mod blocked;
 pub mod book;
 pub mod breaking;
 pub mod choice;
+pub mod culprits;
 pub mod hierarchy;
 pub mod idle;
 pub mod ledger;
@@ -32,8 +33,8 @@ pub mod shown;
 mod calls;
 
 pub use calls::{
-    blocked, blocked_naive, blocked_within, check, flows, idle, idle_naive, idle_within, judge,
-    seal, submit,
+    blocked, blocked_naive, blocked_within, check, culprits, culprits_naive, culprits_within,
+    flows, idle, idle_naive, idle_within, judge, seal, submit,
 };
 pub use ledger::Tally;
 pub use refusal::Refusal;

@@ -1,7 +1,7 @@
 //! Document 01's small shop: every line of its list, starred and not, one of them as document 02's N5
 //! has it, and the three report lines.
 
-use books::named::small_shop;
+use books::named::{opposed_shop, small_shop};
 use second::Refusal;
 
 const STATE: [u8; 4] = [1, 0, 0, 0];
@@ -175,6 +175,43 @@ fn what_blocked_refuses() {
     assert_eq!(second::blocked(&book, u32::MAX), refused(24, 0));
     book[2 * 512] = 9;
     assert_eq!(second::blocked(&book, 1), refused(2, 2));
+}
+
+/// "An unblocked rule gets that reply and no mask."
+#[test]
+fn no_rule_has_a_mask() {
+    let book = small_shop().bytes();
+    for rule in 0..3 {
+        assert_eq!(second::culprits(&book, rule), Ok(None));
+        assert_eq!(second::culprits_naive(&book, rule), Ok(None));
+    }
+}
+
+/// With a rule 3 by which Report may have a price as a sum alone: bit 1 and bit 3 beside rule 0, bit 3
+/// beside rules 1 and 2, bit 1 beside rule 3.
+#[test]
+fn masks_of_other_rules() {
+    let book = opposed_shop().bytes();
+    for (rule, mask) in [10, 8, 8, 2].into_iter().enumerate() {
+        let rule = rule as u32;
+        assert_eq!(second::culprits(&book, rule), Ok(Some(mask)));
+        assert_eq!(second::culprits_naive(&book, rule), Ok(Some(mask)));
+    }
+}
+
+/// "The refusals are N1's."
+#[test]
+fn what_culprits_refuses() {
+    let mut shop = opposed_shop();
+    shop.rules[1].restrictions.clear();
+    let mut book = shop.bytes();
+    for refuses in [second::culprits, second::culprits_naive] {
+        assert_eq!(refuses(&book, 1), refused(26, 0));
+        assert_eq!(refuses(&book, 4), refused(24, 0));
+        assert_eq!(refuses(&book, u32::MAX), refused(24, 0));
+    }
+    book[2 * 512] = 9;
+    assert_eq!(second::culprits(&book, 1), refused(2, 2));
 }
 
 /// "Deleting two equal rules: each is idle beside the other, not both together."

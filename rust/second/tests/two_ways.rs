@@ -6,7 +6,8 @@ use second::access::Access;
 use second::book::Book;
 use second::path::Applied;
 use second::plan::Row;
-use second::{blocked, breaking, choice, idle, path, plan, reading};
+use second::{blocked, breaking, choice, culprits, idle, path, plan, reading};
+use std::collections::BTreeSet;
 use std::fmt::Debug;
 
 /// The paths from all rows of a plan on which an Apply with two rows ends what counts: how often
@@ -52,10 +53,10 @@ fn accesses_by_paths_and_by_rows() {
 }
 
 /// Tries every rule of so many random books that has few choices.
-fn each_rule(seed: u64, books: usize, mut try_rule: impl FnMut(&Book, usize)) {
+fn each_rule(seed: u64, size: Size, books: usize, mut try_rule: impl FnMut(&Book, usize)) {
     let mut random = Random::new(seed);
     for _ in 0..books {
-        let draft = draft(&mut random, Size::Tiny);
+        let draft = draft(&mut random, size);
         let book = reading::read(&draft.bytes()).expect("the draft is sound");
         let few = |&rule: &usize| idle::choices(&book, rule) <= 2_000;
         let rules = (0..book.rules.len()).filter(few);
@@ -71,7 +72,7 @@ fn compared<T: PartialEq + Debug>(
     within: impl Fn(&Book, usize, u64) -> Option<Option<T>>,
 ) -> [usize; 2] {
     let [mut found, mut none] = [0, 0];
-    each_rule(seed, books, |book, rule| {
+    each_rule(seed, Size::Tiny, books, |book, rule| {
         let naive = naive(book, rule);
         found += usize::from(naive.is_some());
         none += usize::from(naive.is_none());
@@ -114,7 +115,7 @@ fn shown_before(book: &Book, rule: usize) -> idle::Found {
 #[test]
 fn idle_in_both_orders() {
     let [mut idle, mut needed, mut changed, mut ties] = [0; 4];
-    each_rule(15, 3_000, |book, rule| {
+    each_rule(15, Size::Tiny, 3_000, |book, rule| {
         let before = shown_before(book, rule);
         let now = idle::naive(book, rule);
         assert_eq!(before.is_some(), now.is_some());
@@ -144,6 +145,42 @@ fn blocked_naive_and_pruned() {
 }
 
 #[test]
+fn culprits_naive_and_sooner() {
+    let [few, unblocked] = compared(16, 1_000, culprits::naive, culprits::within);
+    assert!(few > 100 && unblocked > 100, "{few}, {unblocked} unblocked");
+}
+
+/// All sets of the rules of a book, by rising masks.
+fn sets_of_rules(book: &Book) -> impl Iterator<Item = BTreeSet<usize>> {
+    let rules = |mask: u32| (0..32).filter(|r| mask >> r & 1 == 1).collect();
+    (0..1 << book.rules.len()).map(rules)
+}
+
+/// As more rules close no less, what is left by trial is also the least of all masks of other rules
+/// that do it. And it is as few as can be: "every proper subset of them leaves it open".
+#[test]
+fn culprits_by_trial_and_by_masks() {
+    let mut counts = [0; 4];
+    each_rule(17, Size::Small, 800, |book, rule| {
+        let Some((user, association)) = blocked::naive(book, rule) else {
+            return assert_eq!(culprits::naive(book, rule), None);
+        };
+        let closed = |others: &BTreeSet<usize>| {
+            let together = others | &BTreeSet::from([rule]);
+            !blocked::opens(book, &together, user, &association)
+        };
+        let mut others = sets_of_rules(book).filter(|set| !set.contains(&rule));
+        let least = others.find(closed).expect("all of them do it");
+        assert_eq!(culprits::naive(book, rule), Some(least.clone()));
+        let mut proper = sets_of_rules(book).filter(|set| set.is_subset(&least) && *set != least);
+        assert!(proper.all(|set| !closed(&set)));
+        counts[least.len().min(3)] += 1;
+    });
+    println!("with no, one, two and more others: {counts:?}");
+    assert!(counts.iter().all(|&count| count > 20), "{counts:?}");
+}
+
+#[test]
 fn blocked_gives_up() {
     let book = books::named::small_shop().bytes();
     assert_eq!(second::blocked_within(&book, 0, 1), None);
@@ -151,6 +188,15 @@ fn blocked_gives_up() {
         second::blocked_within(&book, 3, 0),
         Some(second::blocked(&book, 3))
     );
+}
+
+#[test]
+fn culprits_give_up_where_blocked_does() {
+    let book = books::named::opposed_shop().bytes();
+    assert_eq!(second::culprits_within(&book, 0, 1), None);
+    assert_eq!(second::culprits_within(&book, 0, 10), Some(Ok(Some(10))));
+    let past = second::culprits_within(&book, 4, 0);
+    assert_eq!(past, Some(second::culprits(&book, 4)));
 }
 
 /// A search that runs out of steps says nothing and leaves the buffer.
