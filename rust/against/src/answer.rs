@@ -22,6 +22,10 @@ pub enum Answer {
     Open,
     /// Blocked: the user and the association, as they are packed.
     Closed(u32),
+    /// Culprits: the rule is not blocked.
+    Unblocked,
+    /// Culprits: the mask of the rules that close the data, the asking one among them.
+    Few(u32),
     /// Submit: the plan is admitted.
     Admitted,
     /// Submit: the plan is declined, and the mask of broken rules.
@@ -48,6 +52,8 @@ impl fmt::Display for Answer {
             Answer::Needed(user, rows) => write!(f, "needed, user {user}, {rows} rows"),
             Answer::Open => write!(f, "open"),
             Answer::Closed(value) => closed(f, *value),
+            Answer::Unblocked => write!(f, "not blocked"),
+            Answer::Few(mask) => few(f, *mask),
             Answer::Admitted => write!(f, "admitted"),
             Answer::Declined(mask) => write!(f, "declined, broken {mask:#x}"),
             Answer::Refused(Refusal { number, place }) => write!(f, "refused {number} at {place}"),
@@ -66,6 +72,12 @@ fn closed(f: &mut fmt::Formatter<'_>, value: u32) -> fmt::Result {
         write!(f, ", {:?} {}", datum.action, datum.leaf)?;
     }
     Ok(())
+}
+
+fn few(f: &mut fmt::Formatter<'_>, mask: u32) -> fmt::Result {
+    write!(f, "closed by rules ({mask:#x})")?;
+    let mut rules = (0..32).filter(|rule| mask >> rule & 1 == 1);
+    rules.try_for_each(|rule| write!(f, " {rule}"))
 }
 
 /// Calls the engine. The case is changed as the call changes its buffers.
@@ -87,6 +99,13 @@ pub fn of(engine: &dyn Engine, case: &mut Case) -> Answer {
             Some(answer) => answer.map(|value| match value {
                 0 => Answer::Open,
                 _ => Answer::Closed(value),
+            }),
+        },
+        Case::Culprits { book, rule } => match engine.culprits(book, *rule) {
+            None => Ok(Answer::GaveUp),
+            Some(answer) => answer.map(|mask| match mask {
+                0 => Answer::Unblocked,
+                _ => Answer::Few(mask),
             }),
         },
         Case::Submit(given) => engine.submit(given).map(|mask| match mask {

@@ -14,7 +14,11 @@ pub type Idleness = Option<Result<Option<(u32, u32)>, Refusal>>;
 /// every bit of it is compared.
 pub type Blocking = Option<Result<u32, Refusal>>;
 
-/// The seven calls of an engine.
+/// What Culprits answers: nothing where the engine gave up, else the value as C has it, the asking rule
+/// among the others and 0 for a rule that is not blocked.
+pub type Behind = Option<Result<u32, Refusal>>;
+
+/// The eight calls of an engine.
 pub trait Engine {
     /// What it is called in reports.
     fn name(&self) -> &'static str;
@@ -30,6 +34,8 @@ pub trait Engine {
     fn idle(&self, book: &[u8], rule: u32, buffer: &mut [u8]) -> Idleness;
     /// Blocked.
     fn blocked(&self, book: &[u8], rule: u32) -> Blocking;
+    /// Culprits.
+    fn culprits(&self, book: &[u8], rule: u32) -> Behind;
     /// Submit: the ledger and the counts are changed as the call changes them.
     fn submit(&self, given: &mut Submit) -> Result<u32, Refusal>;
 }
@@ -85,6 +91,14 @@ impl Engine for Second {
             Some((user, data)) => packed(user, &data),
         }))
     }
+    fn culprits(&self, book: &[u8], rule: u32) -> Behind {
+        let answer = match self.search {
+            Search::Skipping(steps) => second::culprits_within(book, rule, steps)?,
+            Search::Naive(most) if choices(book, rule) > most => return None,
+            Search::Naive(_) => second::culprits_naive(book, rule),
+        };
+        Some(answer.map(|others| others.map_or(0, |mask| with_asking(mask, rule))))
+    }
     fn submit(&self, given: &mut Submit) -> Result<u32, Refusal> {
         let mut tally = Tally {
             admitted: given.admitted,
@@ -111,7 +125,12 @@ pub fn packed(user: u32, data: &[Datum]) -> u32 {
     (user << 24) + low
 }
 
-/// A value that is not 0 taken apart again.
+/// A mask of other rules as the header packs it: + 2^rule.
+pub fn with_asking(others: u32, rule: u32) -> u32 {
+    others + (1 << rule)
+}
+
+/// A value of Blocked that is not 0 taken apart again.
 pub fn unpacked(value: u32) -> (u32, Vec<Datum>) {
     let bytes = (0..3).map(|i| value >> (8 * i) & 255);
     let data = bytes.filter(|byte| byte & 128 != 0).map(|byte| Datum {
@@ -161,6 +180,9 @@ impl Engine for Proved {
     }
     fn blocked(&self, book: &[u8], rule: u32) -> Blocking {
         Some(value(raw::blocked(book, rule)))
+    }
+    fn culprits(&self, book: &[u8], rule: u32) -> Behind {
+        Some(value(raw::culprits(book, rule)))
     }
     fn submit(&self, given: &mut Submit) -> Result<u32, Refusal> {
         let mut tally = raw::Tally {

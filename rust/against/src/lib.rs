@@ -1,10 +1,11 @@
-//! Tries one engine against another on random books: all seven calls, answers and buffers.
+//! Tries one engine against another on random books: all eight calls, answers and buffers.
 #![forbid(unsafe_code)]
 #![warn(missing_docs)]
 
 pub mod actions;
 pub mod answer;
 pub mod compare;
+pub mod culprits;
 pub mod engine;
 pub mod mixing;
 pub mod reached;

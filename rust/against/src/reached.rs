@@ -17,7 +17,7 @@ pub const REFUSALS: [u32; 19] = [
     1, 2, 3, 4, 5, 6, 7, 8, 9, 10, 20, 21, 22, 23, 24, 25, 26, 27, 28,
 ];
 
-/// Those of Blocked: "book refusals, 24, then 26 if the rule forbids".
+/// Those of Blocked, "book refusals, 24, then 26 if the rule forbids", and of Culprits.
 pub const BLOCKED_REFUSALS: [u32; 11] = [1, 2, 3, 4, 5, 6, 7, 8, 9, 24, 26];
 
 /// Those of Submit: "Judge's refusals, then 27 [..] then 28".
@@ -52,6 +52,12 @@ pub struct Reached {
     pub closed_alone: u64,
     /// Of the closed ones, those that are open beside any one other rule alone.
     pub closed_by_several: u64,
+    /// Rules that are not blocked, as Culprits says.
+    pub unblocked: u64,
+    /// Rules whose data are closed beside no, one, two and more other rules.
+    pub behind: [u64; 4],
+    /// Of these, those that have others behind them where rules are dropped from the lowest number up.
+    pub behind_by_order: u64,
     /// Judged plans that break some rule.
     pub broken: u64,
     /// Judged plans whose verdict depends on each of [`PAIRS`].
@@ -100,6 +106,8 @@ impl Reached {
             Answer::Idle => self.count_idle(case),
             Answer::Open => self.open += 1,
             Answer::Closed(value) => self.count_closed(case, value),
+            Answer::Unblocked => self.unblocked += 1,
+            Answer::Few(mask) => self.count_behind(case, mask),
             Answer::Admitted | Answer::Declined(_) => self.count_submitted(case, answer),
             Answer::Done => self.count_flows(case),
             Answer::Rules(_) => {}
@@ -142,6 +150,15 @@ impl Reached {
                 Cover::Several => self.closed_by_several += 1,
                 Cover::One | Cover::Unknown => {}
             }
+        }
+    }
+
+    fn count_behind(&mut self, case: &Case, mask: u32) {
+        let others = mask.count_ones() as usize - 1;
+        self.behind[others.min(3)] += 1;
+        if let Case::Culprits { book, rule } = case {
+            let upward = left_from_the_lowest(book, *rule);
+            self.behind_by_order += u64::from(upward.is_some_and(|other| other != mask));
         }
     }
 
@@ -188,6 +205,16 @@ impl Reached {
         format!("flows, verdicts and submissions that depend on {each}")
     }
 
+    /// The rules behind the blocks, in words.
+    fn by_others(&self) -> String {
+        let [none, one, two, more] = self.behind;
+        format!(
+            "blocks: {} none, {none} by the rule alone, {one} with one other, {two} with two, {more} \
+             with more ({} with others where dropped from the lowest)",
+            self.unblocked, self.behind_by_order
+        )
+    }
+
     /// The refusals by their numbers, in words.
     fn by_number(&self) -> String {
         let each = REFUSALS.map(|number| format!(" {number}: {}", self.refused(number)));
@@ -227,6 +254,7 @@ fn call(case: &Case) -> &'static str {
         Case::Judge { .. } => "judge",
         Case::Idle { .. } => "idle",
         Case::Blocked { .. } => "blocked",
+        Case::Culprits { .. } => "culprits",
         Case::Submit(_) => "submit",
     }
 }
@@ -263,6 +291,18 @@ fn closing(book: &[u8], rule: usize) -> Cover {
         let answer = second::blocked_within(book, 0, 5_000);
         answer.map(|answer| matches!(answer, Ok(Some(_))))
     })
+}
+
+/// The rules that close the data of a rule, itself among them, where others are dropped from the lowest
+/// number up: those of the book with its rules the other way round. Blocked has no regard to their order.
+fn left_from_the_lowest(book: &[u8], rule: u32) -> Option<u32> {
+    let (head, rules) = book.split_at(4 * BLOCK);
+    let turned: Vec<&[u8]> = rules.chunks(BLOCK).rev().collect();
+    let last = turned.len() as u32 - 1;
+    let turned = [head, &turned.concat()].concat();
+    let others = second::culprits_within(&turned, last - rule, 5_000)?.ok()??;
+    let closing = (0..=last).filter(|r| r == &rule || others >> (last - r) & 1 == 1);
+    Some(closing.map(|r| 1 << r).sum())
 }
 
 /// Which other rules it takes for what is said of a rule, from books in which it is rule 0 and fewer
@@ -318,6 +358,7 @@ impl fmt::Display for Reached {
             self.open, self.closed_alone, self.closed_by_several
         )?;
         writeln!(f, "; {} searches given up", self.given_up)?;
+        writeln!(f, "{}", self.by_others())?;
         write!(
             f,
             "submissions: {} admitted, {} declined ({} that break no rule by themselves), \

@@ -2,12 +2,14 @@
 
 use crate::answer::{self, Answer};
 use crate::compare::{try_one, wrong, Difference};
+use crate::culprits::try_behind;
 use crate::engine::{unpacked, Engine};
 use crate::reached::Reached;
 use crate::submissions::{try_history, try_submission};
 use books::{case, submissions, Case, Random};
 use second::access::Access;
-use second::{choice, reading, shown};
+use second::book::Book;
+use second::{choice, reading, shown, Refusal};
 use std::time::{Duration, Instant};
 
 /// When to stop.
@@ -50,8 +52,9 @@ pub fn run(
     Ok(reached)
 }
 
-/// Compares a case. Then what Idle shows is judged, and what Blocked says is closed; a rule that a plan
-/// breaks alone is asked for; and a submission is gone through by its sentences.
+/// Compares a case. Then what Idle shows is judged, and what Blocked says is closed; what Culprits says is
+/// held against both Blocked and Judge; a rule that a plan breaks alone is asked for; and a submission is
+/// gone through by its sentences.
 pub fn try_case(
     engines: [&dyn Engine; 2],
     case: &Case,
@@ -68,6 +71,7 @@ pub fn try_case(
         (Case::Blocked { book, .. }, Answer::Closed(value)) => {
             try_closed(engines, case, book, value)
         }
+        (Case::Culprits { book, rule }, answer) => try_behind(engines, book, *rule, answer),
         (Case::Submit(given), answer) => try_submission(engines, given, answer),
         _ => Ok(()),
     }
@@ -117,6 +121,33 @@ fn try_alone(
 /// Choices of operations for an association above which they are not judged.
 const JUDGED: usize = 40;
 
+/// The accesses that the data of an association may become, where the choices are not too many.
+fn offered(book: &Book, value: u32) -> Option<Vec<Vec<Access>>> {
+    let obtainable = book.obtainable();
+    let (_, data) = unpacked(value);
+    let offered = data.iter().map(|datum| {
+        let of = |a: &&Access| (a.action, a.leaf) == (datum.action, datum.leaf);
+        obtainable.iter().filter(of).copied().collect()
+    });
+    let offered: Vec<Vec<Access>> = offered.collect();
+    let count: usize = offered.iter().map(Vec::len).product();
+    (count <= JUDGED).then_some(offered)
+}
+
+/// What Judge says of each choice of operations for an association that a value of Blocked names; nothing
+/// where the choices are too many.
+pub fn judged(engine: &dyn Engine, bytes: &[u8], value: u32) -> Option<Vec<Result<u32, Refusal>>> {
+    let book = reading::read(bytes).ok()?;
+    let (user, _) = unpacked(value);
+    let mut said = Vec::new();
+    choice::first(&offered(&book, value)?, &mut |choice: &[Access]| {
+        let plan = shown::bytes(&shown::plan(&book, choice));
+        said.push(engine.judge(bytes, user, &plan));
+        false
+    });
+    Some(said)
+}
+
 /// Whatever operations are chosen for a closed association, Judge says that a rule is broken.
 fn try_closed(
     engines: [&dyn Engine; 2],
@@ -124,30 +155,10 @@ fn try_closed(
     bytes: &[u8],
     value: u32,
 ) -> Result<(), Box<Difference>> {
-    let Ok(book) = reading::read(bytes) else {
-        return Ok(());
-    };
-    let (user, data) = unpacked(value);
-    let obtainable = book.obtainable();
-    let offered: Vec<Vec<Access>> = data
-        .iter()
-        .map(|datum| {
-            let of = |a: &&Access| (a.action, a.leaf) == (datum.action, datum.leaf);
-            obtainable.iter().filter(of).copied().collect()
-        })
-        .collect();
-    if offered.iter().map(Vec::len).product::<usize>() > JUDGED {
+    let said = judged(engines[0], bytes, value).unwrap_or_default();
+    if !said.contains(&Ok(0)) {
         return Ok(());
     }
-    let mut passes = |choice: &[Access]| {
-        let plan = shown::bytes(&shown::plan(&book, choice));
-        engines[0].judge(bytes, user, &plan) == Ok(0)
-    };
-    match choice::first(&offered, &mut passes) {
-        None => Ok(()),
-        Some(_) => {
-            let (case, got) = (blocked.clone(), Answer::Closed(value));
-            Err(wrong(engines, case, Answer::NotClosed, got))
-        }
-    }
+    let (case, got) = (blocked.clone(), Answer::Closed(value));
+    Err(wrong(engines, case, Answer::NotClosed, got))
 }

@@ -24,10 +24,8 @@ pub fn write(case: &Case) -> String {
             let fields = vec![("book", hex(book)), ("rule", rule), ("buffer", hex(buffer))];
             ("idle", fields)
         }
-        Case::Blocked { book, rule } => {
-            let fields = vec![("book", hex(book)), ("rule", rule.to_string())];
-            ("blocked", fields)
-        }
+        Case::Blocked { book, rule } => ("blocked", rule_fields(book, *rule)),
+        Case::Culprits { book, rule } => ("culprits", rule_fields(book, *rule)),
         Case::Submit(given) => ("submit", submit_fields(given)),
     };
     let mut text = format!("call {call}\n");
@@ -35,6 +33,10 @@ pub fn write(case: &Case) -> String {
         text.push_str(&format!("{name} {value}\n"));
     }
     text
+}
+
+fn rule_fields(book: &[u8], rule: u32) -> Vec<(&'static str, String)> {
+    vec![("book", hex(book)), ("rule", rule.to_string())]
 }
 
 fn submit_fields(given: &Submit) -> Vec<(&'static str, String)> {
@@ -58,6 +60,7 @@ pub fn read(text: &str) -> Result<Case, String> {
     let field = |name: &str| fields.get(name).copied().ok_or(format!("no {name}"));
     let bytes = |name: &str| unhex(field(name)?).ok_or(format!("{name} is not hexadecimal"));
     let number = |name: &str| field(name)?.parse().map_err(|e| format!("{name}: {e}"));
+    let of_rule = |case: fn(Vec<u8>, u32) -> Case| Ok(case(bytes("book")?, number("rule")?));
     match field("call")? {
         "check" => Ok(Case::Check {
             book: bytes("book")?,
@@ -80,10 +83,8 @@ pub fn read(text: &str) -> Result<Case, String> {
             rule: number("rule")?,
             buffer: bytes("buffer")?,
         }),
-        "blocked" => Ok(Case::Blocked {
-            book: bytes("book")?,
-            rule: number("rule")?,
-        }),
+        "blocked" => of_rule(|book, rule| Case::Blocked { book, rule }),
+        "culprits" => of_rule(|book, rule| Case::Culprits { book, rule }),
         "submit" => Ok(Case::Submit(submit(bytes, number)?)),
         other => Err(format!("no call {other}")),
     }

@@ -18,6 +18,12 @@ fn often(reached: &Reached) -> Vec<u64> {
         reached.closed[2],
         reached.closed_alone,
         reached.closed_by_several,
+        reached.unblocked,
+        reached.behind[0],
+        reached.behind[1],
+        reached.behind[2],
+        reached.behind[3],
+        reached.behind_by_order,
         reached.admitted,
         reached.declined,
         reached.declined_for_held,
@@ -39,7 +45,7 @@ fn no_difference_and_everything_reached() {
     let cases = if cfg!(debug_assertions) {
         4_000
     } else {
-        85_000
+        100_000
     };
     let reached = match run(engines, 20_240_501, Limit::Cases(cases), &mut |_| ()) {
         Ok(reached) => reached,
@@ -53,8 +59,10 @@ fn no_difference_and_everything_reached() {
     }
     assert!(reached.fewer_functions * 100 > reached.needed, "{reached}");
     assert_eq!(reached.refusals_of("blocked"), BLOCKED_REFUSALS);
+    assert_eq!(reached.refusals_of("culprits"), BLOCKED_REFUSALS);
     assert_eq!(reached.refusals_of("submit"), SUBMIT_REFUSALS);
-    let closed: u64 = reached.closed.iter().sum();
-    let searched = reached.idle + reached.needed + reached.open + closed;
+    let closed: u64 = reached.closed.iter().chain(&reached.behind).sum();
+    let open = reached.open + reached.unblocked;
+    let searched = reached.idle + reached.needed + open + closed;
     assert!(reached.given_up * 5 < searched, "{reached}");
 }

@@ -3,8 +3,7 @@
 
 use against::answer::Answer;
 use against::compare::compare;
-use against::engine::packed;
-use against::engine::{by_name, USUAL};
+use against::engine::{by_name, packed, with_asking, USUAL};
 use books::blocked::{hard, Found};
 use books::submissions::{Submit, LEDGER};
 use books::{named, plans, Case, Draft, Random};
@@ -71,6 +70,13 @@ fn blocked(draft: &Draft, rule: u32) -> Case {
     }
 }
 
+fn culprits(draft: &Draft, rule: u32) -> Case {
+    Case::Culprits {
+        book: draft.bytes(),
+        rule,
+    }
+}
+
 /// What is to be found of a rule of a hard book. The last leaf of group g is 3 + 20 × g.
 fn wanted(draft: &Draft, rule: usize, found: Found) -> Answer {
     let datum = |group: u8| Datum {
@@ -129,6 +135,7 @@ fn named_books() {
         for rule in 0..draft.rules.len() as u32 {
             assert_alike(&idle(&draft, rule));
             assert_alike(&blocked(&draft, rule));
+            assert_alike(&culprits(&draft, rule));
         }
     }
 }
@@ -200,5 +207,47 @@ fn hard_data_are_open_or_closed() {
             let answer = against::answer::of(&against::engine::Proved, &mut blocked(&draft, rule));
             assert_eq!(answer, wanted, "{name}, rule {rule}");
         }
+    }
+}
+
+/// What is behind the block of a rule of a hard book: the rule that forbids, or nothing is closed.
+#[cfg(all(feature = "engine", not(debug_assertions)))]
+#[test]
+fn hard_data_have_one_rule_behind_them() {
+    for (name, draft, found) in hard() {
+        for rule in 0..32 {
+            let wanted = match wanted(&draft, rule as usize, found) {
+                Answer::Open => Answer::Unblocked,
+                Answer::Closed(_) => Answer::Few(1 << 31 | 1 << rule),
+                refused => refused,
+            };
+            let answer = against::answer::of(&against::engine::Proved, &mut culprits(&draft, rule));
+            assert_eq!(answer, wanted, "{name}, rule {rule}");
+        }
+    }
+}
+
+/// Both engines leave the rules that each hard book was made for.
+#[test]
+fn hard_blocks_are_as_meant() {
+    let engines = ["second", "engine"].into_iter().filter_map(by_name);
+    for engine in engines {
+        for book in books::culprits::hard() {
+            let said = engine.culprits(&book.draft.bytes(), book.rule);
+            let wanted = with_asking(book.others, book.rule);
+            assert_eq!(said, Some(Ok(wanted)), "{}, {}", engine.name(), book.name);
+        }
+    }
+}
+
+/// Whichever of the 32 rules is asked about, all are needed.
+#[test]
+fn all_are_needed_together() {
+    let engines = ["second", "engine"].into_iter().filter_map(by_name);
+    let together = books::culprits::hard().remove(0);
+    let book = together.draft.bytes();
+    for engine in engines {
+        let all = |rule: &u32| engine.culprits(&book, *rule) == Some(Ok(u32::MAX));
+        assert_eq!((0..32).filter(all).count(), 32, "{}", engine.name());
     }
 }

@@ -55,11 +55,18 @@ pub enum Case {
         /// The rule's number.
         rule: u32,
     },
+    /// Culprits.
+    Culprits {
+        /// The book.
+        book: Vec<u8>,
+        /// The rule's number.
+        rule: u32,
+    },
     /// Submit.
     Submit(Submit),
 }
 
-/// The calls of one round: one book of the given size, sound or changed, and all seven calls.
+/// The calls of one round: one book of the given size, sound or changed, and all eight calls.
 pub fn round(random: &mut Random, size: Size) -> Vec<Case> {
     let draft = valid::draft(random, size);
     let book = book(random, &draft);
@@ -79,7 +86,7 @@ pub fn round(random: &mut Random, size: Size) -> Vec<Case> {
     for _ in 0..rules.max(1) {
         cases.push(idle(random, &draft, &book));
     }
-    cases.extend(blocked(random, &draft, &book));
+    cases.extend(closed(random, &draft, &book));
     cases
 }
 
@@ -167,19 +174,24 @@ fn idle(random: &mut Random, draft: &Draft, book: &[u8]) -> Case {
     }
 }
 
-/// Every rule, and a number past them. A changed book is refused for all alike, so one rule is enough.
-fn blocked(random: &mut Random, draft: &Draft, book: &[u8]) -> Vec<Case> {
+/// Blocked and Culprits of every rule, and of a number past them. A changed book is refused for all alike,
+/// so one rule is enough.
+fn closed(random: &mut Random, draft: &Draft, book: &[u8]) -> Vec<Case> {
     let count = draft.rules.len();
     let mut rules: Vec<u32> = match book == draft.bytes() {
         true => (0..count as u32).collect(),
         false => vec![random.below(count) as u32],
     };
     rules.push(numbers::out_of_range(random, count));
-    let case = |rule: u32| Case::Blocked {
-        book: book.to_vec(),
-        rule,
+    let both = |rule: u32| {
+        let book = book.to_vec();
+        let blocked = Case::Blocked {
+            book: book.clone(),
+            rule,
+        };
+        [blocked, Case::Culprits { book, rule }]
     };
-    rules.into_iter().map(case).collect()
+    rules.into_iter().flat_map(both).collect()
 }
 
 /// The size of the next round's book: mostly small, as most faults show on small books.

@@ -14,6 +14,7 @@
 pub mod blocked;
 pub mod case;
 pub mod change;
+pub mod culprits;
 pub mod draft;
 pub mod named;
 pub mod needed;

@@ -3,10 +3,11 @@
 
 use crate::{show, Faulty, GOOD};
 use against::actions::{other_way, Pair};
-use against::engine::{packed, Blocking, Idleness, STEPS};
+use against::engine::{packed, with_asking, Behind, Blocking, Idleness, STEPS};
 use against::Engine;
 use second::book::Book;
-use second::{blocked, breaking, idle, path, plan, reading, Refusal};
+use second::{blocked, breaking, culprits, idle, path, plan, reading, Refusal};
+use std::collections::BTreeSet;
 
 /// In Judge alone.
 #[derive(Clone, Copy, Debug)]
@@ -19,6 +20,10 @@ pub struct InIdle(pub Pair);
 /// In Blocked alone.
 #[derive(Clone, Copy, Debug)]
 pub struct InBlocked(pub Pair);
+
+/// In Culprits alone.
+#[derive(Clone, Copy, Debug)]
+pub struct InCulprits(pub Pair);
 
 /// The book as the fault takes it.
 fn read(bytes: &[u8], pair: Pair) -> Book {
@@ -58,5 +63,19 @@ impl Faulty for InBlocked {
         let found = blocked::within(&read(book, self.0), rule as usize, STEPS)?;
         let value = found.map_or(0, |(user, data)| packed(user as u32, &data));
         Some(Ok(value))
+    }
+}
+
+impl Faulty for InCulprits {
+    fn culprits(&self, book: &[u8], rule: u32) -> Behind {
+        let answer = GOOD.culprits(book, rule)?;
+        if answer.is_err() {
+            return Some(answer);
+        }
+        let others = culprits::within(&read(book, self.0), rule as usize, STEPS)?;
+        let mask = |others: BTreeSet<usize>| others.into_iter().map(|r| 1 << r).sum();
+        Some(Ok(
+            others.map_or(0, |others| with_asking(mask(others), rule))
+        ))
     }
 }

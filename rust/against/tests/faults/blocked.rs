@@ -67,7 +67,7 @@ impl Faulty for Fault {
 
 impl Fault {
     /// What the fault finds for a rule that is there.
-    fn found(&self, bytes: &[u8], rule: u32) -> Option<u32> {
+    pub fn found(&self, bytes: &[u8], rule: u32) -> Option<u32> {
         let right = GOOD.blocked(bytes, rule)?.unwrap_or(0);
         let mut book = reading::read(bytes).expect("it is accepted");
         let r = rule as usize;
@@ -125,10 +125,11 @@ impl Fault {
             Fault::LastReferenceFirst => scope.reverse(),
             _ => {}
         }
+        let all = book.all_rules();
         let mut left_out = usize::from(*self == Fault::SecondAssociation);
         let found = book.rules[rule].users.iter().find_map(|&user| {
             let mut closed = |association: &[Datum]| {
-                let closed = !opens(book, user, association);
+                let closed = !opens(book, &all, user, association);
                 let skipped = closed && left_out > 0;
                 left_out -= usize::from(skipped);
                 closed && !skipped

@@ -4,12 +4,13 @@
 mod actions;
 mod base;
 mod blocked;
+mod culprits;
 mod mixing;
 mod order;
 mod submit;
 
 use against::actions::PAIRS;
-use against::engine::{Blocking, Idleness, Search, Second, STEPS};
+use against::engine::{Behind, Blocking, Idleness, Search, Second, STEPS};
 use against::mixing::MISREADINGS;
 use against::run::try_case;
 use against::{run, text, Difference, Engine, Limit, Reached};
@@ -23,7 +24,7 @@ const GOOD: Second = Second {
     search: Search::Skipping(STEPS),
 };
 
-/// The seven calls of a faulty engine: those that it does not get wrong are the good one's.
+/// The eight calls of a faulty engine: those that it does not get wrong are the good one's.
 trait Faulty {
     fn check(&self, book: &[u8]) -> Result<u32, Refusal> {
         GOOD.check(book)
@@ -47,6 +48,10 @@ trait Faulty {
 
     fn blocked(&self, book: &[u8], rule: u32) -> Blocking {
         GOOD.blocked(book, rule)
+    }
+
+    fn culprits(&self, book: &[u8], rule: u32) -> Behind {
+        GOOD.culprits(book, rule)
     }
 
     fn submit(&self, given: &mut Submit) -> Result<u32, Refusal> {
@@ -86,6 +91,10 @@ impl<F: Faulty> Engine for FaultyEngine<F> {
         self.0.blocked(book, rule)
     }
 
+    fn culprits(&self, book: &[u8], rule: u32) -> Behind {
+        self.0.culprits(book, rule)
+    }
+
     fn submit(&self, given: &mut Submit) -> Result<u32, Refusal> {
         self.0.submit(given)
     }
@@ -104,7 +113,7 @@ fn is_found_and_shown_again(fault: impl Faulty + Copy + Debug) {
     let engines: [&dyn Engine; 2] = [&FaultyEngine(fault), &GOOD];
     let mut cases = 0;
     let mut count = |reached: &Reached| cases = reached.cases;
-    let difference = run(engines, 7, Limit::Cases(85_000), &mut count);
+    let difference = run(engines, 7, Limit::Cases(100_000), &mut count);
     let difference = difference
         .err()
         .unwrap_or_else(|| panic!("{fault:?} not found"));
@@ -130,6 +139,7 @@ fn each_fault_of_actions_is_found_and_shown_again() {
         is_found_and_shown_again(actions::InJudge(pair));
         is_found_and_shown_again(actions::InIdle(pair));
         is_found_and_shown_again(actions::InBlocked(pair));
+        is_found_and_shown_again(actions::InCulprits(pair));
     }
 }
 
@@ -138,6 +148,19 @@ fn each_fault_of_blocked_is_found_and_shown_again() {
     blocked::FAULTS
         .into_iter()
         .for_each(is_found_and_shown_again);
+}
+
+#[test]
+fn each_fault_of_culprits_is_found_and_shown_again() {
+    culprits::FAULTS
+        .into_iter()
+        .for_each(is_found_and_shown_again);
+}
+
+#[test]
+fn what_is_stated_of_culprits_finds_faults_alone() {
+    let faults = culprits::FAULTS.into_iter();
+    faults.for_each(culprits::is_found_by_judge);
 }
 
 #[test]
