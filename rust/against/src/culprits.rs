@@ -10,7 +10,7 @@ const BLOCKED: Answer = Answer::Stated("blocked, and the asking rule is among th
 
 /// "An unblocked rule gets that reply and no mask. The refusals are N1's." And where the choices of
 /// operations are few enough to be judged, the mask is the one that they leave.
-pub fn try_behind(
+pub fn try_causes(
     engines: [&dyn Engine; 2],
     book: &[u8],
     rule: u32,

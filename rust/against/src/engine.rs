@@ -16,7 +16,7 @@ pub type Blocking = Option<Result<u32, Refusal>>;
 
 /// What Culprits answers: nothing where the engine gave up, else the value as C has it, the asking rule
 /// among the others and 0 for a rule that is not blocked.
-pub type Behind = Option<Result<u32, Refusal>>;
+pub type Causes = Option<Result<u32, Refusal>>;
 
 /// The eight calls of an engine.
 pub trait Engine {
@@ -35,7 +35,7 @@ pub trait Engine {
     /// Blocked.
     fn blocked(&self, book: &[u8], rule: u32) -> Blocking;
     /// Culprits.
-    fn culprits(&self, book: &[u8], rule: u32) -> Behind;
+    fn culprits(&self, book: &[u8], rule: u32) -> Causes;
     /// Submit: the ledger and the counts are changed as the call changes them.
     fn submit(&self, given: &mut Submit) -> Result<u32, Refusal>;
 }
@@ -91,7 +91,7 @@ impl Engine for Second {
             Some((user, data)) => packed(user, &data),
         }))
     }
-    fn culprits(&self, book: &[u8], rule: u32) -> Behind {
+    fn culprits(&self, book: &[u8], rule: u32) -> Causes {
         let answer = match self.search {
             Search::Skipping(steps) => second::culprits_within(book, rule, steps)?,
             Search::Naive(most) if choices(book, rule) > most => return None,
@@ -181,7 +181,7 @@ impl Engine for Proved {
     fn blocked(&self, book: &[u8], rule: u32) -> Blocking {
         Some(value(raw::blocked(book, rule)))
     }
-    fn culprits(&self, book: &[u8], rule: u32) -> Behind {
+    fn culprits(&self, book: &[u8], rule: u32) -> Causes {
         Some(value(raw::culprits(book, rule)))
     }
     fn submit(&self, given: &mut Submit) -> Result<u32, Refusal> {

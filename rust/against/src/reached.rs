@@ -55,9 +55,9 @@ pub struct Reached {
     /// Rules that are not blocked, as Culprits says.
     pub unblocked: u64,
     /// Rules whose data are closed beside no, one, two and more other rules.
-    pub behind: [u64; 4],
+    pub causes: [u64; 4],
     /// Of these, those that have others behind them where rules are dropped from the lowest number up.
-    pub behind_by_order: u64,
+    pub causes_by_order: u64,
     /// Judged plans that break some rule.
     pub broken: u64,
     /// Judged plans whose verdict depends on each of [`PAIRS`].
@@ -107,7 +107,7 @@ impl Reached {
             Answer::Open => self.open += 1,
             Answer::Closed(value) => self.count_closed(case, value),
             Answer::Unblocked => self.unblocked += 1,
-            Answer::Few(mask) => self.count_behind(case, mask),
+            Answer::Few(mask) => self.count_causes(case, mask),
             Answer::Admitted | Answer::Declined(_) => self.count_submitted(case, answer),
             Answer::Done => self.count_flows(case),
             Answer::Rules(_) => {}
@@ -153,12 +153,12 @@ impl Reached {
         }
     }
 
-    fn count_behind(&mut self, case: &Case, mask: u32) {
+    fn count_causes(&mut self, case: &Case, mask: u32) {
         let others = mask.count_ones() as usize - 1;
-        self.behind[others.min(3)] += 1;
+        self.causes[others.min(3)] += 1;
         if let Case::Culprits { book, rule } = case {
             let upward = left_from_the_lowest(book, *rule);
-            self.behind_by_order += u64::from(upward.is_some_and(|other| other != mask));
+            self.causes_by_order += u64::from(upward.is_some_and(|other| other != mask));
         }
     }
 
@@ -207,11 +207,11 @@ impl Reached {
 
     /// The rules behind the blocks, in words.
     fn by_others(&self) -> String {
-        let [none, one, two, more] = self.behind;
+        let [none, one, two, more] = self.causes;
         format!(
             "blocks: {} none, {none} by the rule alone, {one} with one other, {two} with two, {more} \
              with more ({} with others where dropped from the lowest)",
-            self.unblocked, self.behind_by_order
+            self.unblocked, self.causes_by_order
         )
     }
 

@@ -2,7 +2,7 @@
 
 use crate::answer::{self, Answer};
 use crate::compare::{try_one, wrong, Difference};
-use crate::culprits::try_behind;
+use crate::culprits::try_causes;
 use crate::engine::{unpacked, Engine};
 use crate::reached::Reached;
 use crate::submissions::{try_history, try_submission};
@@ -71,7 +71,7 @@ pub fn try_case(
         (Case::Blocked { book, .. }, Answer::Closed(value)) => {
             try_closed(engines, case, book, value)
         }
-        (Case::Culprits { book, rule }, answer) => try_behind(engines, book, *rule, answer),
+        (Case::Culprits { book, rule }, answer) => try_causes(engines, book, *rule, answer),
         (Case::Submit(given), answer) => try_submission(engines, given, answer),
         _ => Ok(()),
     }

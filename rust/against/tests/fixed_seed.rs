@@ -19,11 +19,11 @@ fn often(reached: &Reached) -> Vec<u64> {
         reached.closed_alone,
         reached.closed_by_several,
         reached.unblocked,
-        reached.behind[0],
-        reached.behind[1],
-        reached.behind[2],
-        reached.behind[3],
-        reached.behind_by_order,
+        reached.causes[0],
+        reached.causes[1],
+        reached.causes[2],
+        reached.causes[3],
+        reached.causes_by_order,
         reached.admitted,
         reached.declined,
         reached.declined_for_held,
@@ -61,7 +61,7 @@ fn no_difference_and_everything_reached() {
     assert_eq!(reached.refusals_of("blocked"), BLOCKED_REFUSALS);
     assert_eq!(reached.refusals_of("culprits"), BLOCKED_REFUSALS);
     assert_eq!(reached.refusals_of("submit"), SUBMIT_REFUSALS);
-    let closed: u64 = reached.closed.iter().chain(&reached.behind).sum();
+    let closed: u64 = reached.closed.iter().chain(&reached.causes).sum();
     let open = reached.open + reached.unblocked;
     let searched = reached.idle + reached.needed + open + closed;
     assert!(reached.given_up * 5 < searched, "{reached}");

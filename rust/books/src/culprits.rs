@@ -10,7 +10,7 @@ const LAST: u16 = 1 << 15;
 
 /// A hard book, the rule that is asked about, and the mask of the others behind its block.
 #[derive(Clone, Debug)]
-pub struct Behind {
+pub struct Hard {
     /// The name of the book.
     pub name: &'static str,
     /// The book.
@@ -22,7 +22,7 @@ pub struct Behind {
 }
 
 /// The hard books.
-pub fn hard() -> Vec<Behind> {
+pub fn hard() -> Vec<Hard> {
     vec![
         together(),
         together_at_end(),
@@ -33,8 +33,8 @@ pub fn hard() -> Vec<Behind> {
 
 /// All 32 rules are needed to close the first association: each choice of operations that has none raw
 /// breaks one rule alone.
-fn together() -> Behind {
-    Behind {
+fn together() -> Hard {
+    Hard {
         name: "32 together",
         draft: Draft {
             rules: parted(0, groups(), 4),
@@ -47,11 +47,11 @@ fn together() -> Behind {
 
 /// The last 31 rules close the last association to the last user, and nothing else; all are needed. Rule
 /// 0 accepts everything, and a search for what is closed to it comes to that association last.
-fn together_at_end() -> Behind {
+fn together_at_end() -> Hard {
     let lasts = [23, 43, 63].map(|leaf| reference(leaf, CONDITION));
     let mut rules = vec![asking(0, &groups(), vec![[0; 3]])];
     rules.extend(parted(31, lasts, 3));
-    Behind {
+    Hard {
         name: "31 together at the end",
         draft: Draft {
             rules,
@@ -64,9 +64,9 @@ fn together_at_end() -> Behind {
 
 /// Rules 0 to 14 are needed together, and rules 15 to 29 are the same once more, so that of each two
 /// either would do: the lower number stays, unless its twin is asked about.
-fn twins(name: &'static str, rule: u32) -> Behind {
+fn twins(name: &'static str, rule: u32) -> Hard {
     let once: Vec<Rule> = (1..16).map(|k| without(k, &groups())).collect();
-    Behind {
+    Hard {
         name,
         draft: Draft {
             rules: [once.clone(), once].concat(),

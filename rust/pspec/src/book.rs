@@ -1,6 +1,6 @@
 //! A book, and the calls that ask it something.
 
-use crate::{raw, Accesses, Blocking, Broken, Idleness, Plan, Refusal, Verdict};
+use crate::{raw, Accesses, Blocking, Broken, Causes, Idleness, Plan, Refusal, Verdict};
 use crate::{Ledger, Reply, Tally};
 use std::fmt;
 
@@ -193,6 +193,36 @@ impl Book {
     /// ```
     pub fn blocked(&self, rule: u32) -> Result<Blocking, Refusal> {
         raw::value(raw::blocked(&self.bytes, rule)).map(Blocking::of)
+    }
+
+    /// Which other rules, together with a blocked rule, close the user and data that
+    /// [`blocked`](Book::blocked) names. The others are dropped by trial from the highest number down, as
+    /// long as the data stay closed; [`Causes::Few`] has what is left. So where either of two would do the
+    /// lower number stays. The rule itself always counts, and is not among them. What `blocked` refuses is
+    /// refused.
+    ///
+    /// ```
+    /// use pspec::{Book, Causes, Refusal};
+    ///
+    /// # let bytes = books::named::small_shop().bytes();
+    /// let book = Book::new(bytes)?; // the small shop
+    /// assert_eq!(book.culprits(0)?, Causes::Unblocked);
+    ///
+    /// # let bytes = books::named::opposed_shop().bytes();
+    /// // The same with a rule 3, by which user 1 may have a price under operation 2 alone.
+    /// let book = Book::new(bytes)?;
+    /// let others = |rule| match book.culprits(rule) {
+    ///     Ok(Causes::Few(others)) => others.to_string(),
+    ///     other => format!("{other:?}"),
+    /// };
+    /// assert_eq!(others(0), "rules 1 and 3"); // rule 0 takes operations 1 and 2, they one each
+    /// assert_eq!(others(1), "rule 3"); // rule 1 takes operation 1 alone
+    /// assert_eq!(book.culprits(4), Err(Refusal::NoRule));
+    /// # Ok::<(), Refusal>(())
+    /// ```
+    pub fn culprits(&self, rule: u32) -> Result<Causes, Refusal> {
+        let value = raw::value(raw::culprits(&self.bytes, rule))?;
+        Ok(Causes::of(value, rule))
     }
 }
 

@@ -51,6 +51,7 @@ mod c {
             buffer_len: usize,
         ) -> u64;
         pub fn pspec_blocked(book: *const u8, book_len: usize, rule: u32) -> u64;
+        pub fn pspec_culprits(book: *const u8, book_len: usize, rule: u32) -> u64;
         pub fn pspec_submit(
             book: *const u8,
             book_len: usize,
@@ -111,6 +112,12 @@ pub fn blocked(book: &[u8], rule: u32) -> u64 {
     unsafe { c::pspec_blocked(book.as_ptr(), book.len(), rule) }
 }
 
+/// Which few rules close the data that `blocked` names. Value: see `others`.
+pub fn culprits(book: &[u8], rule: u32) -> u64 {
+    // SAFETY: as above; the call only reads.
+    unsafe { c::pspec_culprits(book.as_ptr(), book.len(), rule) }
+}
+
 /// Admits a user's plan or declines it. Value: the mask of the rules that it breaks with what the
 /// ledger holds for the user; 0 where it is admitted.
 pub fn submit(book: &[u8], user: u32, plan: &[u8], ledger: &mut [u64], tally: &mut Tally) -> u64 {
@@ -159,6 +166,16 @@ pub fn closed(value: u32) -> Option<(u32, [u8; 3])> {
     }
 }
 
+/// The mask of the other rules in a value of `culprits` for this rule; none where it is not blocked, as
+/// the value of a blocked one has the rule's own bit too.
+pub fn others(value: u32, rule: u32) -> Option<u32> {
+    let asking = 1u32.checked_shl(rule).unwrap_or(0);
+    match value {
+        0 => None,
+        _ => Some(value & !asking),
+    }
+}
+
 #[cfg(test)]
 mod tests {
     use super::*;
@@ -185,5 +202,16 @@ mod tests {
         assert_eq!(closed(128), Some((0, [128, 0, 0])));
         let value = 31 * (1 << 24) + 255 * (1 << 16) + 130 * 256 + 195;
         assert_eq!(closed(value), Some((31, [195, 130, 255])));
+    }
+
+    #[test]
+    fn rules_but_the_asking_one() {
+        assert_eq!(others(0, 5), None);
+        assert_eq!(others(1 << 31, 31), Some(0));
+        assert_eq!(others(0b1011, 0), Some(0b1010));
+        assert_eq!(others(u32::MAX, 31), Some(u32::MAX >> 1));
+        // No value is of such a rule, but nothing is shifted out.
+        assert_eq!(others(0b11, 32), Some(0b11));
+        assert_eq!(others(0b11, u32::MAX), Some(0b11));
     }
 }

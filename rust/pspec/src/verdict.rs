@@ -1,6 +1,6 @@
 //! What is said of a user and a plan.
 
-use crate::Refusal;
+use crate::{Refusal, Rules};
 use std::fmt;
 
 /// What Judge says of a user and a plan. Ask [`opens`](Verdict::opens), or match both cases.
@@ -47,43 +47,39 @@ impl Verdict {
 #[derive(Clone, Copy, Debug, PartialEq, Eq, Hash)]
 #[must_use = "the gate opens only where `opens` says so"]
 pub struct Broken {
-    mask: u32,
+    rules: Rules,
 }
 
 impl Broken {
     pub(crate) fn new(mask: u32) -> Broken {
-        Broken { mask }
+        let rules = Rules::of(mask);
+        Broken { rules }
     }
 
     /// Does the gate open? Only where no rule is broken.
     pub fn opens(self) -> bool {
-        self.mask == 0
+        self.rules.is_empty()
     }
 
     /// The numbers of the broken rules, lowest first.
     pub fn rules(self) -> impl Iterator<Item = u32> {
-        (0..32).filter(move |&rule| self.contains(rule))
+        self.rules.numbers()
     }
 
     /// Is this rule broken?
     pub fn contains(self, rule: u32) -> bool {
-        rule < 32 && self.mask >> rule & 1 == 1
+        self.rules.contains(rule)
     }
 
     /// Bit r for rule r.
     pub fn mask(self) -> u32 {
-        self.mask
+        self.rules.mask()
     }
 }
 
 impl fmt::Display for Broken {
     fn fmt(&self, f: &mut fmt::Formatter<'_>) -> fmt::Result {
-        let rules: Vec<String> = self.rules().map(|rule| rule.to_string()).collect();
-        match rules.as_slice() {
-            [] => f.write_str("no rule"),
-            [one] => write!(f, "rule {one}"),
-            [first @ .., last] => write!(f, "rules {} and {last}", first.join(", ")),
-        }
+        self.rules.fmt(f)
     }
 }
 
@@ -105,10 +101,6 @@ mod tests {
 
     #[test]
     fn in_words() {
-        let said = |mask| Broken::new(mask).to_string();
-        assert_eq!(said(0), "no rule");
-        assert_eq!(said(1), "rule 0");
-        assert_eq!(said(0b110), "rules 1 and 2");
-        assert_eq!(said(1 << 31 | 0b110), "rules 1, 2 and 31");
+        assert_eq!(Broken::new(0b110).to_string(), "rules 1 and 2");
     }
 }

@@ -1,7 +1,7 @@
 //! Empty slices, and slices in the middle of other bytes.
 
 use books::named::{opposed_shop, small_shop};
-use pspec::{raw, seal, Book, Ledger, Plan, Refusal, Reply, Tally, Verdict};
+use pspec::{raw, seal, Book, Causes, Ledger, Plan, Refusal, Reply, Tally, Verdict};
 
 fn refusal(answer: u64) -> Refusal {
     raw::value(answer).expect_err("it is refused")
@@ -19,6 +19,7 @@ fn empty_slices() {
     assert_eq!(refusal(raw::idle(&[], 0, &mut [])), Refusal::BookLength);
     assert_eq!(refusal(raw::idle(&book, 0, &mut [])), Refusal::BufferLength);
     assert_eq!(refusal(raw::blocked(&[], 0)), Refusal::BookLength);
+    assert_eq!(refusal(raw::culprits(&[], 0)), Refusal::BookLength);
     let mut tally = raw::Tally::default();
     let mut submit = |book: &[u8]| raw::submit(book, 1, &[], &mut [], &mut tally);
     assert_eq!(refusal(submit(&[])), Refusal::BookLength);
@@ -96,6 +97,43 @@ fn closed_data() {
     let closed = forbids(0).blocked(3).expect("it has a restriction");
     assert!(!closed.is_open());
     assert_eq!(forbids(3).blocked(u32::MAX), Err(Refusal::NoRule));
+}
+
+/// The value as the header packs it, the asking rule among the others, and the same as types.
+#[test]
+fn rules_behind_a_block() {
+    let bytes = opposed_shop().bytes();
+    let book = Book::new(bytes.clone()).expect("it is sound");
+    for (rule, others) in (0..).zip([0b1010, 0b1000, 0b1000, 0b0010]) {
+        assert_eq!(raw::culprits(&bytes, rule), u64::from(others + (1 << rule)));
+        let Ok(Causes::Few(rules)) = book.culprits(rule) else {
+            panic!("rule {rule} is blocked");
+        };
+        assert_eq!(rules.mask(), others);
+    }
+    for rule in [4, 31, 32, 259, u32::MAX] {
+        assert_eq!(refusal(raw::culprits(&bytes, rule)), Refusal::NoRule);
+        assert_eq!(book.culprits(rule), Err(Refusal::NoRule));
+    }
+    let mut shop = opposed_shop();
+    shop.rules[3].restrictions.clear();
+    let book = Book::new(shop.bytes()).expect("it is sound");
+    assert_eq!(book.culprits(3), Err(Refusal::RuleForbids));
+}
+
+/// A rule that closes its data by itself has no others behind it, and that is not the answer for an
+/// unblocked one.
+#[test]
+fn no_others_behind_a_block() {
+    let mut shop = small_shop();
+    let book = Book::new(shop.bytes()).expect("it is sound");
+    assert_eq!(book.culprits(1), Ok(Causes::Unblocked));
+    shop.functions = vec![0, 2];
+    let book = Book::new(shop.bytes()).expect("it is sound");
+    let Ok(Causes::Few(others)) = book.culprits(1) else {
+        panic!("no function has what it asks for");
+    };
+    assert!(others.is_empty());
 }
 
 #[test]

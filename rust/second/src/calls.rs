@@ -175,30 +175,30 @@ fn numbered(closed: blocked::Closed) -> Blocking {
 }
 
 /// The mask of the other rules behind a block; none for a rule that is not blocked.
-type Behind = Option<u32>;
+type Causes = Option<u32>;
 
 /// **Culprits** (document 02, N6). "The mask may be empty. [..] An unblocked rule gets that reply and
 /// no mask." `None` is unblocked.
-pub fn culprits(book: &[u8], rule: u32) -> Result<Behind, Refusal> {
+pub fn culprits(book: &[u8], rule: u32) -> Result<Causes, Refusal> {
     let answer = culprits_within(book, rule, u64::MAX);
     answer.expect("no search takes so many steps")
 }
 
 /// Culprits by trying every choice of operations for each rule dropped, for small books.
-pub fn culprits_naive(book: &[u8], rule: u32) -> Result<Behind, Refusal> {
+pub fn culprits_naive(book: &[u8], rule: u32) -> Result<Causes, Refusal> {
     let (book, rule) = with_restrictions(book, rule)?;
     Ok(masked(culprits::naive(&book, rule)))
 }
 
 /// Culprits, or nothing when the search takes more than so many steps. "The refusals are N1's."
-pub fn culprits_within(book: &[u8], rule: u32, steps: u64) -> Option<Result<Behind, Refusal>> {
+pub fn culprits_within(book: &[u8], rule: u32, steps: u64) -> Option<Result<Causes, Refusal>> {
     match with_restrictions(book, rule) {
         Err(refusal) => Some(Err(refusal)),
         Ok((book, rule)) => Some(Ok(masked(culprits::within(&book, rule, steps)?))),
     }
 }
 
-fn masked(others: Others) -> Behind {
+fn masked(others: Others) -> Causes {
     others.map(|rules| mask(&rules))
 }
 

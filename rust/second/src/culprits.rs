@@ -56,7 +56,11 @@ pub fn within(book: &Book, rule: usize, steps: u64) -> Option<Others> {
 }
 
 /// The rules that a choice of operations breaks, for each choice, of those that are alike one.
-pub fn broken_by_choice(book: &Book, user: usize, association: &[Datum]) -> BTreeSet<BTreeSet<usize>> {
+pub fn broken_by_choice(
+    book: &Book,
+    user: usize,
+    association: &[Datum],
+) -> BTreeSet<BTreeSet<usize>> {
     let covering = book.covering(user);
     let rules: Vec<&Rule> = covering.iter().map(|&r| &book.rules[r]).collect();
     let data = association.iter();

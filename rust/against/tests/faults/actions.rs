@@ -3,7 +3,7 @@
 
 use crate::{show, Faulty, GOOD};
 use against::actions::{other_way, Pair};
-use against::engine::{packed, with_asking, Behind, Blocking, Idleness, STEPS};
+use against::engine::{packed, with_asking, Blocking, Causes, Idleness, STEPS};
 use against::Engine;
 use second::book::Book;
 use second::{blocked, breaking, culprits, idle, path, plan, reading, Refusal};
@@ -67,7 +67,7 @@ impl Faulty for InBlocked {
 }
 
 impl Faulty for InCulprits {
-    fn culprits(&self, book: &[u8], rule: u32) -> Behind {
+    fn culprits(&self, book: &[u8], rule: u32) -> Causes {
         let answer = GOOD.culprits(book, rule)?;
         if answer.is_err() {
             return Some(answer);

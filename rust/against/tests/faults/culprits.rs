@@ -1,14 +1,15 @@
 //! Faults of Culprits (document 02, N6).
 
 use crate::{assert_shown_again, blocked, Faulty, FaultyEngine, GOOD};
-use against::engine::{unpacked, Behind};
+use against::engine::{unpacked, Causes};
 use against::run::try_case;
 use against::{Engine, Reached};
 use books::{case, Case, Random};
 use second::book::Book;
 use second::culprits::broken_by_choice;
-use second::rule::Rule;
+use second::rule::{Restriction, Rule};
 use second::{reading, Refusal};
+use std::collections::BTreeSet;
 use std::ops::Range;
 
 #[derive(Clone, Copy, Debug, PartialEq, Eq)]
@@ -59,7 +60,7 @@ pub const FAULTS: [Fault; 20] = [
 ];
 
 impl Faulty for Fault {
-    fn culprits(&self, book: &[u8], rule: u32) -> Behind {
+    fn culprits(&self, book: &[u8], rule: u32) -> Causes {
         let rule = match self {
             Fault::CutsRuleToAByte => rule % 256,
             _ => rule,
@@ -99,42 +100,40 @@ impl Fault {
 
     /// The rules that the fault leaves of those that close an association.
     fn left(&self, bytes: &[u8], rule: u32, value: u32) -> u32 {
-        let mut book = reading::read(bytes).expect("it is accepted");
+        let book = reading::read(bytes).expect("it is accepted");
         let (user, _) = unpacked(value);
-        let covers = |of: &Rule| of.users.contains(&(user as usize));
-        let covering: Vec<bool> = book.rules.iter().map(covers).collect();
-        let forbidding: Vec<bool> = book.rules.iter().map(forbids).collect();
-        self.change(&mut book);
-        let mut block = Block::new(&book, rule, value);
-        if *self == Fault::AskingRuleDoesNotCount {
-            block
-                .choices
-                .iter_mut()
-                .for_each(|broken| *broken &= !(1 << rule));
-        }
-        let falling = block.others().rev();
+        let covers = |r: &u32| book.rules[*r as usize].users.contains(&(user as usize));
+        let permits = |r: &u32| !forbids(&book.rules[*r as usize]);
+        let closed = Association::new(&self.changed(&book, rule), rule, value);
+        let falling = closed.others().rev();
         match self {
-            Fault::DropsFromTheLowest => block.left(block.others()),
-            Fault::DropsTheAskingRule => block.left(block.rules.clone().rev()),
+            Fault::DropsFromTheLowest => closed.left(closed.others()),
+            Fault::DropsTheAskingRule => closed.left(closed.rules.clone().rev()),
             Fault::LastDropIsNotUndone => {
-                let last = block.others().next().map_or(0, |lowest| 1 << lowest);
-                block.left(falling) & !last
+                let last = closed.others().next().map_or(0, |lowest| 1 << lowest);
+                closed.left(falling) & !last
             }
             Fault::StopsWhereItOpens => {
                 let below = |r: u32| (1 << r) - 1;
-                let closed = |&r: &u32| block.closed(below(r) | (1 << rule));
-                block.left(falling.take_while(closed))
+                let stays = |&r: &u32| closed.by(below(r) | (1 << rule));
+                closed.left(falling.take_while(stays))
             }
-            Fault::FewestRules => block.fewest(),
-            Fault::KeepsRulesOfOtherUsers => block.left(falling.filter(|&r| covering[r as usize])),
-            Fault::KeepsForbiddingRules => block.left(falling.filter(|&r| !forbidding[r as usize])),
-            _ => block.left(falling),
+            Fault::FewestRules => closed.fewest(),
+            Fault::KeepsRulesOfOtherUsers => closed.left(falling.filter(covers)),
+            Fault::KeepsForbiddingRules => closed.left(falling.filter(permits)),
+            _ => closed.left(falling),
         }
     }
 
     /// The book as the fault takes it when it has the user and the association.
-    fn change(&self, book: &mut Book) {
+    fn changed(&self, book: &Book, rule: u32) -> Book {
+        let mut book = book.clone();
         match self {
+            Fault::AskingRuleDoesNotCount => {
+                let masks = vec![BTreeSet::new(); 3];
+                let restrictions = &mut book.rules[rule as usize].restrictions;
+                restrictions.push(Restriction { masks });
+            }
             Fault::RulesOfOtherUsersCount => {
                 let all = book.users.leaves();
                 book.rules.iter_mut().for_each(|of| of.users.extend(&all));
@@ -146,6 +145,7 @@ impl Fault {
             Fault::OperationsThatNoFunctionHas => book.functions = (0..16).collect(),
             _ => {}
         }
+        book
     }
 }
 
@@ -153,8 +153,8 @@ fn forbids(rule: &Rule) -> bool {
     rule.restrictions.is_empty()
 }
 
-/// An association that Blocked names.
-struct Block {
+/// A closed association that Blocked names.
+struct Association {
     /// The rules of the book.
     rules: Range<u32>,
     /// The asking one.
@@ -163,11 +163,11 @@ struct Block {
     choices: Vec<u32>,
 }
 
-impl Block {
-    fn new(book: &Book, rule: u32, value: u32) -> Block {
+impl Association {
+    fn new(book: &Book, rule: u32, value: u32) -> Association {
         let (user, data) = unpacked(value);
         let choices = broken_by_choice(book, user as usize, &data).into_iter();
-        Block {
+        Association {
             rules: 0..book.rules.len() as u32,
             rule,
             choices: choices
@@ -182,7 +182,8 @@ impl Block {
         self.rules.clone().filter(move |&r| r != rule)
     }
 
-    fn closed(&self, rules: u32) -> bool {
+    /// Is it closed by these rules?
+    fn by(&self, rules: u32) -> bool {
         self.choices.iter().all(|broken| broken & rules != 0)
     }
 
@@ -190,7 +191,7 @@ impl Block {
     fn left(&self, dropped: impl Iterator<Item = u32>) -> u32 {
         let all = self.rules.clone().map(|r| 1 << r).sum();
         dropped.fold(all, |left, r| match left & !(1 << r) {
-            fewer if self.closed(fewer) => fewer,
+            fewer if self.by(fewer) => fewer,
             _ => left,
         })
     }
@@ -202,7 +203,7 @@ impl Block {
             return self.left(self.others().rev());
         }
         let masks = (0u32..1 << self.rules.end).filter(|mask| mask >> self.rule & 1 == 1);
-        let closing = masks.filter(|&mask| self.closed(mask));
+        let closing = masks.filter(|&mask| self.by(mask));
         closing.min_by_key(|mask| mask.count_ones()).unwrap_or(0)
     }
 }

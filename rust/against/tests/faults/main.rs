@@ -10,7 +10,7 @@ mod order;
 mod submit;
 
 use against::actions::PAIRS;
-use against::engine::{Behind, Blocking, Idleness, Search, Second, STEPS};
+use against::engine::{Blocking, Causes, Idleness, Search, Second, STEPS};
 use against::mixing::MISREADINGS;
 use against::run::try_case;
 use against::{run, text, Difference, Engine, Limit, Reached};
@@ -50,7 +50,7 @@ trait Faulty {
         GOOD.blocked(book, rule)
     }
 
-    fn culprits(&self, book: &[u8], rule: u32) -> Behind {
+    fn culprits(&self, book: &[u8], rule: u32) -> Causes {
         GOOD.culprits(book, rule)
     }
 
@@ -91,7 +91,7 @@ impl<F: Faulty> Engine for FaultyEngine<F> {
         self.0.blocked(book, rule)
     }
 
-    fn culprits(&self, book: &[u8], rule: u32) -> Behind {
+    fn culprits(&self, book: &[u8], rule: u32) -> Causes {
         self.0.culprits(book, rule)
     }
 
