@@ -1,6 +1,6 @@
 /*
  * Reads a book, checks it, judges three plans, submits some from Monday to Friday, and asks of each rule
- * whether it is idle and whether it is blocked.
+ * whether it is idle, whether it is blocked and by which rules.
  *
  *   rt staticlib capi
  *   cc -Iinclude include/example.c target/staticlib/libcapi.a -o target/example
@@ -18,6 +18,13 @@ static void print_refusal(uint64_t answer)
     printf("refused %u place %u\n", pspec_number(answer), pspec_place(answer));
 }
 
+static void print_rules(uint32_t mask)
+{
+    for (int rule = 0; rule < 32; rule++)
+        if (mask >> rule & 1)
+            printf(" %d", rule);
+}
+
 static void judge(const uint8_t *book, size_t length, uint32_t user, const char *name, const uint8_t *plan,
                   size_t plan_length)
 {
@@ -32,9 +39,7 @@ static void judge(const uint8_t *book, size_t length, uint32_t user, const char 
         return;
     }
     printf("breaks");
-    for (int rule = 0; rule < 32; rule++)
-        if (pspec_mask(answer) >> rule & 1)
-            printf(" %d", rule);
+    print_rules(pspec_mask(answer));
     printf("\n");
 }
 
@@ -92,6 +97,10 @@ static void blocked(const uint8_t *book, size_t length, uint32_t rule)
         uint32_t byte = pspec_closed_byte(answer, i);
         printf(" %s %u", pspec_is_condition(byte) ? "condition" : "projection", pspec_leaf(byte));
     }
+    /* Of the same book and rule, so neither refused nor unblocked. */
+    uint32_t others = pspec_other_rules(pspec_culprits(book, length, rule), rule);
+    printf(others == 0 ? ", alone" : ", with rules");
+    print_rules(others);
     printf("\n");
 }
 

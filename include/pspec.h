@@ -1,5 +1,5 @@
 /*
- * The PSpec policy engine for C: seven calls. Link with libcapi.a (rt staticlib capi; x86-64 Linux).
+ * The PSpec policy engine for C: eight calls. Link with libcapi.a (rt staticlib capi; x86-64 Linux).
  *
  * Parameters. A slice is a pointer and a length in elements: bytes for a book, a block, a plan and a
  * buffer, 64-bit words for `words` and `ledger`. A record, `tally`, is a pointer to one struct. The
@@ -128,6 +128,18 @@ uint64_t pspec_idle(const uint8_t *book, size_t book_length, uint32_t rule, uint
 uint64_t pspec_blocked(const uint8_t *book, size_t book_length, uint32_t rule);
 
 /*
+ * Culprits: which few rules close the user and association that pspec_blocked gives. All other rules of the
+ * book are dropped by trial from the highest number down; a drop is kept when every choice of operations still
+ * breaks a rule that is left or the asking one, which always counts and is never dropped. So the others that
+ * are left close the association together with the asking rule, and no proper subset of them does. Refuses
+ * 1 to 9, 24, 26, as pspec_blocked does. Value: 0 when the rule is not blocked. Otherwise a mask, bit r for
+ * rule r, of the others that are left and the asking rule: 2^rule alone when it closes the association by
+ * itself. At least one of these rules has to change before the association opens; that one is enough is not
+ * said, as rules that were dropped may close it too.
+ */
+uint64_t pspec_culprits(const uint8_t *book, size_t book_length, uint32_t rule);
+
+/*
  * How many plans were admitted and how many declined, of all users together. Any counts may be given; fresh
  * is {0, 0}.
  */
@@ -165,7 +177,8 @@ static inline uint32_t pspec_place(uint64_t answer) { return (uint32_t)(answer >
 /* pspec_check: the number of rules. */
 static inline uint32_t pspec_value(uint64_t answer) { return (uint32_t)answer; }
 
-/* pspec_judge and pspec_submit: bit r for rule r. Look at pspec_number first: a refusal's mask is 0 too. */
+/* pspec_judge, pspec_submit and pspec_culprits: bit r for rule r. Look at pspec_number first: a refusal's mask
+ * is 0 too. */
 static inline uint32_t pspec_mask(uint64_t answer) { return pspec_value(answer); }
 
 /* pspec_submit: not refused, and the plan may be run. */
@@ -193,6 +206,15 @@ static inline uint32_t pspec_closed_byte(uint64_t answer, unsigned reference)
 /* A byte that is not 0: whether its data would be used as condition, not put out; and their leaf. */
 static inline int pspec_is_condition(uint32_t byte) { return (byte & 64u) != 0; }
 static inline uint32_t pspec_leaf(uint32_t byte) { return byte & 63u; }
+
+/* pspec_culprits: not refused, and the rule is not blocked. */
+static inline int pspec_is_unblocked(uint64_t answer) { return answer == 0; }
+
+/* pspec_culprits of this rule, neither refused nor unblocked: the others; 0 where the rule is enough alone. */
+static inline uint32_t pspec_other_rules(uint64_t answer, uint32_t rule)
+{
+    return rule < 32 ? pspec_mask(answer) & ~(UINT32_C(1) << rule) : pspec_mask(answer);
+}
 
 #ifdef __cplusplus
 }

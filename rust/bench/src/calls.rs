@@ -46,12 +46,19 @@ mod with_engine {
         Some(best(|| rules.clone().all(answered)))
     }
 
-    /// The time of each rule that does not forbid.
     pub fn blocked(book: &[u8], rules: Range<u32>) -> Option<Vec<(u32, Duration)>> {
-        let search = |rule: u32| raw::blocked(black_box(book), rule);
+        Some(each(rules, |rule| raw::blocked(black_box(book), rule)))
+    }
+
+    pub fn culprits(book: &[u8], rules: Range<u32>) -> Option<Vec<(u32, Duration)>> {
+        Some(each(rules, |rule| raw::culprits(black_box(book), rule)))
+    }
+
+    /// The time of each rule that does not forbid.
+    fn each(rules: Range<u32>, search: impl Fn(u32) -> u64) -> Vec<(u32, Duration)> {
         let answered = |rule: &u32| raw::value(search(*rule)).is_ok();
         let timed = |rule: u32| (rule, best(|| search(rule)));
-        Some(rules.filter(answered).map(timed).collect())
+        rules.filter(answered).map(timed).collect()
     }
 
     pub fn check_once(book: &[u8]) {
@@ -78,6 +85,10 @@ mod with_engine {
 
     pub fn blocked_once(book: &[u8], rule: u32) {
         black_box(raw::blocked(black_box(book), rule));
+    }
+
+    pub fn culprits_once(book: &[u8], rule: u32) {
+        black_box(raw::culprits(black_box(book), rule));
     }
 }
 
@@ -113,6 +124,10 @@ mod without {
         None
     }
 
+    pub fn culprits(_: &[u8], _: Range<u32>) -> Option<Vec<(u32, Duration)>> {
+        None
+    }
+
     pub fn check_once(_: &[u8]) {}
 
     pub fn flows_once(_: &[u8], _: &[u8]) {}
@@ -124,4 +139,6 @@ mod without {
     pub fn idle_once(_: &[u8], _: u32) {}
 
     pub fn blocked_once(_: &[u8], _: u32) {}
+
+    pub fn culprits_once(_: &[u8], _: u32) {}
 }

@@ -13,7 +13,7 @@ pub struct Counted {
 }
 
 /// The plain loop over the sums comes first: the others are given as its multiples.
-pub const CALLS: [Counted; 8] = [
+pub const CALLS: [Counted; 9] = [
     counted("sums", "*check_sums*", 0),
     counted("check", "pspec_check", 0),
     counted("flows, 64 rows", "pspec_flows", 64),
@@ -22,6 +22,7 @@ pub const CALLS: [Counted; 8] = [
     counted("submit, 64 rows", "pspec_submit", 64),
     counted("idle", "pspec_idle", 0),
     counted("blocked", "pspec_blocked", 0),
+    counted("culprits", "pspec_culprits", 0),
 ];
 
 const fn counted(name: &'static str, symbol: &'static str, rows: usize) -> Counted {
@@ -32,7 +33,9 @@ impl Counted {
     /// Its name, with the rule where one is asked about.
     pub fn about(&self, rule: u32) -> String {
         match self.symbol {
-            "pspec_idle" | "pspec_blocked" => format!("{}, rule {rule}", self.name),
+            "pspec_idle" | "pspec_blocked" | "pspec_culprits" => {
+                format!("{}, rule {rule}", self.name)
+            }
             _ => self.name.to_string(),
         }
     }
@@ -67,6 +70,7 @@ pub fn once(name: &str, input: &Input) {
         "pspec_submit" => calls::submit_once(&input.book, input.user, plan),
         "pspec_idle" => calls::idle_once(&input.book, input.rules.start),
         "pspec_blocked" => calls::blocked_once(&input.book, input.rules.start),
+        "pspec_culprits" => calls::culprits_once(&input.book, input.rules.start),
         _ => {
             black_box(check_sums(black_box(&input.book)));
         }

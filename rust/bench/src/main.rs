@@ -57,9 +57,9 @@ impl For {
     fn has(self, call: &str) -> bool {
         match self {
             For::All => true,
-            For::Searches => call == "idle" || call == "blocked",
+            For::Searches => ["idle", "blocked", "culprits"].contains(&call),
             For::Idle => call == "idle",
-            For::Blocked => call == "blocked",
+            For::Blocked => ["blocked", "culprits"].contains(&call),
         }
     }
 }
@@ -97,7 +97,14 @@ fn timed() -> Vec<Timed> {
         rule: 30,
         calls: For::Blocked,
     });
-    named.chain(needed).chain(hard).collect()
+    let together = books::culprits::hard().into_iter().map(|book| Timed {
+        name: book.name.to_string(),
+        draft: book.draft,
+        rule: book.rule,
+        calls: For::Blocked,
+    });
+    let all = named.chain(needed).chain(hard).chain(together);
+    all.collect()
 }
 
 /// The books for timing, and one that is worst for Judge.
@@ -112,19 +119,25 @@ fn all() -> Vec<Timed> {
     all
 }
 
-/// The book for the stack alone: the engine goes up its categories by recursion.
-fn deep() -> Timed {
-    Timed {
-        name: "one chain".to_string(),
-        draft: named::chain(),
+/// The books for the stack alone: the engine goes up their categories by recursion. Without functions every
+/// rule is blocked.
+fn deep() -> [Timed; 2] {
+    let chain = named::chain();
+    let blocked = Draft {
+        functions: vec![],
+        ..chain.clone()
+    };
+    [("one chain", chain), ("blocked chain", blocked)].map(|(name, draft)| Timed {
+        name: name.to_string(),
+        draft,
         rule: 0,
         calls: For::All,
-    }
+    })
 }
 
 /// The input of a book by its name.
 fn input_named(name: &str) -> Input {
-    let mut books = all().into_iter().chain([deep()]);
+    let mut books = all().into_iter().chain(deep());
     let found = books.find(|book| book.name == name);
     let book = found.expect("a book of that name");
     Input::new(book.name, book.draft, book.rule..book.rule + 1)
@@ -169,6 +182,7 @@ fn times() {
         }
         if book.calls.has("blocked") {
             blocked(&input);
+            culprits(&input);
         }
     }
 }
@@ -179,7 +193,7 @@ struct Input {
     book: Vec<u8>,
     plan: Vec<u8>,
     user: u32,
-    /// The rules that Idle and Blocked are asked about, one after the other.
+    /// The rules that Idle, Blocked and Culprits are asked about, one after the other.
     rules: Range<u32>,
 }
 
@@ -321,25 +335,41 @@ fn idle_naive(input: &Input) {
     });
 }
 
-/// The rule that takes the engine longest, and all rules together. Without the engine, the first rule.
 fn blocked(input: &Input) {
+    let search = |rule: u32| second::blocked_within(black_box(&input.book), rule, STEPS).is_some();
     let engine = calls::blocked(&input.book, input.rules.clone());
+    by_rule(input, "blocked", engine, search);
+}
+
+fn culprits(input: &Input) {
+    let search = |rule: u32| second::culprits_within(black_box(&input.book), rule, STEPS).is_some();
+    let engine = calls::culprits(&input.book, input.rules.clone());
+    by_rule(input, "culprits", engine, search);
+}
+
+/// The rule that takes the engine longest, and all rules together. Without the engine, the first rule. The
+/// search of the second implementation says whether it ended.
+fn by_rule(
+    input: &Input,
+    call: &str,
+    engine: Option<Vec<(u32, Duration)>>,
+    search: impl Fn(u32) -> bool,
+) {
     let worst = engine.iter().flatten().max_by_key(|(_, time)| *time);
     let asked = worst.map_or(input.rules.start, |(rule, _)| *rule);
-    let search = |rule: u32| second::blocked_within(black_box(&input.book), rule, STEPS);
-    let one = || search(asked).is_some();
-    let all = || input.rules.clone().all(|rule| search(rule).is_some());
+    let one = || search(asked);
+    let all = || input.rules.clone().all(&search);
     let second = one().then(|| best(one));
     let worst_said = worst.map_or("", |_| "worst ");
     table::row(&Line {
         engine: worst.map(|(_, time)| *time),
         second,
-        ..input.line(format!("blocked, {worst_said}rule {asked}"))
+        ..input.line(format!("{call}, {worst_said}rule {asked}"))
     });
     let soon = second.is_some_and(|time| time < SOON);
     table::row(&Line {
         engine: engine.map(|times| times.iter().map(|(_, time)| *time).sum()),
         second: (soon && all()).then(|| best(all)),
-        ..input.line("blocked, all rules")
+        ..input.line(format!("{call}, all rules"))
     });
 }

@@ -4,20 +4,23 @@
 use crate::{count, Input};
 use std::process::{Command, Stdio};
 
-/// What needs stack: the largest tables, and the longest recursion, up a chain of categories.
-const BOOKS: [&str; 2] = ["largest", "one chain"];
+/// What needs stack: the largest tables, and the longest recursion, up a chain of categories; and each with
+/// a blocked rule, from which on Culprits has more to do than Blocked.
+const BOOKS: [&str; 4] = ["largest", "32 together", "one chain", "blocked chain"];
 
-/// Prints the smallest stack of each call on each book, and on both.
+/// Prints the smallest stack of each call on each book, and on all.
 pub fn print() {
-    println!(
-        "{:<15} {:>9} {:>9} {:>9}",
-        "KiB", BOOKS[0], BOOKS[1], "both"
-    );
+    print_line("KiB", BOOKS.map(str::to_string), "all".to_string());
     for call in count::CALLS.iter().filter(|call| call.name != "sums") {
-        let [one, other] = BOOKS.map(|book| smallest(call.name, book));
-        let both = one.max(other);
-        println!("{:<15} {one:>9} {other:>9} {both:>9}", call.name);
+        let each = BOOKS.map(|book| smallest(call.name, book));
+        let all = each.into_iter().max().unwrap_or(0);
+        print_line(call.name, each.map(|kib| kib.to_string()), all.to_string());
     }
+}
+
+fn print_line(name: &str, each: [String; 4], all: String) {
+    let each = each.map(|cell| format!(" {cell:>13}")).concat();
+    println!("{name:<15}{each} {all:>13}");
 }
 
 /// The smallest stack of a call, to the next KiB, of those that a thread can have.

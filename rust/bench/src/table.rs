@@ -41,7 +41,7 @@ pub fn row(line: &Line) {
 
 fn print([book, call, engine, second, ratio, plain, plain_ratio]: [String; 7]) {
     let timed = format!("{engine:>10} {second:>10} {ratio:>14}");
-    println!("{book:<29} {call:<22} {timed} {plain:>10} {plain_ratio:>12}");
+    println!("{book:<29} {call:<23} {timed} {plain:>10} {plain_ratio:>12}");
 }
 
 fn time(time: Option<Duration>) -> String {
@@ -76,5 +76,5 @@ pub fn count_row(book: &str, call: &str, number: Option<u64>, sums: Option<u64>)
 }
 
 fn count_print([book, call, number, ratio]: [String; 4]) {
-    println!("{book:<30} {call:<16} {number:>14} {ratio:>8}");
+    println!("{book:<30} {call:<17} {number:>14} {ratio:>8}");
 }
