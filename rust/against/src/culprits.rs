@@ -1,9 +1,9 @@
 //! What document 02's N6 states of an answer of Culprits, by the same engine's Blocked and Judge.
 
 use crate::answer::Answer;
+use crate::closed::judged;
 use crate::compare::{wrong, Difference};
 use crate::engine::Engine;
-use crate::run::judged;
 use books::Case;
 
 const BLOCKED: Answer = Answer::Stated("blocked, and the asking rule is among those that close it");
@@ -25,7 +25,7 @@ pub fn try_causes(
         Ok(0) => Answer::Unblocked,
         Ok(value) => match (broken_by_choice(engines[0], book, value), answer) {
             (Some(choices), _) => Answer::Few(left_by_trial(&choices, rule)),
-            (None, Answer::Few(mask)) if mask >> rule & 1 == 1 => answer,
+            (None, Answer::Few(mask)) if has(mask, rule) => answer,
             (None, _) => BLOCKED,
         },
     };
@@ -33,12 +33,12 @@ pub fn try_causes(
         return Ok(());
     }
     let book = book.to_vec();
-    Err(wrong(
-        engines,
-        Case::Culprits { book, rule },
-        wanted,
-        answer,
-    ))
+    let case = Case::Culprits { book, rule };
+    Err(wrong(engines, case, wanted, answer))
+}
+
+fn has(mask: u32, rule: u32) -> bool {
+    rule < 32 && mask >> rule & 1 == 1
 }
 
 /// The mask of the rules that each choice of operations breaks; nothing where one is refused.

@@ -4,6 +4,7 @@
 
 pub mod actions;
 pub mod answer;
+pub mod closed;
 pub mod compare;
 pub mod culprits;
 pub mod engine;

@@ -299,9 +299,10 @@ fn left_from_the_lowest(book: &[u8], rule: u32) -> Option<u32> {
     let (head, rules) = book.split_at(4 * BLOCK);
     let turned: Vec<&[u8]> = rules.chunks(BLOCK).rev().collect();
     let last = turned.len() as u32 - 1;
+    let asked = last.checked_sub(rule)?;
     let turned = [head, &turned.concat()].concat();
-    let others = second::culprits_within(&turned, last - rule, 5_000)?.ok()??;
-    let closing = (0..=last).filter(|r| r == &rule || others >> (last - r) & 1 == 1);
+    let others = second::culprits_within(&turned, asked, 5_000)?.ok()??;
+    let closing = (0..=last).filter(|&r| r == rule || others >> (last - r) & 1 == 1);
     Some(closing.map(|r| 1 << r).sum())
 }
 

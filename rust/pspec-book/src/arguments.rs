@@ -116,7 +116,7 @@ pub const COMMANDS: &[Command] = &[
                 "end with status 3 where some rule is blocked",
             ),
         ],
-        about: "which rules permit data that no operation opens, and to whom they stay closed",
+        about: "which rules permit data that no operation opens to a user, and which close them",
     },
     Command {
         name: "labels",

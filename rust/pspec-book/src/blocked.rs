@@ -1,17 +1,18 @@
-//! Which rules permit data that no operation can open, in the policy's names.
+//! Which rules permit data that no operation can open, and which rules close them, in the policy's names.
 
 use crate::json::Json;
 use crate::lineage;
 use crate::named::NamedBook;
 use crate::names::Names;
 use crate::phrases::counted_list;
-use crate::rule;
-use pspec::{Access, Action, Blocking, Datum, Refusal};
+use crate::{rule, words};
+use pspec::{Access, Action, Blocking, Causes, Datum, Refusal};
 
 /// What is said after a list of blocked rules.
 const ADVICE: &str = "\
 A blocked rule permits data that can't be had: whatever operations the user chooses for them, some
-rule of the book is broken. The first user and data are shown; there may be others.";
+rule of the book is broken. The first user and data are shown; there may be others. The rules that
+are named close them by themselves; other rules may close them too.";
 
 /// What is found of a rule.
 #[derive(Clone, Debug, PartialEq, Eq)]
@@ -37,7 +38,18 @@ pub enum Found {
         user: String,
         /// One datum for each reference.
         data: Vec<Datum>,
+        /// The few rules that close them, the rule itself among them, lowest first.
+        closed_by: Vec<Closing>,
     },
+}
+
+/// A rule that closes data.
+#[derive(Clone, Debug, PartialEq, Eq)]
+pub struct Closing {
+    /// Its number.
+    pub number: usize,
+    /// Which operations it asks for, or that it forbids.
+    pub why: String,
 }
 
 /// What is found of one rule.
@@ -49,6 +61,7 @@ pub fn of_rule(named: &NamedBook, r: usize) -> Result<RuleBlocking, Refusal> {
         Ok(Blocking::Closed { user, data }) => Found::Closed {
             user: named.names.users[user as usize].clone(),
             data,
+            closed_by: closed_by(named, r)?,
         },
     };
     Ok(RuleBlocking {
@@ -56,6 +69,38 @@ pub fn of_rule(named: &NamedBook, r: usize) -> Result<RuleBlocking, Refusal> {
         rule: rule::text(&named.contents.rules[r], &named.names),
         found,
     })
+}
+
+/// The few rules that close the data of a blocked rule, itself among them.
+fn closed_by(named: &NamedBook, r: usize) -> Result<Vec<Closing>, Refusal> {
+    let others = match named.book.culprits(r as u32)? {
+        Causes::Unblocked => vec![],
+        Causes::Few(others) => others.numbers().map(|other| other as usize).collect(),
+    };
+    let rules = (0..named.contents.rules.len()).filter(|of| *of == r || others.contains(of));
+    let closing = |number: usize| Closing {
+        number,
+        why: words::closing(&named.contents.rules[number], &named.names),
+    };
+    Ok(rules.map(closing).collect())
+}
+
+/// Which rules close data, and what to do about it. They do so by themselves, so one of them has to
+/// change; it may not be enough, as rules that are not named may close the same data.
+pub fn advice(closed_by: &[Closing]) -> String {
+    if let [Closing { number, why }] = closed_by {
+        return format!(
+            "Closed by rule {number} by itself. To open them, change at least this one: it {why}."
+        );
+    }
+    let numbers: Vec<String> = closed_by.iter().map(|of| of.number.to_string()).collect();
+    let rules = counted_list("rule", &numbers);
+    let each = closed_by.iter();
+    let each: Vec<String> = each
+        .map(|Closing { number, why }| format!("rule {number} {why}"))
+        .collect();
+    let each = each.join("; ");
+    format!("Closed by {rules}. To open them, change at least one of these: {each}.")
 }
 
 /// What is found of each rule.
@@ -70,15 +115,19 @@ impl RuleBlocking {
         matches!(self.found, Found::Closed { .. })
     }
 
-    /// One line.
+    /// One line, and for a blocked rule another on what closes its data.
     pub fn text(&self, names: &Names) -> String {
         let found = match &self.found {
             Found::Forbids => "forbids".to_string(),
             Found::Open => "open".to_string(),
-            Found::Closed { user, data } => {
+            Found::Closed {
+                user,
+                data,
+                closed_by,
+            } => {
                 let data: Vec<String> = data.iter().map(|&of| datum_text(of, names)).collect();
-                let data = data.join(", ");
-                format!("blocked. Closed to {user}, whatever the operations: {data}")
+                let (data, advice) = (data.join(", "), advice(closed_by));
+                format!("blocked. Closed to {user}, whatever the operations: {data}\n  {advice}")
             }
         };
         format!("rule {} ({}): {found}", self.number, self.rule)
@@ -91,9 +140,16 @@ impl RuleBlocking {
             ("forbids", Json::Bool(self.found == Found::Forbids)),
             ("blocked", Json::Bool(self.is_blocked())),
         ];
-        if let Found::Closed { user, data } = &self.found {
+        if let Found::Closed {
+            user,
+            data,
+            closed_by,
+        } = &self.found
+        {
+            let numbers = Json::list(closed_by, |of| Json::Number(of.number));
             fields.push(("user", Json::Text(user.clone())));
             fields.push(("data", Json::list(data, |&of| datum_json(of, names))));
+            fields.push(("closed_by", numbers));
         }
         Json::Object(fields)
     }
@@ -129,7 +185,7 @@ pub fn json(rules: &[RuleBlocking], names: &Names) -> Json {
     Json::Object(vec![("rules", rules), ("blocked", blocked)])
 }
 
-/// One line a rule, then the blocked rules.
+/// A line or two for each rule, then the blocked rules.
 pub fn text(rules: &[RuleBlocking], names: &Names) -> String {
     let lines = rules.iter().map(|rule| rule.text(names) + "\n");
     let lines: String = lines.collect();

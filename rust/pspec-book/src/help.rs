@@ -48,7 +48,11 @@ when some rule is idle, and for blocked --exit-code when some rule is blocked. W
 answer is one line of JSON; what is refused is said in words on the other output, and the status is
 the same.
 
-Every answer about a book comes from the proved engine: the book check, Flows, Judge, Idle and
-Blocked. Why a rule is idle is found by asking it about books with rules left out. This program
+For each blocked rule, blocked names the few rules that close its data, itself among them; of the
+others no fewer would do. At least one of these has to change before the data open. That may not be
+enough: rules that are not named may close the same data.
+
+Every answer about a book comes from the proved engine: the book check, Flows, Judge, Idle, Blocked
+and Culprits. Why a rule is idle is found by asking it about books with rules left out. This program
 stands outside the proof: that a text means the blocks made of it, which accesses break a rule and
 from which lines they come, and the words around an answer are tried by tests only.";

@@ -1,7 +1,7 @@
 //! A report as one page, for the data owner: the hierarchies drawn, and each rule with its mark and the
 //! reason for it. Nothing is loaded from elsewhere, and no script runs.
 
-use crate::blocked::{Found as Blocking, RuleBlocking};
+use crate::blocked::{advice, Found as Blocking, RuleBlocking};
 use crate::contents::UNLABELLED;
 use crate::covering::WhyIdle;
 use crate::drawing::{drawing, escaped, Label};
@@ -97,13 +97,14 @@ pub fn blocked(title: &str, named: &NamedBook, rules: &[RuleBlocking]) -> String
             0 => "",
             _ => {
                 "A blocked rule permits data that can't be had: whatever operations are chosen, \
-                 it or another rule is broken. The first user and data are shown; there may be others."
+                 it or another rule is broken. The first user and data are shown; there may be others. \
+                 The rules that are named close them by themselves; other rules may close them too."
             }
         },
         rules: rules.iter().map(rule).collect(),
         proved:
-            "That a rule is blocked or not, and which user and data come first, are answers of \
-                 the proved engine.",
+            "That a rule is blocked or not, which user and data come first, and which rules close \
+                 them are answers of the proved engine.",
     };
     page.text(title, named)
 }
@@ -171,9 +172,16 @@ fn why_blocked(named: &NamedBook, found: &Blocking) -> String {
             "Open: each user that it covers may have all its data under some operations."
                 .to_string()
         }
-        Blocking::Closed { user, data } => {
+        Blocking::Closed {
+            user,
+            data,
+            closed_by,
+        } => {
             let does = words::data_together(data, &named.names);
-            format!("Blocked: {user} can't {does}. Whatever the operations, some rule is broken.")
+            let advice = advice(closed_by);
+            format!(
+                "Blocked: {user} can't {does}. Whatever the operations, some rule is broken. {advice}"
+            )
         }
     }
 }

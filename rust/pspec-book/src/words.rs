@@ -91,19 +91,43 @@ fn data(reference: &Reference, names: &Names) -> String {
 
 /// What a restriction demands; empty where it demands nothing.
 fn restriction(rule: &Rule, masks: &[u16; 3], names: &Names) -> String {
+    let demand = |(category, operations): (String, String)| match rule.references.len() {
+        1 => format!("under {operations}"),
+        _ => format!("with {category} under {operations}"),
+    };
+    let demands: Vec<String> = demanded(rule, masks, names).map(demand).collect();
+    joined(&demands, "and")
+}
+
+/// Each category of which a restriction demands something, and the operations.
+fn demanded<'a>(
+    rule: &'a Rule,
+    masks: &'a [u16; 3],
+    names: &'a Names,
+) -> impl Iterator<Item = (String, String)> + 'a {
     let demanded = rule.references.iter().zip(masks);
     let demanded = demanded.filter(|(_, &mask)| mask != 0);
-    let demand = |(of, &mask): (&Reference, &u16)| {
+    demanded.map(|(of, &mask)| {
         let operations: Vec<String> = bits(mask).map(|k| names.operation(k).to_string()).collect();
-        let category = &names.data[usize::from(of.category)];
-        let operations = joined(&operations, "or");
-        match rule.references.len() {
-            1 => format!("under {operations}"),
-            _ => format!("with {category} under {operations}"),
-        }
+        let category = names.data[usize::from(of.category)].clone();
+        (category, joined(&operations, "or"))
+    })
+}
+
+/// What a rule does to data that it helps to close, after its number. A rule that forbids closes them
+/// whatever the operations; any other asks for some.
+pub fn closing(rule: &Rule, names: &Names) -> String {
+    let asked = |masks: &[u16; 3]| {
+        let demand = |(category, operations)| format!("{operations} of {category}");
+        let demands: Vec<String> = demanded(rule, masks, names).map(demand).collect();
+        joined(&demands, "and")
     };
-    let demands: Vec<String> = demanded.map(demand).collect();
-    joined(&demands, "and")
+    let each: Vec<String> = rule.restrictions.iter().map(asked).collect();
+    match each.as_slice() {
+        [] => "forbids them".to_string(),
+        each if each.iter().any(String::is_empty) => "asks for nothing".to_string(),
+        each => format!("asks for {}", each.join(", or for ")),
+    }
 }
 
 /// What a query does that uses these data, after 'can't'.

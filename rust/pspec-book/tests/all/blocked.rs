@@ -4,7 +4,7 @@ use crate::common::{built, numbered, text};
 use crate::running::{folder, run, shop, text_of};
 use books::valid::{self, Size};
 use books::Random;
-use pspec::{Blocking, Refusal};
+use pspec::{Blocking, Book, Causes, Refusal, BLOCK};
 use pspec_book::blocked::{each, Found, RuleBlocking};
 use pspec_book::named::NamedBook;
 use std::fs;
@@ -24,7 +24,8 @@ const SUM: &str = "  Report, [access Price] => [{sum}]\n";
 
 const ADVICE: &str = "\
 A blocked rule permits data that can't be had: whatever operations the user chooses for them, some
-rule of the book is broken. The first user and data are shown; there may be others.
+rule of the book is broken. The first user and data are shown; there may be others. The rules that
+are named close them by themselves; other rules may close them too.
 ";
 
 #[test]
@@ -47,7 +48,8 @@ No rule is blocked.
     assert!(json.ends_with("],\"blocked\":[]}\n"), "{json}");
 }
 
-/// By rule 1 a price needs avg, by rule 3 sum.
+/// By rules 1 and 2 a price needs avg, by rule 3 sum. Rule 0 takes both, so it takes two others to close its
+/// data; those of the last two rules have one other each.
 #[test]
 fn rules_that_oppose_each_other() {
     let folder = shop_and("blocked-sum", SUM);
@@ -55,10 +57,18 @@ fn rules_that_oppose_each_other() {
         "\
 rule 0 (Analyst, [projection Address, projection Price] => [{{}}, {{avg, sum}}]): blocked. \
 Closed to Report, whatever the operations: output State, output Price
+  Closed by rules 0, 1 and 3. To open them, change at least one of these: \
+rule 0 asks for avg or sum of Price; rule 1 asks for avg of Price; rule 3 asks for sum of Price.
 rule 1 (Analyst, [access Price] => [{{avg}}]): blocked. Closed to Report, whatever the operations: output Price
+  Closed by rules 1 and 3. To open them, change at least one of these: \
+rule 1 asks for avg of Price; rule 3 asks for sum of Price.
 rule 2 (Report, [projection Address, projection Price] => [{{}}, {{avg}}]): blocked. \
 Closed to Report, whatever the operations: output State, output Price
+  Closed by rules 2 and 3. To open them, change at least one of these: \
+rule 2 asks for avg of Price; rule 3 asks for sum of Price.
 rule 3 (Report, [access Price] => [{{sum}}]): blocked. Closed to Report, whatever the operations: output Price
+  Closed by rules 1 and 3. To open them, change at least one of these: \
+rule 1 asks for avg of Price; rule 3 asks for sum of Price.
 
 Blocked: rules 0, 1, 2 and 3.
 {ADVICE}"
@@ -79,7 +89,64 @@ fn a_rule_that_forbids() {
     let closed = "blocked. Closed to Report, whatever the operations: output City, output Price";
     assert_eq!(status, 0);
     assert_eq!(found, [closed, "open", closed, "forbids"]);
+    let by: Vec<&str> = said.lines().filter(|l| l.starts_with("  ")).collect();
+    let wanted = [
+        "  Closed by rules 0 and 3. To open them, change at least one of these: \
+         rule 0 asks for avg or sum of Price; rule 3 forbids them.",
+        "  Closed by rules 2 and 3. To open them, change at least one of these: \
+         rule 2 asks for avg of Price; rule 3 forbids them.",
+    ];
+    assert_eq!(by, wanted);
     assert!(said.ends_with(&format!("\nBlocked: rules 0 and 2.\n{ADVICE}")));
+}
+
+/// The lines on what closes the data of each blocked rule.
+fn closing(policy: &str) -> Vec<String> {
+    let named = built(policy);
+    let rules = each(&named).expect("it is a book");
+    let blocked = rules.iter().filter(|rule| rule.is_blocked());
+    let texts = blocked.map(|rule| rule.text(&named.names));
+    let second = texts.map(|text| {
+        text.lines()
+            .nth(1)
+            .expect("it has a second line")
+            .to_string()
+    });
+    second.collect()
+}
+
+/// Without a function for avg rules 1 and 2, which ask for it, close their data by themselves. Rule 0 would
+/// take a sum; of the two that keep it closed the lower one is named.
+#[test]
+fn a_rule_by_itself() {
+    let policy = text("examples/small-shop.pspec").replace("  avg: avg\n", "");
+    let itself = |rule: u32| {
+        format!(
+            "  Closed by rule {rule} by itself. To open them, change at least this one: \
+             it asks for avg of Price."
+        )
+    };
+    let by_another = "  Closed by rules 0 and 1. To open them, change at least one of these: \
+                      rule 0 asks for avg or sum of Price; rule 1 asks for avg of Price.";
+    let wanted = [by_another.to_string(), itself(1), itself(2)];
+    assert_eq!(closing(&policy), wanted);
+}
+
+/// Rule 3 asks for nothing and is closed all the same: rule 4 forbids State, the first of its data. Beside
+/// them rules 0 and 2 are closed there, too.
+#[test]
+fn a_rule_that_asks_for_nothing() {
+    let rules = "  Report, [access Address] => [{}]\n  Report, [projection State] => forbid\n";
+    let policy = text("examples/small-shop.pspec") + rules;
+    let start = |rule: u32| {
+        format!("  Closed by rules {rule} and 4. To open them, change at least one of these: ")
+    };
+    let wanted = [
+        start(0) + "rule 0 asks for avg or sum of Price; rule 4 forbids them.",
+        start(2) + "rule 2 asks for avg of Price; rule 4 forbids them.",
+        start(3) + "rule 3 asks for nothing; rule 4 forbids them.",
+    ];
+    assert_eq!(closing(&policy), wanted);
 }
 
 #[test]
@@ -90,8 +157,11 @@ fn for_scripts() {
     assert_eq!(status, 3);
     let city = r#"[{"action":"projection","leaf":"City"},{"action":"projection","leaf":"Price"}]"#;
     let price = r#"[{"action":"condition","leaf":"Price"}]"#;
-    let closed =
-        |data: &str| format!(r#""forbids":false,"blocked":true,"user":"Report","data":{data}}}"#);
+    let closed = |data: &str, by: &str| {
+        format!(
+            r#""forbids":false,"blocked":true,"user":"Report","data":{data},"closed_by":{by}}}"#
+        )
+    };
     let rule = |number: u32, rule: &str, found: &str| {
         format!(r#"{{"number":{number},"rule":"{rule}",{found}"#)
     };
@@ -100,15 +170,23 @@ fn for_scripts() {
         rule(
             0,
             &format!("Analyst, {both} => [{{}}, {{avg, sum}}]"),
-            &closed(city),
+            &closed(city, "[0,4]"),
         ),
-        rule(1, "Analyst, [access Price] => [{avg}]", &closed(price)),
+        rule(
+            1,
+            "Analyst, [access Price] => [{avg}]",
+            &closed(price, "[1,3]"),
+        ),
         rule(
             2,
             &format!("Report, {both} => [{{}}, {{avg}}]"),
-            &closed(city),
+            &closed(city, "[2,4]"),
         ),
-        rule(3, "Report, [condition Price] => [{sum}]", &closed(price)),
+        rule(
+            3,
+            "Report, [condition Price] => [{sum}]",
+            &closed(price, "[1,3]"),
+        ),
         rule(
             4,
             "Report, [access City] => forbid",
@@ -133,8 +211,14 @@ fn as_a_page() {
         "<p>4 rules: 4 blocked.</p>",
         "<span class=\"mark\">blocked</span>",
         "<p>Blocked: Report can't put out State and Price in one query. \
-         Whatever the operations, some rule is broken.</p>",
-        "<p>Blocked: Report can't put out Price. Whatever the operations, some rule is broken.</p>",
+         Whatever the operations, some rule is broken. Closed by rules 0, 1 and 3. To open them, change \
+         at least one of these: rule 0 asks for avg or sum of Price; rule 1 asks for avg of Price; \
+         rule 3 asks for sum of Price.</p>",
+        "<p>Blocked: Report can't put out Price. Whatever the operations, some rule is broken. \
+         Closed by rules 1 and 3. To open them, change at least one of these: rule 1 asks for avg of \
+         Price; rule 3 asks for sum of Price.</p>",
+        "The rules that are named close them by themselves; other rules may close them too.</p>",
+        "which user and data come first, and which rules close them are answers of the proved engine.",
     ] {
         assert!(page.contains(said), "{said}\n{page}");
     }
@@ -176,6 +260,45 @@ fn books_without_rules_and_refused_ones() {
     assert_eq!(ran, (1, String::new(), complaint));
 }
 
+/// What the engine says of a rule in the book of some rules alone.
+fn blocked_among(book: &Book, rule: usize, rules: &[usize]) -> Blocking {
+    let block = |b: usize| &book.bytes()[BLOCK * b..BLOCK * (b + 1)];
+    let blocks = (0..4).chain(rules.iter().map(|r| 4 + r));
+    let bytes: Vec<u8> = blocks.flat_map(block).copied().collect();
+    let place = rules.iter().position(|&r| r == rule);
+    let place = place.expect("the rule is among them") as u32;
+    let fewer = Book::new(bytes).expect("it is sound");
+    fewer.blocked(place).expect("the rule does not forbid")
+}
+
+/// On random books the rules that are named close the same data by themselves; without one of the others
+/// they don't.
+#[test]
+fn the_named_rules_close_the_data() {
+    let mut counts = [0; 4];
+    for seed in 0..300 {
+        let size = [Size::Tiny, Size::Small][seed as usize % 2];
+        let named = numbered(valid::draft(&mut Random::new(seed), size).bytes());
+        for of in each(&named).expect("it is sound") {
+            let Found::Closed { closed_by, .. } = &of.found else {
+                continue;
+            };
+            let answer = named.book.blocked(of.number as u32);
+            let answer = answer.expect("it is blocked");
+            let rules: Vec<usize> = closed_by.iter().map(|by| by.number).collect();
+            assert!(rules.is_sorted());
+            assert_eq!(blocked_among(&named.book, of.number, &rules), answer);
+            for out in rules.iter().filter(|&&out| out != of.number) {
+                let fewer: Vec<usize> = rules.iter().copied().filter(|r| r != out).collect();
+                assert_ne!(blocked_among(&named.book, of.number, &fewer), answer);
+            }
+            counts[rules.len().min(4) - 1] += 1;
+        }
+    }
+    println!("closed by one, two, three and more rules: {counts:?}");
+    assert!(counts.iter().all(|&count| count > 5), "{counts:?}");
+}
+
 /// On random books each rule has the engine's answer, with the names of its numbers.
 #[test]
 fn every_rule_has_the_engines_answer() {
@@ -194,10 +317,21 @@ fn every_rule_has_the_engines_answer() {
                     assert_eq!(answer, Ok(Blocking::Open));
                     1
                 }
-                Found::Closed { user, data } => {
+                Found::Closed {
+                    user,
+                    data,
+                    closed_by,
+                } => {
                     let number = named.names.users.iter().position(|name| *name == user);
                     let user = number.expect("it is a user") as u32;
                     assert_eq!(answer, Ok(Blocking::Closed { user, data }));
+                    let Ok(Causes::Few(others)) = named.book.culprits(of.number as u32) else {
+                        panic!("rule {} is blocked", of.number);
+                    };
+                    let rules = closed_by.iter().map(|by| by.number);
+                    let (itself, rest): (Vec<_>, Vec<_>) = rules.partition(|&r| r == of.number);
+                    assert_eq!(itself.len(), 1);
+                    assert!(others.numbers().eq(rest.iter().map(|&r| r as u32)));
                     2
                 }
             };

@@ -73,14 +73,45 @@ fn every_page_is_sound_and_complete() {
     }
 }
 
-/// The sentence of a rule.
-fn sentence(rule: &str) -> String {
-    let policy = format!(
+/// A book with one rule.
+fn with_rule(rule: &str) -> NamedBook {
+    built(&format!(
         "users\n  Staff\n    Report\n    Guest\ndata\n  All [count]\n    Name\n    Age [range]\n\
          rules\n  {rule}\n"
-    );
-    let named = built(&policy);
+    ))
+}
+
+/// The sentence of a rule.
+fn sentence(rule: &str) -> String {
+    let named = with_rule(rule);
     words::rule(&named.contents.rules[0], &named)
+}
+
+/// What a rule does to data that it helps to close.
+#[test]
+fn what_closes_data() {
+    for (rule, said) in [
+        ("Report, [access Name, access Age] => forbid", "forbids them"),
+        ("Staff, [access Age] => [{range}]", "asks for range of Age"),
+        (
+            "Staff exclude Guest, [condition All exclude Age, access Age] => [{}, {range, count}]",
+            "asks for count or range of Age",
+        ),
+        (
+            "Report, [projection Age, access Name] => [{range, count}, {count}]",
+            "asks for count or range of Age and count of Name",
+        ),
+        (
+            "Report, [projection Age, access Name] => [{range}, {count}] or [{}, {count}] or [{count}, {}]",
+            "asks for range of Age and count of Name, or for count of Name, or for count of Age",
+        ),
+        ("Staff, [access Age] => [{}]", "asks for nothing"),
+        ("Staff, [access Age] => [{range}] or [{}]", "asks for nothing"),
+    ] {
+        let named = with_rule(rule);
+        let closing = words::closing(&named.contents.rules[0], &named.names);
+        assert_eq!(closing, said);
+    }
 }
 
 #[test]
