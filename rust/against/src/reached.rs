@@ -215,6 +215,19 @@ impl Reached {
         )
     }
 
+    /// The submissions, in words.
+    fn by_reply(&self) -> String {
+        format!(
+            "submissions: {} admitted, {} declined ({} that break no rule by themselves), \
+             {} histories ({} with plans admitted, declined and refused)",
+            self.admitted,
+            self.declined,
+            self.declined_for_held,
+            self.histories,
+            self.mixed_histories
+        )
+    }
+
     /// The refusals by their numbers, in words.
     fn by_number(&self) -> String {
         let each = REFUSALS.map(|number| format!(" {number}: {}", self.refused(number)));
@@ -360,15 +373,6 @@ impl fmt::Display for Reached {
         )?;
         writeln!(f, "; {} searches given up", self.given_up)?;
         writeln!(f, "{}", self.by_others())?;
-        write!(
-            f,
-            "submissions: {} admitted, {} declined ({} that break no rule by themselves), \
-             {} histories ({} with plans admitted, declined and refused)",
-            self.admitted,
-            self.declined,
-            self.declined_for_held,
-            self.histories,
-            self.mixed_histories
-        )
+        write!(f, "{}", self.by_reply())
     }
 }

@@ -149,54 +149,24 @@ fn a_rule_that_asks_for_nothing() {
     assert_eq!(closing(&policy), wanted);
 }
 
+/// The answer for scripts, rule by rule. City is forbidden by rule 4; a price that decides needs avg by
+/// rule 1 and sum by rule 3.
+const FOR_SCRIPTS: [&str; 5] = [
+    r#"{"number":0,"rule":"Analyst, [projection Address, projection Price] => [{}, {avg, sum}]","forbids":false,"blocked":true,"user":"Report","data":[{"action":"projection","leaf":"City"},{"action":"projection","leaf":"Price"}],"closed_by":[0,4]}"#,
+    r#"{"number":1,"rule":"Analyst, [access Price] => [{avg}]","forbids":false,"blocked":true,"user":"Report","data":[{"action":"condition","leaf":"Price"}],"closed_by":[1,3]}"#,
+    r#"{"number":2,"rule":"Report, [projection Address, projection Price] => [{}, {avg}]","forbids":false,"blocked":true,"user":"Report","data":[{"action":"projection","leaf":"City"},{"action":"projection","leaf":"Price"}],"closed_by":[2,4]}"#,
+    r#"{"number":3,"rule":"Report, [condition Price] => [{sum}]","forbids":false,"blocked":true,"user":"Report","data":[{"action":"condition","leaf":"Price"}],"closed_by":[1,3]}"#,
+    r#"{"number":4,"rule":"Report, [access City] => forbid","forbids":true,"blocked":false}"#,
+];
+
 #[test]
 fn for_scripts() {
     let rules = "  Report, [condition Price] => [{sum}]\n  Report, [access City] => forbid\n";
     let folder = shop_and("blocked-json", rules);
     let (status, json, _) = run(&folder, &["blocked", "new.book", "--json", "--exit-code"]);
     assert_eq!(status, 3);
-    let city = r#"[{"action":"projection","leaf":"City"},{"action":"projection","leaf":"Price"}]"#;
-    let price = r#"[{"action":"condition","leaf":"Price"}]"#;
-    let closed = |data: &str, by: &str| {
-        format!(
-            r#""forbids":false,"blocked":true,"user":"Report","data":{data},"closed_by":{by}}}"#
-        )
-    };
-    let rule = |number: u32, rule: &str, found: &str| {
-        format!(r#"{{"number":{number},"rule":"{rule}",{found}"#)
-    };
-    let both = "[projection Address, projection Price]";
-    let rules = [
-        rule(
-            0,
-            &format!("Analyst, {both} => [{{}}, {{avg, sum}}]"),
-            &closed(city, "[0,4]"),
-        ),
-        rule(
-            1,
-            "Analyst, [access Price] => [{avg}]",
-            &closed(price, "[1,3]"),
-        ),
-        rule(
-            2,
-            &format!("Report, {both} => [{{}}, {{avg}}]"),
-            &closed(city, "[2,4]"),
-        ),
-        rule(
-            3,
-            "Report, [condition Price] => [{sum}]",
-            &closed(price, "[1,3]"),
-        ),
-        rule(
-            4,
-            "Report, [access City] => forbid",
-            r#""forbids":true,"blocked":false}"#,
-        ),
-    ];
-    let wanted = format!(
-        "{{\"rules\":[{}],\"blocked\":[0,1,2,3]}}\n",
-        rules.join(",")
-    );
+    let rules = FOR_SCRIPTS.join(",");
+    let wanted = format!("{{\"rules\":[{rules}],\"blocked\":[0,1,2,3]}}\n");
     assert_eq!(json, wanted);
 }
 
