@@ -210,12 +210,17 @@ fn hard_data_are_open_or_closed() {
     }
 }
 
-/// What is behind the block of a rule of a hard book: the rule that forbids, or nothing is closed.
+/// Behind the block of a rule of a hard book is the rule that forbids. Of those that are open one is enough,
+/// as Culprits then does what Blocked does.
 #[cfg(all(feature = "engine", not(debug_assertions)))]
 #[test]
 fn hard_data_have_one_rule_behind_them() {
     for (name, draft, found) in hard() {
-        for rule in 0..32 {
+        let rules = match found {
+            Found::LastOfAll => 0..32,
+            Found::Open => 30..31,
+        };
+        for rule in rules {
             let wanted = match wanted(&draft, rule as usize, found) {
                 Answer::Open => Answer::Unblocked,
                 Answer::Closed(_) => Answer::Few(1 << 31 | 1 << rule),

@@ -90,7 +90,7 @@ fn closed_by(named: &NamedBook, r: usize) -> Result<Vec<Closing>, Refusal> {
 pub fn advice(closed_by: &[Closing]) -> String {
     if let [Closing { number, why }] = closed_by {
         return format!(
-            "Closed by rule {number} by itself. To open them, change at least this one: it {why}."
+            "Closed by rule {number} on its own. To open them, change at least this one: it {why}."
         );
     }
     let numbers: Vec<String> = closed_by.iter().map(|of| of.number.to_string()).collect();

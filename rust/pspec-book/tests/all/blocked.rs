@@ -118,11 +118,11 @@ fn closing(policy: &str) -> Vec<String> {
 /// Without a function for avg rules 1 and 2, which ask for it, close their data by themselves. Rule 0 would
 /// take a sum; of the two that keep it closed the lower one is named.
 #[test]
-fn a_rule_by_itself() {
+fn a_rule_on_its_own() {
     let policy = text("examples/small-shop.pspec").replace("  avg: avg\n", "");
     let itself = |rule: u32| {
         format!(
-            "  Closed by rule {rule} by itself. To open them, change at least this one: \
+            "  Closed by rule {rule} on its own. To open them, change at least this one: \
              it asks for avg of Price."
         )
     };
