@@ -73,11 +73,11 @@ pub fn of_rule(named: &NamedBook, r: usize) -> Result<RuleBlocking, Refusal> {
 
 /// The few rules that close the data of a blocked rule, itself among them.
 fn closed_by(named: &NamedBook, r: usize) -> Result<Vec<Closing>, Refusal> {
-    let others = match named.book.culprits(r as u32)? {
-        Causes::Unblocked => vec![],
-        Causes::Few(others) => others.numbers().map(|other| other as usize).collect(),
+    let Causes::Few(others) = named.book.culprits(r as u32)? else {
+        unreachable!("rule {r} is blocked");
     };
-    let rules = (0..named.contents.rules.len()).filter(|of| *of == r || others.contains(of));
+    let closes = |of: &usize| *of == r || others.contains(*of as u32);
+    let rules = (0..named.contents.rules.len()).filter(closes);
     let closing = |number: usize| Closing {
         number,
         why: words::closing(&named.contents.rules[number], &named.names),
