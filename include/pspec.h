@@ -13,8 +13,8 @@
  *    that write different ones may run at the same time;
  *  - its answer is the one that crates/capi/specs/Packing.antt says, over specs/Answers.antt of the
  *    crates below, and so are the elements of a slice and the counts of a record on leaving;
- *  - what the numbers of pspec_judge, pspec_idle, pspec_blocked and pspec_submit mean for a policy is one
- *    page, crates/capi/specs/Demands.antt, and is proved of them;
+ *  - what the numbers of pspec_judge, pspec_idle, pspec_blocked, pspec_culprits and pspec_submit mean for a
+ *    policy is one page, crates/capi/specs/Demands.antt, and is proved of them;
  *  - a refusal leaves `block`, `words`, `buffer`, `ledger` and `tally` as they were.
  *
  * Answers. Each is one 64-bit number: refusal number x 2^40 + place x 2^32 + value. The refusal number
