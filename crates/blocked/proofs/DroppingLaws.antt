@@ -11,7 +11,6 @@ use Rattle.book.specs.Sets.{WordOf, has}
 use Rattle.book.proofs.Lists.{and-end, and-false, and-first, and-left, and-right, and-true, and-where}
 use Rattle.book.proofs.Lists.{or-neither}
 use Rattle.book.proofs.Members.{has-above}
-use Rattle.search.specs.Inner.Closing.{Within}
 use Rattle.search.specs.Inner.Places.{PlacesOf, inPlaces}
 use Rattle.search.proofs.Sieves.{without-single}
 use Rattle.blocked.specs.Few.{afterTrials, withAsking, without}

@@ -4,7 +4,6 @@ use Prim.Native.Nat.{ℕ, _%_, _^_, _≤_, _<_}
 use native.Mathlib.Nat.{le-trans, lt-of-le-of-lt, lt-of-lt-of-le}
 use native.Mathlib.Omega.{arith}
 use mathlib.Core.Path.{_≡_, refl, sym, ap, subst, fun-ext, _∙_}
-use mathlib.Core.Logic.{⊎-elim}
 use mathlib.Core.Bool.{Bool, true, false, _&&_, _||_, not, false≢true}
 use mathlib.Core.List.{List}
 use lib.Bits.{bitAnd, and-le-l, and-le-r}
@@ -20,7 +19,7 @@ use Rattle.book.specs.declared.Refusal.{Refusal}
 use Rattle.book.specs.declared.Tested.{Tested}
 use Rattle.book.specs.declared.Tested.the-variants as tested
 use Rattle.book.proofs.Answers.{answered-passed, answered-refused}
-use Rattle.book.proofs.Lists.{and-both, and-false, and-left, and-right, and-second, and-true, or-either, or-left, or-right}
+use Rattle.book.proofs.Lists.{and-left, and-right, and-second, and-true}
 use Rattle.book.proofs.Members.{has-and, same-members}
 use Rattle.lineage.specs.Accesses.{wordOf}
 use Rattle.lineage.proofs.Words.{word-of}
@@ -34,7 +33,6 @@ use Rattle.blocked.specs.Few.{fewLeft, fewRules, leavesClosed, others, w
 use Rattle.blocked.specs.Answers.{blockedAnswer, blockedTests, blockingOf, causesOf, closedAnswer, culpritsAnswer}
 use Rattle.blocked.specs.Demand.{BlockedAccepted}
 use Rattle.blocked.specs.Minimal.{Behind, Caused, Lowest, Minimal, OpenUnder, ProperPart}
-use Rattle.blocked.specs.declared.Blocking.the-variants as blocking
 use Rattle.blocked.specs.declared.Causes.{Causes}
 use Rattle.blocked.specs.declared.Causes.the-variants as causes
 use Rattle.blocked.proofs.OpenLaws.{closed-means, means-closed, open-choice, some-broken}
@@ -43,7 +41,7 @@ use Rattle.blocked.proofs.DemandLaws.{blocked-accepted, blocked-answer,
 use Rattle.blocked.proofs.DemandLaws.{one-named}
 use Rattle.blocked.proofs.TrialLaws.{narrower, trials-least, trials-need, trials-pass, trials-within, within-without}
 
--- a set whose members are among a number's is a lesser number
+-- a set whose members are among a number's is no greater number
 word-least : (f : ℕ → Bool) (n m : ℕ) → Within f (has m) → wordOf f (upTo n) ≤ m
 word-least f n m within =
     let word = wordOf f (upTo n) in
@@ -185,7 +183,9 @@ module _ (book : List ℕ) (accepted : BookAccepted book) where
           (means-closed book (withAsking r (has other)) p h) in
           le-trans
           (trials-least (leavesClosed book r p) leaves-wider (ruleCount book) (others book r) some
-          (λ q g. and-left (others book r q) (has other q) g) (λ q l. ap (λ b. b && has other q) (others-past q l) ∙ sym (others-past q l)) passes)
+          (λ q g. and-left (others book r q) (has other q) g)
+          (λ q l. ap (λ b. b && has other q) (others-past q l) ∙ sym (others-past q l))
+          passes)
           (word-least some (ruleCount book) other (λ q g. and-right (others book r q) (has other q) g))
 
 -- The answer

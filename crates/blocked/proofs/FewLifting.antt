@@ -1,9 +1,9 @@
 -- From the tables to the book: what a search that starts from them finds, and the few rules that are left. Assumes
 -- nothing.
-use Prim.Native.Nat.{ℕ, _+_, _-_, _%_, _^_, _≤_, _<_}
+use Prim.Native.Nat.{ℕ, _+_, _-_, _%_, _<_}
 use native.Mathlib.Nat.{lt-of-lt-of-le}
 use native.Mathlib.Omega.{arith}
-use mathlib.Core.Path.{_≡_, refl, sym, ap, subst, fun-ext, _∙_}
+use mathlib.Core.Path.{_≡_, refl, sym, ap, fun-ext, _∙_}
 use mathlib.Core.Bool.{Bool, true, false, _&&_, _||_, not, false≢true}
 use mathlib.Core.List.{List}
 use lib.Dec.{eqb, ltb}
@@ -14,12 +14,11 @@ use Rattle.book.specs.Sets.{has}
 use Rattle.book.specs.Blocks.{headOf, ruleAt, ruleCount}
 use Rattle.book.specs.Rule.{coversUser}
 use Rattle.book.specs.Refusals.{BookAccepted}
-use Rattle.book.proofs.Lists.{and-end, and-false, and-left, and-right, and-true, any-same}
+use Rattle.book.proofs.Lists.{and-left, and-right, and-true, any-same}
 use Rattle.book.proofs.Members.{same-members}
-use Rattle.verdicts.specs.Accesses.{Access, members}
+use Rattle.verdicts.specs.Accesses.{members}
 use Rattle.verdicts.specs.Breaking.{breaks, someChoiceRefused}
 use Rattle.verdicts.proofs.Sound.{few-rules}
-use Rattle.search.specs.Alone.{none, shown}
 use Rattle.search.proofs.Fours.{has-cut}
 use Rattle.search.proofs.Solutions.{fails}
 use Rattle.blocked.specs.Associations.{Pair}
@@ -33,7 +32,6 @@ use Rattle.blocked.specs.Inner.Users.{DeniedFirst, DeniedUser, countingR
 use Rattle.blocked.specs.Inner.First.{FirstDenied, pairAt}
 use Rattle.blocked.specs.Inner.Few.{CellsGiven, Told}
 use Rattle.blocked.specs.Inner.Start.{Started}
-use Rattle.blocked.specs.declared.Causes.{Causes}
 use Rattle.blocked.specs.declared.Causes.the-variants as causes
 use Rattle.blocked.specs.declared.calls.Start.{Start}
 use Rattle.blocked.specs.declared.users.Denied.{Denied}

@@ -1,5 +1,5 @@
--- An accepted plan with some access to each datum of a closed association breaks a rule that counts, and for an open one
--- some such plan breaks none. Assumes nothing.
+-- An accepted plan with some access to each datum of a closed association breaks a rule that counts, and for an open
+-- one some such plan breaks none. Assumes nothing.
 use Prim.Native.Nat.{ℕ, _<_}
 use mathlib.Core.Path.{_≡_, refl, sym, ap, subst, _∙_}
 use mathlib.Core.Bool.{Bool, true, false, false≢true}

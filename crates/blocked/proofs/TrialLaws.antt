@@ -3,13 +3,13 @@
 use Prim.Native.Nat.{ℕ, zero, suc, _+_, _^_, _≤_, _<_}
 use native.Mathlib.Nat.{suc-add, zero-add}
 use native.Mathlib.Omega.{arith}
-use mathlib.Core.Path.{_≡_, refl, sym, ap, subst, fun-ext, _∙_}
+use mathlib.Core.Path.{_≡_, refl, sym, ap, fun-ext, _∙_}
 use mathlib.Core.Logic.{_⊎_, inl, inr, ⊎-elim}
 use mathlib.Core.Bool.{Bool, true, false, _&&_, not, cond, false≢true}
-use lib.Dec.{eqb, ltb}
+use lib.Dec.{eqb}
 use borrow.Author.Tests.{eq-eqb, ne-eqb, eqb-true, eqb-false}
 use Rattle.book.specs.Lists.{from, upTo}
-use Rattle.book.proofs.Lists.{and-end, and-false, and-first, and-left, and-right, and-true}
+use Rattle.book.proofs.Lists.{and-end, and-false, and-first, and-left, and-true}
 use Rattle.lineage.specs.Accesses.{wordOf}
 use Rattle.lineage.proofs.Words.{word-of, word-more}
 use Rattle.search.specs.Inner.Closing.{Within}

@@ -1,5 +1,5 @@
--- The tests of Blocked and Culprits in document 02's order, and what they answer, whole. Document 02, N1 and N6. Assumes
--- nothing.
+-- The tests of Blocked and Culprits in document 02's order, and what they answer, whole. Document 02, N1 and N6.
+-- Assumes nothing.
 use Prim.Native.Nat.{ℕ, zero, suc, _+_, _*_}
 use mathlib.Core.List.{List, [], _∷_, _++_}
 use lib.Dec.{ltb}

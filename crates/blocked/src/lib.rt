@@ -26,7 +26,8 @@ pub enum Blocking {
     Refused(Refusal),
 }
 
-// What Culprits answers: a mask of the other rules that close it together with the rule asked about.
+// What Culprits answers: a mask of the other rules that, together with the rule asked about, close the
+// association that Blocked gives.
 pub enum Causes {
     Unblocked,
     Few(u32),

@@ -1,5 +1,5 @@
--- What the numbers of pspec_judge, pspec_idle, pspec_blocked, pspec_culprits and pspec_submit say: the demands, over the
--- packed answer. Assumes nothing.
+-- What the numbers of pspec_judge, pspec_idle, pspec_blocked, pspec_culprits and pspec_submit say: the demands, over
+-- the packed answer. Assumes nothing.
 use Prim.Native.Nat.{ℕ, _+_, _*_, _/_, _%_, _^_, _≤_, _<_}
 use native.Mathlib.Omega.{arith}
 use mathlib.Core.Path.{_≡_, refl, sym, ap, subst, _∙_}

@@ -1,6 +1,6 @@
--- What the numbers of pspec_judge, pspec_idle, pspec_blocked, pspec_culprits and pspec_submit say, for whoever calls the
--- C library: demands 2 and 3, N1, N6 and N3 over the number itself. A number from 2^32 on is a refusal; below it, it is
--- the value. Assumes nothing.
+-- What the numbers of pspec_judge, pspec_idle, pspec_blocked, pspec_culprits and pspec_submit say, for whoever calls
+-- the C library: demands 2 and 3, N1, N6 and N3 over the number itself. A number from 2^32 on is a refusal; below it,
+-- it is the value. Assumes nothing.
 use Prim.Native.Nat.{ℕ, _+_, _/_, _%_, _^_, _≤_, _<_}
 use mathlib.Core.Path.{_≡_}
 use mathlib.Core.List.{List}
@@ -84,7 +84,7 @@ pub record CulpritsParts (r answer mask : ℕ) : Type 0 where
   pub value : answer ≡ mask + 2 ^ r
   pub bits : (q : ℕ) → has answer q ≡ withAsking r (has mask) q
 
--- pspec_culprits: the number is 0, or the rules that close it, the asking one among them
+-- pspec_culprits: the number is 0, or a mask of other rules and the asking rule's bit
 pub record CulpritsSays (book : Book) (r : ℕ) (answer : ℕ) : Type 0 where
   -- nothing is refused exactly when pspec_blocked refuses nothing
   pub accepted : answer < refusals → BlockedAccepted book r

@@ -58,7 +58,7 @@ blockedPacked (blocking.Closed user first second third) =
     packed 0 0 (16777216 * user + first + 256 * second + 65536 * third)
 blockedPacked (blocking.Refused refusal) = refusalPacked refusal
 
--- Culprits: 0 when unblocked, else the mask and 2^r: all rules that close it, the asking one among them
+-- Culprits: 0 when unblocked, else the mask and 2^r: the other rules that close it, and the asking one
 unfoldable pub culpritsPacked : (r : ℕ) → Causes → ℕ
 culpritsPacked r causes.Unblocked = packed 0 0 0
 culpritsPacked r (causes.Few mask) = packed 0 0 (mask + 2 ^ r)

@@ -1,9 +1,6 @@
 -- One rule a turn, from the highest number down; what is left is what the trials leave. Assumes nothing.
-use Prim.Native.Nat.{ℕ, _+_, _-_, _≤_}
+use Prim.Native.Nat.{_-_, _≤_}
 use native.Mathlib.Omega.{arith}
-use mathlib.Core.Path.{_≡_, refl}
-use mathlib.Core.Bool.{Bool}
-use Rattle.blocked.specs.Inner.Few.{OneGiven, Told}
 use Rattle.blocked.proofs.DroppingLaws.{Turns, cut-told, few-left, one-given, turns-more, turns-none}
 use borrow.Author.Needs.{needs}
 use Rattle.blocked.proofs.dropping.few.Statement.{statement}
