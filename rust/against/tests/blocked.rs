@@ -6,11 +6,12 @@
 //! had under operation 0 alone; Price under 0, avg and sum. Every rule of the shop is open: avg is taken
 //! by rules 0, 1 and 2.
 
-use against::engine::by_name;
+mod by_hand;
+
 use books::draft::{Draft, Rule, ACCESS, CONDITION, PROJECTION};
 use books::named::{opposed_shop, small_shop};
 use books::shop::{rule, ADDRESS, ANALYST, AVG, CITY, MARKETING, PRICE, REPORT, STATE, SUM};
-use second::Refusal;
+use by_hand::{each_answers, refused, shop_of, Answer};
 
 /// The small shop with these rules after its own.
 fn shop_and(rules: &[Rule]) -> Draft {
@@ -19,16 +20,8 @@ fn shop_and(rules: &[Rule]) -> Draft {
     shop
 }
 
-/// The small shop with these rules alone.
-fn shop_of(rules: &[Rule]) -> Draft {
-    Draft {
-        rules: rules.to_vec(),
-        ..small_shop()
-    }
-}
-
 /// The value of a user and data: 128 + leaf for a projection, 192 + leaf for a condition.
-fn closed(user: u32, data: &[(u8, u8)]) -> Result<u32, Refusal> {
+fn closed(user: u32, data: &[(u8, u8)]) -> Answer {
     let mut value = user * 16_777_216;
     for (&(action, leaf), place) in data.iter().zip([1, 256, 65_536]) {
         let byte = 64 * (u32::from(action) + 1) + u32::from(leaf);
@@ -37,24 +30,13 @@ fn closed(user: u32, data: &[(u8, u8)]) -> Result<u32, Refusal> {
     Ok(value)
 }
 
-const OPEN: Result<u32, Refusal> = Ok(0);
-
-fn refused(number: u32) -> Result<u32, Refusal> {
-    Err(Refusal { number, place: 0 })
-}
+const OPEN: Answer = Ok(0);
 
 /// Every engine answers so for rules 0, 1 and so on.
-fn answers(draft: &Draft, wanted: &[Result<u32, Refusal>]) {
-    let engines = ["second", "naive", "engine"]
-        .into_iter()
-        .filter_map(by_name);
-    let book = draft.bytes();
-    for engine in engines {
-        for (rule, answer) in (0..).zip(wanted) {
-            let said = engine.blocked(&book, rule);
-            assert_eq!(said, Some(*answer), "{}, rule {rule}", engine.name());
-        }
-    }
+fn answers(draft: &Draft, wanted: &[Answer]) {
+    each_answers(draft, wanted, |engine, book, rule| {
+        engine.blocked(book, rule)
+    });
 }
 
 /// "a rule that permits Price under avg, and another that needs sum": rule 3 is Report, access Price,

@@ -5,19 +5,12 @@
 //! Address, and 4 Price, which supports 1 avg and 2 sum. A price is had raw, under avg or under sum, and
 //! no rule here takes a raw one.
 
-use against::engine::by_name;
+mod by_hand;
+
 use books::draft::{Draft, Rule, ACCESS, CONDITION, PROJECTION};
 use books::named::{opposed_shop, small_shop};
 use books::shop::{rule, ADDRESS, ANALYST, AVG, CITY, MARKETING, PRICE, REPORT, STATE, SUM};
-use second::Refusal;
-
-/// The small shop with these rules alone.
-fn shop_of(rules: &[Rule]) -> Draft {
-    Draft {
-        rules: rules.to_vec(),
-        ..small_shop()
-    }
-}
+use by_hand::{each_answers, refused, shop_of, Answer};
 
 /// A rule that asks for these operations of every price.
 fn price(user: u8, operations: u16) -> Rule {
@@ -25,28 +18,17 @@ fn price(user: u8, operations: u16) -> Rule {
 }
 
 /// The value of a blocked rule: 2 to the power of each rule that closes its data, itself among them.
-fn few(rules: &[u32]) -> Result<u32, Refusal> {
+fn few(rules: &[u32]) -> Answer {
     Ok(rules.iter().map(|&r| 2u32.pow(r)).sum())
 }
 
-const UNBLOCKED: Result<u32, Refusal> = Ok(0);
-
-fn refused(number: u32) -> Result<u32, Refusal> {
-    Err(Refusal { number, place: 0 })
-}
+const UNBLOCKED: Answer = Ok(0);
 
 /// Every engine answers so for rules 0, 1 and so on.
-fn answers(draft: &Draft, wanted: &[Result<u32, Refusal>]) {
-    let engines = ["second", "naive", "engine"]
-        .into_iter()
-        .filter_map(by_name);
-    let book = draft.bytes();
-    for engine in engines {
-        for (rule, answer) in (0..).zip(wanted) {
-            let said = engine.culprits(&book, rule);
-            assert_eq!(said, Some(*answer), "{}, rule {rule}", engine.name());
-        }
-    }
+fn answers(draft: &Draft, wanted: &[Answer]) {
+    each_answers(draft, wanted, |engine, book, rule| {
+        engine.culprits(book, rule)
+    });
 }
 
 /// Rule 3, by which Report may have a price as a sum alone, opposes rules 1 and 2, which ask for avg.
