@@ -5,14 +5,17 @@ use crate::lineage;
 use crate::named::NamedBook;
 use crate::names::Names;
 use crate::phrases::counted_list;
-use crate::{rule, words};
+use crate::rule;
+use crate::words::{self, How};
 use pspec::{Access, Action, Blocking, Causes, Datum, Refusal};
 
-/// What is said after a list of blocked rules.
-const ADVICE: &str = "\
+/// What is said of blocked rules, below their list and on the page.
+pub const ADVICE: &str = "\
 A blocked rule permits data that can't be had: whatever operations the user chooses for them, some
 rule of the book is broken. The first user and data are shown; there may be others. The rules that
-are named close them by themselves; other rules may close them too.";
+are named close them by themselves, so a change of the rules that opens them changes at least one of
+these. It may not be enough, as other rules may close them too. A function for an operation that
+none had may open them as well.";
 
 /// What is found of a rule.
 #[derive(Clone, Debug, PartialEq, Eq)]
@@ -48,8 +51,8 @@ pub enum Found {
 pub struct Closing {
     /// Its number.
     pub number: usize,
-    /// Which operations it asks for, or that it forbids.
-    pub why: String,
+    /// What it does to them.
+    pub how: How,
 }
 
 /// What is found of one rule.
@@ -80,27 +83,38 @@ fn closed_by(named: &NamedBook, r: usize) -> Result<Vec<Closing>, Refusal> {
     let rules = (0..named.contents.rules.len()).filter(closes);
     let closing = |number: usize| Closing {
         number,
-        why: words::closing(&named.contents.rules[number], &named.names),
+        how: words::closing(&named.contents.rules[number], &named.names),
     };
     Ok(rules.map(closing).collect())
 }
 
-/// Which rules close data, and what to do about it. They do so by themselves, so one of them has to
-/// change; it may not be enough, as rules that are not named may close the same data.
+/// Which rules close data, and what to do about it. A rule that asks for nothing is left out.
 pub fn advice(closed_by: &[Closing]) -> String {
-    if let [Closing { number, why }] = closed_by {
+    // Alone it closes them for want of operations: its references share no leaf, so under a restriction
+    // whose operations could all be had the data would be open.
+    if let [Closing {
+        number,
+        how: How::Asks(each),
+    }] = closed_by
+    {
+        let asked = each.join(", or ");
         return format!(
-            "Closed by rule {number} on its own. To open them, change at least this one: it {why}."
+            "Closed by rule {number} on its own: the functions do not give what it asks for, {asked}. \
+             Add one that does, or change the rule."
         );
     }
-    let numbers: Vec<String> = closed_by.iter().map(|of| of.number.to_string()).collect();
+    let does = |of: &Closing| Some((of.number.to_string(), of.how.words()?));
+    let (numbers, does): (Vec<String>, Vec<String>) = closed_by.iter().filter_map(does).unzip();
     let rules = counted_list("rule", &numbers);
-    let each = closed_by.iter();
-    let each: Vec<String> = each
-        .map(|Closing { number, why }| format!("rule {number} {why}"))
-        .collect();
-    let each = each.join("; ");
-    format!("Closed by {rules}. To open them, change at least one of these: {each}.")
+    let change = match does.as_slice() {
+        [one] => format!("this one: it {one}"),
+        does => {
+            let each = numbers.iter().zip(does);
+            let each: Vec<String> = each.map(|(n, does)| format!("rule {n} {does}")).collect();
+            format!("one of these: {}", each.join("; "))
+        }
+    };
+    format!("Closed by {rules}. To open them by the rules, change at least {change}.")
 }
 
 /// What is found of each rule.

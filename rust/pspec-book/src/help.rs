@@ -48,9 +48,10 @@ when some rule is idle, and for blocked --exit-code when some rule is blocked. W
 answer is one line of JSON; what is refused is said in words on the other output, and the status is
 the same.
 
-For each blocked rule, blocked names a few rules that close its data, itself among them. None of the
-others can be left out, but another set may do as well. At least one of those named has to change
-before the data open. That may not be enough: rules that are not named may close the same data.
+For each blocked rule, blocked names a few rules that close its data, itself among them unless it
+asks for nothing. None of the others can be left out, but another set may do as well. A change of the
+rules that opens the data changes at least one of those named. That may not be enough: rules that are
+not named may close the same data. A function for an operation that none had may open them as well.
 
 Every answer about a book comes from the proved engine: the book check, Flows, Judge, Idle, Blocked
 and Culprits. Why a rule is idle is found by asking it about books with rules left out. This program

@@ -1,7 +1,7 @@
 //! A report as one page, for the data owner: the hierarchies drawn, and each rule with its mark and the
 //! reason for it. Nothing is loaded from elsewhere, and no script runs.
 
-use crate::blocked::{advice, Found as Blocking, RuleBlocking};
+use crate::blocked::{advice, Found as Blocking, RuleBlocking, ADVICE};
 use crate::contents::UNLABELLED;
 use crate::covering::WhyIdle;
 use crate::drawing::{drawing, escaped, Label};
@@ -95,11 +95,7 @@ pub fn blocked(title: &str, named: &NamedBook, rules: &[RuleBlocking]) -> String
         summary: format!("{}: {blocked} blocked.", counted(rules.len(), "rule")),
         advice: match blocked {
             0 => "",
-            _ => {
-                "A blocked rule permits data that can't be had: whatever operations are chosen, \
-                 it or another rule is broken. The first user and data are shown; there may be others. \
-                 The rules that are named close them by themselves; other rules may close them too."
-            }
+            _ => ADVICE,
         },
         rules: rules.iter().map(rule).collect(),
         proved:

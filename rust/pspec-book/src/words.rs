@@ -6,6 +6,7 @@ use crate::hierarchy::is_leaf;
 use crate::named::NamedBook;
 use crate::names::Names;
 use crate::phrases::joined;
+use crate::rule::reference_text;
 use pspec::{Access, Action, Datum};
 
 /// A rule as a sentence.
@@ -114,19 +115,43 @@ fn demanded<'a>(
     })
 }
 
-/// What a rule does to data that it helps to close, after its number. A rule that forbids closes them
-/// whatever the operations; any other asks for some.
-pub fn closing(rule: &Rule, names: &Names) -> String {
+/// What a rule does to data that it helps to close.
+#[derive(Clone, Debug, PartialEq, Eq)]
+pub enum How {
+    /// It forbids these references, whatever the operations.
+    Forbids(Vec<String>),
+    /// It asks for operations: what each of its restrictions asks for.
+    Asks(Vec<String>),
+    /// Some restriction of it asks for nothing, so that nobody can break it.
+    Nothing,
+}
+
+impl How {
+    /// In words, after the rule's number. There are none where it asks for nothing.
+    pub fn words(&self) -> Option<String> {
+        match self {
+            How::Forbids(references) => Some(format!("forbids {}", references.join(" with "))),
+            How::Asks(each) => Some(format!("asks for {}", each.join(", or for "))),
+            How::Nothing => None,
+        }
+    }
+}
+
+/// What a rule does to data that it helps to close.
+pub fn closing(rule: &Rule, names: &Names) -> How {
     let asked = |masks: &[u16; 3]| {
         let demand = |(category, operations)| format!("{operations} of {category}");
         let demands: Vec<String> = demanded(rule, masks, names).map(demand).collect();
         joined(&demands, "and")
     };
     let each: Vec<String> = rule.restrictions.iter().map(asked).collect();
-    match each.as_slice() {
-        [] => "forbids them".to_string(),
-        each if each.iter().any(String::is_empty) => "asks for nothing".to_string(),
-        each => format!("asks for {}", each.join(", or for ")),
+    if each.is_empty() {
+        let references = rule.references.iter();
+        return How::Forbids(references.map(|of| reference_text(of, names)).collect());
+    }
+    match each.iter().any(String::is_empty) {
+        true => How::Nothing,
+        false => How::Asks(each),
     }
 }
 

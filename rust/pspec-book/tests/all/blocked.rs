@@ -7,6 +7,7 @@ use books::Random;
 use pspec::{Blocking, Book, Causes, Refusal, BLOCK};
 use pspec_book::blocked::{each, Found, RuleBlocking};
 use pspec_book::named::NamedBook;
+use pspec_book::words::How;
 use std::fs;
 use std::path::PathBuf;
 
@@ -25,7 +26,9 @@ const SUM: &str = "  Report, [access Price] => [{sum}]\n";
 const ADVICE: &str = "\
 A blocked rule permits data that can't be had: whatever operations the user chooses for them, some
 rule of the book is broken. The first user and data are shown; there may be others. The rules that
-are named close them by themselves; other rules may close them too.
+are named close them by themselves, so a change of the rules that opens them changes at least one of
+these. It may not be enough, as other rules may close them too. A function for an operation that
+none had may open them as well.
 ";
 
 #[test]
@@ -57,17 +60,17 @@ fn rules_that_oppose_each_other() {
         "\
 rule 0 (Analyst, [projection Address, projection Price] => [{{}}, {{avg, sum}}]): blocked. \
 Closed to Report, whatever the operations: output State, output Price
-  Closed by rules 0, 1 and 3. To open them, change at least one of these: \
+  Closed by rules 0, 1 and 3. To open them by the rules, change at least one of these: \
 rule 0 asks for avg or sum of Price; rule 1 asks for avg of Price; rule 3 asks for sum of Price.
 rule 1 (Analyst, [access Price] => [{{avg}}]): blocked. Closed to Report, whatever the operations: output Price
-  Closed by rules 1 and 3. To open them, change at least one of these: \
+  Closed by rules 1 and 3. To open them by the rules, change at least one of these: \
 rule 1 asks for avg of Price; rule 3 asks for sum of Price.
 rule 2 (Report, [projection Address, projection Price] => [{{}}, {{avg}}]): blocked. \
 Closed to Report, whatever the operations: output State, output Price
-  Closed by rules 2 and 3. To open them, change at least one of these: \
+  Closed by rules 2 and 3. To open them by the rules, change at least one of these: \
 rule 2 asks for avg of Price; rule 3 asks for sum of Price.
 rule 3 (Report, [access Price] => [{{sum}}]): blocked. Closed to Report, whatever the operations: output Price
-  Closed by rules 1 and 3. To open them, change at least one of these: \
+  Closed by rules 1 and 3. To open them by the rules, change at least one of these: \
 rule 1 asks for avg of Price; rule 3 asks for sum of Price.
 
 Blocked: rules 0, 1, 2 and 3.
@@ -91,10 +94,10 @@ fn a_rule_that_forbids() {
     assert_eq!(found, [closed, "open", closed, "forbids"]);
     let by: Vec<&str> = said.lines().filter(|l| l.starts_with("  ")).collect();
     let wanted = [
-        "  Closed by rules 0 and 3. To open them, change at least one of these: \
-         rule 0 asks for avg or sum of Price; rule 3 forbids them.",
-        "  Closed by rules 2 and 3. To open them, change at least one of these: \
-         rule 2 asks for avg of Price; rule 3 forbids them.",
+        "  Closed by rules 0 and 3. To open them by the rules, change at least one of these: \
+         rule 0 asks for avg or sum of Price; rule 3 forbids projection City.",
+        "  Closed by rules 2 and 3. To open them by the rules, change at least one of these: \
+         rule 2 asks for avg of Price; rule 3 forbids projection City.",
     ];
     assert_eq!(by, wanted);
     assert!(said.ends_with(&format!("\nBlocked: rules 0 and 2.\n{ADVICE}")));
@@ -122,31 +125,52 @@ fn a_rule_on_its_own() {
     let policy = text("examples/small-shop.pspec").replace("  avg: avg\n", "");
     let itself = |rule: u32| {
         format!(
-            "  Closed by rule {rule} on its own. To open them, change at least this one: \
-             it asks for avg of Price."
+            "  Closed by rule {rule} on its own: the functions do not give what it asks for, avg of Price. \
+             Add one that does, or change the rule."
         )
     };
-    let by_another = "  Closed by rules 0 and 1. To open them, change at least one of these: \
+    let by_another =
+        "  Closed by rules 0 and 1. To open them by the rules, change at least one of these: \
                       rule 0 asks for avg or sum of Price; rule 1 asks for avg of Price.";
     let wanted = [by_another.to_string(), itself(1), itself(2)];
     assert_eq!(closing(&policy), wanted);
 }
 
+/// No function counts, and here none averages: neither way of rule 3 can be had.
+#[test]
+fn a_rule_on_its_own_with_two_ways() {
+    let rule = "  Report, [projection State, condition Price] => [{count}, {}] or [{}, {avg}]\n";
+    let shop = text("examples/small-shop.pspec").replace("  avg: avg\n", "");
+    let policy = shop.replace("    Address\n", "    Address [count]\n") + rule;
+    let wanted = "  Closed by rule 3 on its own: the functions do not give what it asks for, count of State, \
+                  or avg of Price. Add one that does, or change the rule.";
+    assert_eq!(closing(&policy).last().map(String::as_str), Some(wanted));
+}
+
 /// Rule 3 asks for nothing and is closed all the same: rule 4 forbids State, the first of its data. Beside
-/// them rules 0 and 2 are closed there, too.
+/// them rules 0 and 2 are closed there, too. Nobody can break rule 3, so only rule 4 is named.
 #[test]
 fn a_rule_that_asks_for_nothing() {
     let rules = "  Report, [access Address] => [{}]\n  Report, [projection State] => forbid\n";
     let policy = text("examples/small-shop.pspec") + rules;
-    let start = |rule: u32| {
-        format!("  Closed by rules {rule} and 4. To open them, change at least one of these: ")
-    };
     let wanted = [
-        start(0) + "rule 0 asks for avg or sum of Price; rule 4 forbids them.",
-        start(2) + "rule 2 asks for avg of Price; rule 4 forbids them.",
-        start(3) + "rule 3 asks for nothing; rule 4 forbids them.",
+        "  Closed by rules 0 and 4. To open them by the rules, change at least one of these: \
+         rule 0 asks for avg or sum of Price; rule 4 forbids projection State.",
+        "  Closed by rules 2 and 4. To open them by the rules, change at least one of these: \
+         rule 2 asks for avg of Price; rule 4 forbids projection State.",
+        "  Closed by rule 4. To open them by the rules, change at least this one: \
+         it forbids projection State.",
     ];
     assert_eq!(closing(&policy), wanted);
+    let folder = shop_and("blocked-nothing", rules);
+    let (_, json, _) = run(&folder, &["blocked", "new.book", "--json"]);
+    assert!(json.contains(r#""closed_by":[3,4]}"#), "{json}");
+    run(&folder, &["blocked", "new.book", "--html", "new.html"]);
+    let page = text_of(&folder, "new.html");
+    let said =
+        "some rule is broken. Closed by rule 4. To open them by the rules, change at least this \
+                one: it forbids projection State.</p>";
+    assert!(page.contains(said), "{page}");
 }
 
 /// The answer for scripts, rule by rule. City is forbidden by rule 4; a price that decides needs avg by
@@ -181,13 +205,14 @@ fn as_a_page() {
         "<p>4 rules: 4 blocked.</p>",
         "<span class=\"mark\">blocked</span>",
         "<p>Blocked: Report can't put out State and Price in one query. \
-         Whatever the operations, some rule is broken. Closed by rules 0, 1 and 3. To open them, change \
-         at least one of these: rule 0 asks for avg or sum of Price; rule 1 asks for avg of Price; \
-         rule 3 asks for sum of Price.</p>",
+         Whatever the operations, some rule is broken. Closed by rules 0, 1 and 3. To open them by \
+         the rules, change at least one of these: rule 0 asks for avg or sum of Price; rule 1 asks \
+         for avg of Price; rule 3 asks for sum of Price.</p>",
         "<p>Blocked: Report can't put out Price. Whatever the operations, some rule is broken. \
-         Closed by rules 1 and 3. To open them, change at least one of these: rule 1 asks for avg of \
-         Price; rule 3 asks for sum of Price.</p>",
-        "The rules that are named close them by themselves; other rules may close them too.</p>",
+         Closed by rules 1 and 3. To open them by the rules, change at least one of these: rule 1 \
+         asks for avg of Price; rule 3 asks for sum of Price.</p>",
+        "The rules that\nare named close them by themselves, so a change of the rules that opens them",
+        "A function for an operation that\nnone had may open them as well.</p>",
         "which user and data come first, and which rules close them are answers of the proved engine.",
     ] {
         assert!(page.contains(said), "{said}\n{page}");
@@ -241,8 +266,23 @@ fn blocked_among(book: &Book, rule: usize, rules: &[usize]) -> Blocking {
     fewer.blocked(place).expect("the rule does not forbid")
 }
 
+/// Does each restriction of a rule ask for something that no function gives?
+fn asks_for_what_is_not_given(named: &NamedBook, rule: usize) -> bool {
+    let given = named
+        .contents
+        .functions
+        .iter()
+        .fold(0, |mask, k| mask | 1u16 << k);
+    let mut each = named.contents.rules[rule].restrictions.iter();
+    each.all(|masks| {
+        masks
+            .iter()
+            .any(|&mask| mask != 0 && mask & given & !1 == 0)
+    })
+}
+
 /// On random books the rules that are named close the same data by themselves; without one of the others
-/// they don't.
+/// they don't. One on its own asks for what is not given, and only the rule itself may ask for nothing.
 #[test]
 fn the_named_rules_close_the_data() {
     let mut counts = [0; 4];
@@ -257,6 +297,10 @@ fn the_named_rules_close_the_data() {
             let answer = answer.expect("it is blocked");
             let rules: Vec<usize> = closed_by.iter().map(|by| by.number).collect();
             assert!(rules.is_sorted());
+            let alone = asks_for_what_is_not_given(&named, of.number);
+            assert_eq!(rules.len() == 1, alone);
+            let nothing = closed_by.iter().filter(|by| by.how == How::Nothing);
+            assert!(nothing.map(|by| by.number).all(|n| n == of.number));
             assert_eq!(blocked_among(&named.book, of.number, &rules), answer);
             for out in rules.iter().filter(|&&out| out != of.number) {
                 let fewer: Vec<usize> = rules.iter().copied().filter(|r| r != out).collect();
