@@ -99,7 +99,7 @@ static void blocked(const uint8_t *book, size_t length, uint32_t rule)
     }
     /* Of the same book and rule, so neither refused nor unblocked. */
     uint32_t others = pspec_other_rules(pspec_culprits(book, length, rule), rule);
-    printf(others == 0 ? ", alone" : ", with rules");
+    printf(others == 0 ? ", alone" : (others & (others - 1)) == 0 ? ", with rule" : ", with rules");
     print_rules(others);
     printf("\n");
 }

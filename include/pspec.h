@@ -22,11 +22,11 @@
  * something is refused. So the functions at the end of this file give the answer's own parts (proved:
  * crates/capi/proofs/Unpacking.antt).
  *
- * Not proved: this file, and that there is stack enough. On the largest book and on one with 64
- * categories in a chain the smallest stacks that worked were 16 KiB for pspec_check, pspec_flows,
- * pspec_judge and pspec_submit, 49 KiB for pspec_idle, 57 KiB for pspec_blocked (bench stack); on a
- * thread with less the process is stopped. Give them 128 KiB. The calls use memcpy, memmove and memset
- * and nothing else from outside.
+ * Not proved: this file, and that there is stack enough. On the largest book, on one with 64 categories
+ * in a chain, and on a blocked rule of such books the smallest stacks that worked were 16 KiB for
+ * pspec_check, pspec_flows, pspec_judge and pspec_submit, 49 KiB for pspec_idle, 56 KiB for
+ * pspec_blocked, 57 KiB for pspec_culprits (bench stack); on a thread with less the process is stopped.
+ * Give them 128 KiB. The calls use memcpy, memmove and memset and nothing else from outside.
  */
 #ifndef PSPEC_H
 #define PSPEC_H
@@ -134,8 +134,8 @@ uint64_t pspec_blocked(const uint8_t *book, size_t book_length, uint32_t rule);
  * are left close the association together with the asking rule, and no proper subset of them does. Refuses
  * 1 to 9, 24, 26, as pspec_blocked does. Value: 0 when the rule is not blocked. Otherwise a mask, bit r for
  * rule r, of the others that are left and the asking rule: 2^rule alone when it closes the association by
- * itself. At least one of these rules has to change before the association opens; that one is enough is not
- * said, as rules that were dropped may close it too.
+ * itself. Of the rules at least one of these has to change before the association opens; that one is enough
+ * is not said, as rules that were dropped may close it too.
  */
 uint64_t pspec_culprits(const uint8_t *book, size_t book_length, uint32_t rule);
 

@@ -4,8 +4,9 @@ use crate::{raw, Rules};
 
 /// Which few rules close the data that a rule permits and no operation can open.
 ///
-/// An editor begins with these. Of the rules that are named and the asking one, at least one has to
-/// change before the data open. That one is enough is not said: other rules may close the same data too.
+/// An editor begins with these. Of the rules, at least one of those named or the asking one has to change
+/// before the data open. That one is enough is not said: other rules may close the same data too. A
+/// function for an operation that none had may open them as well.
 #[derive(Clone, Copy, Debug, PartialEq, Eq, Hash)]
 #[must_use]
 pub enum Causes {
