@@ -56,7 +56,7 @@ pub struct Reached {
     pub unblocked: u64,
     /// Rules whose data are closed beside no, one, two and more other rules.
     pub causes: [u64; 4],
-    /// Of these, those that have others behind them where rules are dropped from the lowest number up.
+    /// Of these, those of which another set is left where rules are dropped from the lowest number up.
     pub causes_by_order: u64,
     /// Judged plans that break some rule.
     pub broken: u64,
@@ -210,7 +210,7 @@ impl Reached {
         let [none, one, two, more] = self.causes;
         format!(
             "blocks: {} none, {none} by the rule alone, {one} with one other, {two} with two, {more} \
-             with more ({} with others where dropped from the lowest)",
+             with more (of {} another set is left from the lowest up)",
             self.unblocked, self.causes_by_order
         )
     }

@@ -4,8 +4,8 @@
 use crate::{count, Input};
 use std::process::{Command, Stdio};
 
-/// What needs stack: the largest tables, and the longest recursion, up a chain of categories; and each with
-/// a blocked rule, from which on Culprits has more to do than Blocked.
+/// What needs stack: the largest tables, and the longest recursion, up a chain of categories. For each of
+/// the two there is a book with a blocked rule, where Culprits does more than Blocked.
 const BOOKS: [&str; 4] = ["largest", "32 together", "one chain", "blocked chain"];
 
 /// Prints the smallest stack of each call on each book, and on all.

@@ -233,9 +233,10 @@ fn asking(rule: &Rule, place: usize, operations: u16) -> Rule {
     }
 }
 
-/// Two to four rules that close the rule's data together and not without one of them, and the rule made
+/// Up to four rules that close the rule's data together and not without one of them, and the rule made
 /// to take all that they take: what can be had of a reference is dealt out in shares, and each takes all
-/// but one share. There may be a twin, so that either would do, or rules for some users in place of one.
+/// but one share. Where nothing can be had of it, or it supports one operation only, there are none. There
+/// may be a twin, so that either would do, or rules for some users in place of one.
 pub fn closed_together(random: &mut Random, draft: &Draft, rule: &Rule) -> Vec<Rule> {
     let supported = |place: &usize| draft.supported(rule.references[*place].category);
     let had = had(draft);
