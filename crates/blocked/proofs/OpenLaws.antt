@@ -6,13 +6,13 @@ use mathlib.Core.Bool.{Bool, true, false, _&&_, not, false≢true}
 use mathlib.Core.List.{List, [], _∷_, map, List·Memᴰ, List·Memᴰ·head}
 use mathlib.Core.List.{List·Memᴰ·eq-of-singleton, Memᴰ·map, Memᴰ·of-map}
 use borrow.Author.Tests.{not-true, not-false}
-use Rattle.book.specs.Lists.{all, any, upTo}
+use Rattle.book.specs.Lists.{all, any, upTo, keep}
 use Rattle.book.specs.Blocks.{headOf, ruleAt, ruleCount}
 use Rattle.book.specs.Rule.{referenceCount}
 use Rattle.book.specs.Refusals.{BookAccepted}
 use Rattle.book.proofs.Accepted.{HeadHolds, accepted-head}
 use Rattle.book.proofs.Lists.{and-true, and-left, and-both}
-use Rattle.verdicts.specs.Accesses.{Access, fits, keep, members}
+use Rattle.verdicts.specs.Accesses.{Access, fits, members}
 use Rattle.verdicts.specs.Breaking.{breaks}
 use Rattle.verdicts.proofs.Quantifiers.{any-at, at-any}
 use Rattle.search.specs.Obtainable.{canBeHad, labelled, operated}

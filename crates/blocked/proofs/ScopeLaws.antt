@@ -8,13 +8,13 @@ use mathlib.Core.List.{List, [], _∷_, map, List·Memᴰ, List·Memᴰ·head}
 use mathlib.Core.List.{Memᴰ·map}
 use lib.Dec.{ltb}
 use borrow.Author.Tests.{eq-eqb}
-use Rattle.book.specs.Lists.{all, upTo}
+use Rattle.book.specs.Lists.{all, upTo, keep}
 use Rattle.book.specs.Blocks.{headOf, ruleAt}
 use Rattle.book.specs.Hierarchies.{covers}
 use Rattle.book.specs.Head.{dataCount, isUser, userCount, userParent}
 use Rattle.book.specs.Rule.{coversUser, excludedUsers, referenceCount, userCategory}
 use Rattle.book.proofs.Lists.{and-true, and-left, and-right, and-both, map-all, or-true}
-use Rattle.verdicts.specs.Accesses.{fits, keep}
+use Rattle.verdicts.specs.Accesses.{fits}
 use Rattle.verdicts.specs.Breaking.{choicesFrom}
 use Rattle.verdicts.proofs.Accesses.{fits-bounds}
 use Rattle.verdicts.proofs.Quantifiers.{flat-all}

@@ -3,7 +3,7 @@
 use Prim.Native.Nat.{ℕ}
 use mathlib.Core.Path.{_≡_, refl, _∙_}
 use mathlib.Core.List.{List, [], _∷_, _++_, map}
-use Rattle.book.specs.Lists.{all, any, flat, upTo, from}
+use Rattle.book.specs.Lists.{all, any, flat, upTo, from, keep}
 use Rattle.book.specs.Sets.{has}
 use Rattle.book.specs.Hierarchies.{upwardIn, upward, under, leaf, covers, properDescendant, ownedBy, support}
 use Rattle.book.specs.Hierarchies.{parentHolds}
@@ -29,7 +29,7 @@ use Rattle.book.proofs.Answers.{first-append}
 use Rattle.lineage.specs.Accesses.{wordOf}
 use Rattle.lineage.specs.Paths.{labels}
 use Rattle.verdicts.specs.Actions.{actionFits, channelFits}
-use Rattle.verdicts.specs.Accesses.{same, keep, everyAccess, fits, fitting}
+use Rattle.verdicts.specs.Accesses.{same, everyAccess, fits, fitting}
 use Rattle.verdicts.specs.Breaking.{choicesFrom, operations, accepts, refusesAll, someChoiceRefused, breaks}
 use Rattle.search.specs.Obtainable.{labelled, operated, canBeHad}
 use Rattle.search.specs.Alone.{firstIn}

@@ -3,9 +3,9 @@
 use Prim.Native.Nat.{ℕ}
 use mathlib.Core.Bool.{Bool, true, _&&_, not}
 use mathlib.Core.List.{List, [], _∷_, map}
-use Rattle.book.specs.Lists.{any, flat, upTo}
+use Rattle.book.specs.Lists.{any, flat, upTo, keep}
 use Rattle.book.specs.Blocks.{Book, Head, headOf, ruleAt, ruleCount}
-use Rattle.verdicts.specs.Accesses.{Access, keep, members}
+use Rattle.verdicts.specs.Accesses.{Access, members}
 use Rattle.verdicts.specs.Breaking.{breaks}
 use Rattle.search.specs.Obtainable.{canBeHad}
 use Rattle.search.specs.Alone.{First, firstIn}

@@ -76,6 +76,11 @@ else-passed (Refused r) b h = refused-passed r h
 pub append-passed : (a b : List Test) → Passes (a ++ b) → Passes a × Passes b
 append-passed a b h = else-passed (firstFailing a) (firstFailing b) (sym (first-append a b) ∙ h)
 
+-- the first list's refusal is that of both
+pub append-refused : (a b : List Test) (r : Refusal) → firstFailing a ≡ Refused r → firstFailing (a ++ b) ≡ Refused r
+unfolding orElse
+append-refused a b r h = rw (first-append a b, h)
+
 -- a call's outcome from those of its parts
 pub joined :
     (a b : List Test) (x y r : Tested)
@@ -168,3 +173,11 @@ module _ {A : Type 0} (tests : List Test) (refused : Refusal → A) (value : A) 
   pub answered-refused : (r : Refusal) → firstFailing tests ≡ Refused r → answered tests refused value ≡ refused r
   unfolding answered refusedOr
   answered-refused r h = rw h
+
+-- where a first list passes, the second decides
+pub answered-after :
+    {A : Type 0} (a b : List Test) (refused : Refusal → A) (value : A)
+    → Passes a
+    → answered (a ++ b) refused value ≡ answered b refused value
+unfolding answered orElse
+answered-after a b refused value h = rw (first-append a b, h)

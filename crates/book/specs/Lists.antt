@@ -1,4 +1,4 @@
--- Quantifiers over finite lists, which compute. Assumes nothing.
+-- Quantifiers over finite lists, and what is kept of one; they compute. Assumes nothing.
 use Prim.Native.Nat.{ℕ, zero, suc}
 use mathlib.Core.Bool.{Bool, true, false, _&&_, _||_}
 use mathlib.Core.List.{List, [], _∷_, _++_}
@@ -24,3 +24,8 @@ any f (x ∷ xs) = f x || any f xs
 unfoldable pub flat : {A B : Type 0} → (A → List B) → List A → List B
 flat f [] = []
 flat f (x ∷ xs) = f x ++ flat f xs
+
+-- the members for which f holds, in their order
+unfoldable pub keep : {A : Type 0} → (A → Bool) → List A → List A
+keep f [] = []
+keep {A} f (x ∷ xs) = elim (f x) as (λ b. List A) [ true ↦ x ∷ keep f xs | false ↦ keep f xs ]

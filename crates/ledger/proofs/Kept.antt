@@ -7,12 +7,12 @@ use mathlib.Core.List.{List, [], _∷_}
 use lib.ListN.{length, length-replicate}
 use lib.Dec.{eqb}
 use borrow.Author.Tests.{eq-eqb, ne-eqb, eqb-true, eqb-false}
-use Rattle.book.specs.Lists.{any}
+use Rattle.book.specs.Lists.{any, keep}
 use Rattle.book.specs.Blocks.{headOf}
 use Rattle.book.specs.Refusals.{BookAccepted}
 use Rattle.book.specs.declared.Refusal.{Refusal}
 use Rattle.lineage.specs.Accesses.{accessWords}
-use Rattle.verdicts.specs.Accesses.{Access, accessesOf, keep, union}
+use Rattle.verdicts.specs.Accesses.{Access, accessesOf, union}
 use Rattle.verdicts.specs.Breaking.{brokenMask}
 use Rattle.verdicts.proofs.Held.{held-operations, held-zero}
 use Rattle.verdicts.proofs.DemandLaws.{query-demand}

@@ -3,7 +3,7 @@ use Prim.Native.Nat.{ℕ}
 use mathlib.Core.Path.{_≡_, refl}
 use mathlib.Core.List.{List, [], _∷_, _++_, map, reverse}
 use lib.ListN.{replicate}
-use Rattle.book.specs.Lists.{flat, all, any, upTo, from}
+use Rattle.book.specs.Lists.{flat, all, any, upTo, from, keep}
 use Rattle.book.specs.Sets.{has}
 use Rattle.book.specs.Hierarchies.{upwardIn, upward, under, leaf, covers, properDescendant, ownedBy, support}
 use Rattle.book.specs.Hierarchies.{parentHolds}
@@ -27,7 +27,7 @@ use Rattle.lineage.specs.Accesses.{reaches, gives, isAccess, wordOf, accessWord
 use Rattle.lineage.specs.Answers.{planLengthHolds, rowTests, planTests}
 use Rattle.lineage.proofs.Vectors.{concatBoth, output, plan, state, price, avg}
 use Rattle.verdicts.specs.Actions.{actionFits, channelFits}
-use Rattle.verdicts.specs.Accesses.{accessesOf, heldBy, union, keep, everyAccess, fits, fitting}
+use Rattle.verdicts.specs.Accesses.{accessesOf, heldBy, union, everyAccess, fits, fitting}
 use Rattle.verdicts.specs.Breaking.{choicesFrom, operations, accepts, refusesAll, someChoiceRefused, breaks}
 use Rattle.verdicts.specs.Breaking.{brokenMask}
 use Rattle.verdicts.specs.Answers.{userTests, judgeTests}

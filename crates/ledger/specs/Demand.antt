@@ -5,11 +5,11 @@ use mathlib.Core.Path.{_≡_}
 use mathlib.Core.Bool.{false}
 use mathlib.Core.List.{List, _∷_}
 use lib.ListN.{length}
-use Rattle.book.specs.Lists.{any}
+use Rattle.book.specs.Lists.{any, keep}
 use Rattle.book.specs.Blocks.{Book, Head, headOf, ruleAt, ruleCount}
 use Rattle.book.specs.Refusals.{BookAccepted}
 use Rattle.lineage.specs.Rows.{Plan}
-use Rattle.verdicts.specs.Accesses.{Access, Accesses, accessesOf, keep}
+use Rattle.verdicts.specs.Accesses.{Access, Accesses, accessesOf}
 use Rattle.verdicts.specs.Breaking.{breaks}
 use Rattle.verdicts.specs.Semantics.{SatisfiesPolicy}
 use Rattle.verdicts.specs.Demand.{JudgeAccepted, Demand2}

@@ -5,9 +5,9 @@ use mathlib.Core.Bool.{Bool, true, false}
 use mathlib.Core.List.{List, [], _∷_, map}
 use lib.ListN.{replicate}
 use lib.Dec.{eqb}
+use Rattle.book.specs.Lists.{keep}
 use Rattle.book.specs.Blocks.{Book}
 use Rattle.lineage.specs.Rows.{Plan}
-use Rattle.verdicts.specs.Accesses.{keep}
 use Rattle.ledger.specs.Ledger.{Ledger}
 use Rattle.ledger.specs.Answers.{submitAnswer, submitLedger, submitTally}
 use Rattle.ledger.specs.declared.Tally.{Tally}

@@ -5,7 +5,7 @@ use mathlib.Core.Path.{_≡_, refl}
 use mathlib.Core.Bool.{Bool, true, false}
 use mathlib.Core.List.{List, [], _∷_, _++_, map}
 use lib.ListN.{getD, take, replicate}
-use Rattle.book.specs.Lists.{flat, any, upTo, from}
+use Rattle.book.specs.Lists.{flat, any, keep, upTo, from}
 use Rattle.book.specs.Sets.{has}
 use Rattle.book.specs.Hierarchies.{upwardIn, upward, ownedBy, support}
 use Rattle.book.specs.Head.{supportOf, supports}
@@ -83,10 +83,6 @@ Access = ℕ × ℕ × ℕ
 -- both actions, the shop's five categories and 255, every operation
 unfoldable pub triples : List Access
 triples = map (λ n. (n / 96, getD (0 ∷ 1 ∷ 2 ∷ 3 ∷ 4 ∷ 255 ∷ []) (n / 16 % 6) 0, n % 16)) (upTo 192)
-
-unfoldable pub keep : (Access → Bool) → List Access → List Access
-keep f [] = []
-keep f (x ∷ xs) = elim (f x) as (λ b. List Access) [ true ↦ x ∷ keep f xs | false ↦ keep f xs ]
 
 -- those that are accesses
 unfoldable pub accesses : List ℕ → List (List ℕ) → List Access

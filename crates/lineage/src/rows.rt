@@ -41,7 +41,7 @@ pub fn row_c(plan: &[u8], i: u8) -> u8
     byte_at(plan, 4 * at + 3) as u8
 }
 
-fn is_value(kind: usize) -> bool
+pub fn is_value(kind: usize) -> bool
     ensures { λ r. ⌜ r ≡ isValue (kindOf kind) ⌝ }
 {
     (1 <= kind) & (kind <= 3)

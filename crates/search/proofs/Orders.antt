@@ -8,7 +8,7 @@ use mathlib.Core.Bool.{Bool, true, false, _&&_, _||_, cond, false≢true}
 use mathlib.Core.List.{List, [], _∷_, map, List·Memᴰ, List·Memᴰ·head, Memᴰ·cast, Memᴰ·map}
 use lib.Dec.{eqb, ltb}
 use borrow.Author.Tests.{eqb-true, eq-eqb}
-use Rattle.book.specs.Lists.{flat, all, any, upTo}
+use Rattle.book.specs.Lists.{flat, all, any, upTo, keep}
 use Rattle.book.specs.Blocks.{headOf, ruleAt, ruleCount}
 use Rattle.book.specs.Hierarchies.{leaf}
 use Rattle.book.specs.Head.{dataCount, functionCount, isUser, operation, supports, userCount}
@@ -16,7 +16,7 @@ use Rattle.book.specs.Rule.{referenceCount}
 use Rattle.book.specs.Refusals.{BookAccepted}
 use Rattle.book.proofs.Accepted.{HeadHolds, accepted-head}
 use Rattle.book.proofs.Lists.{and-true, and-left, and-right, and-both, or-true, map-all}
-use Rattle.verdicts.specs.Accesses.{Access, Accesses, everyAccess, fits, fitting, keep, same}
+use Rattle.verdicts.specs.Accesses.{Access, Accesses, everyAccess, fits, fitting, same}
 use Rattle.verdicts.specs.Breaking.{choicesFrom}
 use Rattle.verdicts.proofs.Users.{user-below}
 use Rattle.verdicts.proofs.Accesses.{access, in-fitting, same-equal, same-self}

@@ -8,9 +8,8 @@ use mathlib.Core.List.{List, [], _∷_, _++_, map, List·Memᴰ, List·Memᴰ·h
 use mathlib.Core.List.{List·Memᴰ·append-cases, List·Memᴰ·cases-cons, Memᴰ·append-left, Memᴰ·append-right, Memᴰ·cast}
 use lib.Dec.{eqb, ltb}
 use borrow.Author.Tests.{eqb-true, eq-eqb, lt-ltb}
-use Rattle.book.specs.Lists.{flat, all, any, from, upTo}
+use Rattle.book.specs.Lists.{flat, all, any, from, upTo, keep}
 use Rattle.book.proofs.Lists.{and-true, and-both, append-all, map-all, from-all, or-true}
-use Rattle.verdicts.specs.Accesses.{keep}
 use Rattle.verdicts.proofs.Quantifiers.{at-any}
 use Rattle.search.specs.Alone.{First, none, shown, firstIn}
 

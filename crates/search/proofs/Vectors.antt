@@ -4,7 +4,7 @@ use Prim.Native.Nat.{ℕ, _-_}
 use mathlib.Core.Path.{_≡_, refl, _∙_}
 use mathlib.Core.List.{List, [], _∷_, _++_, map}
 use lib.ListN.{length, replicate}
-use Rattle.book.specs.Lists.{flat, all, any, upTo, from}
+use Rattle.book.specs.Lists.{flat, all, any, upTo, from, keep}
 use Rattle.book.specs.Sets.{has}
 use Rattle.book.specs.Hierarchies.{upwardIn, upward, under, leaf, covers, ownedBy, support}
 use Rattle.book.specs.Head.{isUser, isDataLeaf, supportOf, supports}
@@ -22,7 +22,7 @@ use Rattle.lineage.specs.Paths.{appliedAs, through, pathsBy, pathsIn, paths, la
 use Rattle.lineage.specs.Paths.{firstOperation, operationOf, carries}
 use Rattle.lineage.specs.Accesses.{reaches, gives, isAccess}
 use Rattle.verdicts.specs.Actions.{actionFits, channelFits}
-use Rattle.verdicts.specs.Accesses.{Access, accessesOf, keep, everyAccess, fits, fitting}
+use Rattle.verdicts.specs.Accesses.{Access, accessesOf, everyAccess, fits, fitting}
 use Rattle.verdicts.specs.Breaking.{choicesFrom, operations, accepts, refusesAll, someChoiceRefused, breaks}
 use Rattle.search.specs.Obtainable.{labelled, operated, canBeHad}
 use Rattle.search.specs.Choices.{Candidate, choicesOf, weight, choicesByWeight, forUsers, candidates}

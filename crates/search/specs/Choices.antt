@@ -3,11 +3,11 @@ use Prim.Native.Nat.{ℕ, zero, suc, _+_}
 use mathlib.Core.Bool.{Bool, true, false, _&&_, _||_, cond}
 use mathlib.Core.List.{List, [], _∷_, map}
 use lib.Dec.{eqb, ltb}
-use Rattle.book.specs.Lists.{flat, upTo}
+use Rattle.book.specs.Lists.{flat, upTo, keep}
 use Rattle.book.specs.Blocks.{Head, Rule}
 use Rattle.book.specs.Head.{isUser, userCount}
 use Rattle.book.specs.Rule.{referenceCount}
-use Rattle.verdicts.specs.Accesses.{Access, fits, fitting, keep, same}
+use Rattle.verdicts.specs.Accesses.{Access, fits, fitting, same}
 use Rattle.verdicts.specs.Breaking.{choicesFrom}
 use Rattle.search.specs.Obtainable.{canBeHad}
 

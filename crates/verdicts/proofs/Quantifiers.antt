@@ -7,10 +7,9 @@ use mathlib.Core.Bool.{Bool, true, false, _&&_, _||_}
 use mathlib.Core.List.{List, [], _∷_}
 use lib.Dec.{eqb, ltb}
 use borrow.Author.Tests.{ltb-true, lt-ltb, eqb-true, eq-eqb}
-use Rattle.book.specs.Lists.{flat, any, all, from, upTo}
+use Rattle.book.specs.Lists.{flat, any, all, from, upTo, keep}
 use Rattle.book.proofs.Lists.{and-true, and-left, and-right, and-both, or-end, same-test}
 use Rattle.book.proofs.Lists.{any-append, append-all, any-found, at-all, none-at, all-three}
-use Rattle.verdicts.specs.Accesses.{keep}
 
 -- Lists
 

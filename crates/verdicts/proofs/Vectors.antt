@@ -3,7 +3,7 @@
 use Prim.Native.Nat.{ℕ}
 use mathlib.Core.Path.{_≡_, refl}
 use mathlib.Core.List.{List, [], _∷_, map}
-use Rattle.book.specs.Lists.{flat, all, any, upTo, from}
+use Rattle.book.specs.Lists.{flat, all, any, upTo, from, keep}
 use Rattle.book.specs.Sets.{has}
 use Rattle.book.specs.Hierarchies.{upwardIn, upward, under, leaf, covers, properDescendant, ownedBy, support}
 use Rattle.book.specs.Hierarchies.{parentHolds}
@@ -28,7 +28,7 @@ use Rattle.lineage.specs.Accesses.{reaches, gives, isAccess, wordOf}
 use Rattle.lineage.specs.Answers.{planLengthHolds, rowTests, planTests}
 use Rattle.lineage.proofs.Vectors.{concatBoth, choose, output, condition, plan, state, city, price, avg, sum}
 use Rattle.verdicts.specs.Actions.{actionFits, channelFits}
-use Rattle.verdicts.specs.Accesses.{accessesOf, keep, everyAccess, fits, fitting}
+use Rattle.verdicts.specs.Accesses.{accessesOf, everyAccess, fits, fitting}
 use Rattle.verdicts.specs.Breaking.{choicesFrom, operations, accepts, refusesAll, someChoiceRefused, breaks}
 use Rattle.verdicts.specs.Breaking.{brokenMask}
 use Rattle.verdicts.specs.Answers.{userTests, judgeTests, judgeAnswer}

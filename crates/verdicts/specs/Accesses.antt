@@ -1,10 +1,10 @@
 -- Accesses, and which of them fit a reference of a rule. Document 01, "Breaking a rule". Assumes nothing.
 use Prim.Native.Nat.{ℕ, _+_, _*_}
-use mathlib.Core.Bool.{Bool, true, false, _&&_, _||_}
-use mathlib.Core.List.{List, [], _∷_, map}
+use mathlib.Core.Bool.{Bool, _&&_, _||_}
+use mathlib.Core.List.{List, map}
 use lib.ListN.{getD}
 use lib.Dec.{eqb, ltb}
-use Rattle.book.specs.Lists.{any, flat, upTo}
+use Rattle.book.specs.Lists.{any, flat, keep, upTo}
 use Rattle.book.specs.Blocks.{Head, Rule}
 use Rattle.book.specs.Sets.{has}
 use Rattle.book.specs.Head.{dataCount}
@@ -43,10 +43,6 @@ heldBy words x =
 -- two sets joined
 unfoldable pub union : Accesses → Accesses → Accesses
 union a b x = a x || b x
-
-unfoldable pub keep : {A : Type 0} → (A → Bool) → List A → List A
-keep f [] = []
-keep {A} f (x ∷ xs) = elim (f x) as (λ b. List A) [ true ↦ x ∷ keep f xs | false ↦ keep f xs ]
 
 -- every access that a book has categories for: projections first, then by leaf, then by operation
 unfoldable pub everyAccess : Head → List Access

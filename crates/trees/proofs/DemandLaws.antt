@@ -1,0 +1,111 @@
+-- What Tree's numbers say of the buffer, and when nothing is refused. Assumes nothing.
+use Prim.Native.Nat.{ℕ, _+_, _^_, _≤_, _<_}
+use native.Mathlib.Omega.{arith}
+use mathlib.Core.Path.{_≡_, refl, sym, ap, _∙_}
+use mathlib.Core.Bool.{true, _&&_}
+use mathlib.Core.List.{List, _++_}
+use lib.ListN.{length, take, drop, length-append, length-drop}
+use lib.Seq.{take-append-seam, drop-append-seam}
+use lib.Dec.{ltb, leb}
+use borrow.Author.Tests.{leb-true, le-leb, lt-ltb}
+use Rattle.book.specs.Blocks.{headOf}
+use Rattle.book.specs.Tests.{Passes, firstFailing}
+use Rattle.book.specs.Refusals.{bookTests}
+use Rattle.book.specs.declared.Tested.{Tested}
+use Rattle.book.specs.declared.Tested.the-variants as tested
+use Rattle.book.proofs.Lists.{and-both}
+use Rattle.book.proofs.Answers.{answered-passed, answered-refused, append-passed, first-append, last-passed}
+use Rattle.book.specs.Inner.Testing.{orElse}
+use Rattle.lineage.specs.Rows.{rowCount, kindAt, isValue}
+use Rattle.lineage.specs.Answers.{planTests}
+use Rattle.trees.specs.Trees.{nodeCount}
+use Rattle.trees.specs.Text.{treeText, lineCount}
+use Rattle.trees.specs.Answers.{isValueRow, valueTests, treeFits, roomTests, rowTests, treeTests, drawn, treeAnswer}
+use Rattle.trees.specs.Answers.{written, treeBuffer}
+use Rattle.trees.specs.Demand.{TreeAccepted, Draws}
+use Rattle.trees.specs.declared.Drawn.{Drawn}
+use Rattle.trees.specs.declared.Drawn.the-variants as drawing
+use Rattle.trees.proofs.TreeLaws.{tree-few, tree-lines}
+use Rattle.trees.proofs.TreeAnswers.{row-accepted}
+
+module _ (book plan : List ℕ) (i : ℕ) (buffer : List ℕ) where
+  -- what is tested where nothing is refused
+  pub tree-accepted : Passes (treeTests book plan i buffer) → TreeAccepted book plan i buffer
+  unfolding treeTests roomTests treeFits
+  tree-accepted h =
+      let parts = append-passed (rowTests book plan i) (roomTests plan i buffer) h in
+      let row = row-accepted book plan i (parts .0) in
+      let room =
+      and-both (leb (nodeCount plan i) 4096) (leb (length (treeText plan i)) (length buffer))
+      (last-passed 30 0 (treeFits plan i (length buffer)) (parts .1)) in
+      record {
+        both = row .0;
+        there = row .1;
+        value = row .2;
+        few = leb-true (nodeCount plan i) 4096 (room .0);
+        fits = leb-true (length (treeText plan i)) (length buffer) (room .1);
+      }
+
+  pub accepted-tree : TreeAccepted book plan i buffer → Passes (treeTests book plan i buffer)
+  unfolding treeTests rowTests valueTests isValueRow roomTests treeFits firstFailing orElse
+  accepted-tree a =
+      rw (
+        first-append (bookTests book ++ planTests (headOf book) plan ++ valueTests plan i) (roomTests plan i buffer),
+        first-append (bookTests book ++ planTests (headOf book) plan) (valueTests plan i),
+        first-append (bookTests book) (planTests (headOf book) plan),
+        a .both .0,
+        a .both .1,
+        lt-ltb i (rowCount plan) (a .there),
+        a .value,
+        le-leb (nodeCount plan i) 4096 (a .few),
+        le-leb (length (treeText plan i)) (length buffer) (a .fits),
+      )
+
+  -- the buffer with the text at its front
+  pub accepted-draws :
+      TreeAccepted book plan i buffer
+      → Draws plan i buffer (written (treeText plan i) buffer) (nodeCount plan i) (length (treeText plan i))
+  unfolding written
+  accepted-draws a =
+      let text = treeText plan i in
+      let front = take-append-seam text (drop (length text) buffer) in
+      let l = length-append text (drop (length text) buffer) in
+      let d = length-drop (length text) buffer in
+      let f = a .fits in
+      record {
+        front = front;
+        rest = drop-append-seam text (drop (length text) buffer);
+        fits = f;
+        whole = omega arith;
+        count = refl;
+        lines = ap lineCount front ∙ tree-lines plan i;
+        most = a .few;
+        powers = tree-few plan i;
+      }
+
+  -- of the answer itself
+  pub tree-draws :
+      (r : Drawn) (after : List ℕ)
+      → r ≡ treeAnswer book plan i buffer
+      → after ≡ treeBuffer book plan i buffer
+      → (nodes bytes : ℕ)
+      → r ≡ drawing.Written nodes bytes
+      → Draws plan i buffer after nodes bytes
+  unfolding treeAnswer treeBuffer drawn
+  tree-draws r after er ea nodes bytes e = by (firstFailing (treeTests book plan i buffer)) refl
+    where
+      by : (t : Tested) → firstFailing (treeTests book plan i buffer) ≡ t → Draws plan i buffer after nodes bytes
+      by tested.Passed t =
+          let v = answered-passed (treeTests book plan i buffer) drawing.Refused (drawn plan i) t in
+          let w =
+          answered-passed (treeTests book plan i buffer) (λ refusal. buffer) (written (treeText plan i) buffer) t in
+          let same : drawing.Written (nodeCount plan i) (length (treeText plan i)) ≡ drawing.Written nodes bytes =
+          sym v ∙ sym er ∙ e in
+          let n : nodeCount plan i ≡ nodes = cc in
+          let b : length (treeText plan i) ≡ bytes = cc in
+          rw (sym n, sym b, ea, w) (accepted-draws (tree-accepted t))
+      by (tested.Refused refusal) t =
+          let v = answered-refused (treeTests book plan i buffer) drawing.Refused (drawn plan i) refusal t in
+          let same : drawing.Refused refusal ≡ drawing.Written nodes bytes = sym v ∙ sym er ∙ e in
+          let z : _≡_ {A = ℕ} 0 1 = cc in
+          absurd (omega arith)

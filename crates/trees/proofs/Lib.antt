@@ -1,0 +1,10 @@
+pub mod Nodes
+pub mod Puts
+pub mod LineLaws
+pub mod TextLaws
+pub mod Walked
+pub mod TreeLaws
+pub mod TreeAnswers
+pub mod DemandLaws
+pub mod Children
+pub mod Vectors

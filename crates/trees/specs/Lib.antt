@@ -1,0 +1,5 @@
+pub mod Trees
+pub mod Text
+pub mod Answers
+pub mod Demand
+pub mod Inner

@@ -1,0 +1,22 @@
+// Lineage trees, as text for the documentation.
+//
+// `tree` has no `requires`; what it answers and what it leaves in the buffer are equations with
+// definitions of specs/Answers.antt. The two walks, which are not exported, ask that the level fits its
+// type.
+mod drawing; // Tree
+mod lines; // a tree's text
+mod walking; // a tree's nodes, by the walk of an Apply and the walk of a Choose
+
+use book::Refusal;
+pub use drawing::tree;
+
+// What Tree answers: the nodes, which are the lines written, and the text's length in bytes.
+pub enum Drawn {
+    Written { nodes: u32, length: u32 },
+    Refused(Refusal),
+}
+
+// The refusals' numbers.
+pub const NO_ROW: u32 = 29;
+
+pub const NO_ROOM: u32 = 30;
