@@ -40,6 +40,8 @@ use Rattle.blocked.specs.Answers.{forbidTests, blockedTests, closedAnswer, bloc
 use Rattle.blocked.specs.Answers.{causesOf, culpritsAnswer}
 use Rattle.blocked.specs.declared.Blocking.the-variants as blocking
 use Rattle.blocked.specs.declared.Causes.the-variants as causes
+use Rattle.trees.specs.Answers.{valueTests, roomTests, treeRowTests, treeTests, drawn, treeAnswer}
+use Rattle.trees.specs.declared.Drawn.the-variants as drawing
 
 -- a refusal that fits one byte for its number and one for its place
 pub record Small (x : Refusal) : Type 0 where
@@ -184,7 +186,7 @@ plan-bounded head plan =
     flat-bounded (rowTests head plan) (rowCount plan)
     (λ i l. last-bounded _ _ _ (omega arith) (omega arith) (omega (arith, short .1))))
 
--- The eight calls
+-- The nine calls
 
 -- an answer is a refusal only where a test refuses
 refused-small :
@@ -306,3 +308,18 @@ module _ (book : List ℕ) where
   culprits-small r =
       refused-small (blockedTests book r) causes.Refused (causesOf book r (firstClosed book r)) (λ x y e. cc)
       (no-cause-refused book r (firstClosed book r)) (blocked-bounded r)
+
+  pub tree-small :
+      (plan : List ℕ) (row : ℕ) (buffer : List ℕ) (x : Refusal)
+      → treeAnswer book plan row buffer ≡ drawing.Refused x
+      → Small x
+  unfolding treeAnswer treeTests treeRowTests valueTests roomTests drawn
+  tree-small plan row buffer =
+      refused-small (treeTests book plan row buffer) drawing.Refused (drawn plan row) (λ x y e. cc)
+      (λ x e. let z : _≡_ {A = ℕ} 0 1 = cc in omega arith)
+      (append-bounded (treeRowTests book plan row) (roomTests plan row buffer)
+      (append-bounded (bookTests book ++ planTests (headOf book) plan) (valueTests plan row)
+      (append-bounded (bookTests book) (planTests (headOf book) plan) (book-bounded book)
+      (λ e. plan-bounded (headOf book) plan))
+      (λ e. last-bounded _ _ _ (omega arith) (omega arith) (omega arith)))
+      (λ e. last-bounded _ _ _ (omega arith) (omega arith) (omega arith)))

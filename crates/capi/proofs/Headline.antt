@@ -1,6 +1,6 @@
--- What the numbers of pspec_judge, pspec_idle, pspec_blocked, pspec_culprits and pspec_submit say: the demands, over
--- the packed answer. Assumes nothing.
-use Prim.Native.Nat.{ℕ, _+_, _*_, _/_, _%_, _^_, _≤_, _<_}
+-- What the numbers of pspec_judge, pspec_idle, pspec_blocked, pspec_culprits, pspec_submit and pspec_tree say: the
+-- demands, over the packed answer. Assumes nothing.
+use Prim.Native.Nat.{ℕ, _+_, _-_, _*_, _/_, _%_, _^_, _≤_, _<_}
 use native.Mathlib.Omega.{arith}
 use mathlib.Core.Path.{_≡_, refl, sym, ap, subst, _∙_}
 use mathlib.Core.List.{List}
@@ -47,13 +47,18 @@ use Rattle.blocked.specs.declared.Causes.{Causes}
 use Rattle.blocked.specs.declared.Causes.the-variants as causes
 use Rattle.blocked.proofs.DemandLaws as blocked
 use Rattle.blocked.proofs.FewLaws as few
+use Rattle.trees.specs.Answers.{treeAnswer, treeBuffer}
+use Rattle.trees.specs.Demand.{TreeAccepted, Draws}
+use Rattle.trees.specs.declared.Drawn.{Drawn}
+use Rattle.trees.specs.declared.Drawn.the-variants as drawing
+use Rattle.trees.proofs.DemandLaws.{answer-accepted, answer-draws, answer-refused, tree-unrefused}
 use Rattle.capi.specs.Packing.{packed, refusalPacked, judgePacked, idlePacked, blockedPacked}
-use Rattle.capi.specs.Packing.{culpritsPacked, submitPacked}
-use Rattle.capi.specs.Demands.{JudgeSays, IdleSays, BlockedParts, BlockedSays, CulpritsSays, SubmitSays}
+use Rattle.capi.specs.Packing.{culpritsPacked, submitPacked, treePacked}
+use Rattle.capi.specs.Demands.{JudgeSays, IdleSays, BlockedParts, BlockedSays, CulpritsSays, SubmitSays, TreeSays}
 use Rattle.capi.proofs.Bounds.{Small, judge-small, idle-small, blocked-small, culprits-small, submit-small}
-use Rattle.capi.proofs.Bounds.{no-cause-refused, no-refusal, never-refused}
+use Rattle.capi.proofs.Bounds.{no-cause-refused, no-refusal, never-refused, tree-small}
 use Rattle.capi.proofs.Masks.{asking-bits, asking-fits, asking-some}
-use Rattle.capi.proofs.Unpacking.{Bytes, judge-mask, idle-parts, blocked-bytes}
+use Rattle.capi.proofs.Unpacking.{Bytes, judge-mask, idle-parts, blocked-bytes, tree-parts}
 
 -- a refusal's number is past every value
 refusal-past : (x : Refusal) → Small x → 4294967296 ≤ refusalPacked x
@@ -446,3 +451,51 @@ submit-promised book user plan ledger tally answer counted after e et el = (
       (continues book user plan ledger tally (submitLedger book user plan ledger tally)
       (submitTally book user plan ledger tally) refl refl)),
 )
+
+-- Tree
+
+module _ (book plan : List ℕ) (row : ℕ) (before : List ℕ) where
+  tree-says :
+      (answer : ℕ)
+      → answer ≡ treePacked (treeAnswer book plan row before)
+      → TreeSays book plan row before (treeBuffer book plan row before) answer
+  unfolding treePacked packed
+  tree-says answer same = go (treeAnswer book plan row before) refl
+    where
+      go :
+          (a : Drawn)
+          → treeAnswer book plan row before ≡ a
+          → TreeSays book plan row before (treeBuffer book plan row before) answer
+      go (drawing.Written nodes length) h =
+          let e : answer ≡ 1048576 * (nodes - 1) + length = same ∙ rw h (omega arith) in
+          let parts = tree-parts book plan row before nodes length h in
+          let some = parts .1 in
+          let most = parts .2 in
+          let short = parts .3 in
+          let en : answer / 1048576 + 1 ≡ nodes = omega arith in
+          let el : answer % 1048576 ≡ length = omega arith in
+          record {
+            accepted = λ l. answer-accepted book plan row before nodes length h;
+            accepts = λ g. omega arith;
+            draws = λ l. rw (en, el) (answer-draws book plan row before nodes length h);
+            refused-keeps = λ l. absurd (omega arith);
+          }
+      go (drawing.Refused x) h =
+          let e : answer ≡ refusalPacked x = same ∙ rw h in
+          let past = refusal-past x (tree-small book plan row before x h) in
+          record {
+            accepted = λ l. absurd (omega arith);
+            accepts = λ g. absurd (tree-unrefused book plan row before g x h);
+            draws = λ l. absurd (omega arith);
+            refused-keeps = λ l. answer-refused book plan row before x h;
+          }
+
+-- the whole promise of the call
+pub tree-promised :
+    (book plan : List ℕ) (row : ℕ) (before after : List ℕ) (answer : ℕ)
+    → answer ≡ treePacked (treeAnswer book plan row before)
+    → after ≡ treeBuffer book plan row before
+    → (answer ≡ treePacked (treeAnswer book plan row before))
+    × (after ≡ treeBuffer book plan row before)
+    × TreeSays book plan row before after answer
+tree-promised book plan row before after answer e b = (e, b, rw b (tree-says book plan row before answer e))

@@ -1,6 +1,6 @@
 -- Each call's number is its answer, packed: a refusal by its two bytes (`Bounds`), any other answer by its value.
 -- Assumes nothing.
-use Prim.Native.Nat.{ℕ, _+_, _*_, _%_, _^_, _<_}
+use Prim.Native.Nat.{ℕ, _+_, _-_, _*_, _%_, _^_, _<_}
 use native.Mathlib.Omega.{arith}
 use mathlib.Core.Path.{_≡_, sym, _∙_}
 use mathlib.Core.List.{List}
@@ -31,10 +31,13 @@ use Rattle.blocked.specs.declared.Blocking.the-variants as blocking
 use Rattle.blocked.specs.declared.Causes.{Causes}
 use Rattle.blocked.specs.declared.Causes.the-variants as causes
 use Rattle.blocked.proofs.FewLaws.{culprits-mask}
+use Rattle.trees.specs.Answers.{treeAnswer}
+use Rattle.trees.specs.declared.Drawn.{Drawn}
+use Rattle.trees.specs.declared.Drawn.the-variants as drawing
 use Rattle.capi.specs.Packing.{packed, refusalPacked, checkPacked, sealPacked, flowsPacked, judgePacked}
-use Rattle.capi.specs.Packing.{idlePacked, blockedPacked, culpritsPacked, submitPacked}
+use Rattle.capi.specs.Packing.{idlePacked, blockedPacked, culpritsPacked, submitPacked, treePacked}
 use Rattle.capi.proofs.Bounds.{Small, check-small, seal-small, flows-small, judge-small, idle-small}
-use Rattle.capi.proofs.Bounds.{blocked-small, culprits-small, submit-small}
+use Rattle.capi.proofs.Bounds.{blocked-small, culprits-small, submit-small, tree-small}
 use Rattle.capi.proofs.Masks.{both}
 
 -- below 256 a number is its last byte
@@ -175,3 +178,18 @@ module _
     pub submit-admitted : a ≡ submitted.Admitted → 0 ≡ submitPacked (submitAnswer book user plan ledger tally)
     unfolding submitPacked packed
     submit-admitted e = rw (sym same ∙ e) (omega arith)
+
+module _
+    (book plan : List ℕ) (row : ℕ) (buffer : List ℕ) (a : Drawn) (same : a ≡ treeAnswer book plan row buffer)
+  where
+    pub tree-refused :
+        (x : Refusal) (r : ℕ) → a ≡ drawing.Refused x → Packs r x → r ≡ treePacked (treeAnswer book plan row buffer)
+    unfolding treePacked
+    tree-refused x r e p = let h = sym same ∙ e in rw h (small-packs r x (tree-small book plan row buffer x h) p)
+
+    pub tree-written :
+        (nodes length : ℕ)
+        → a ≡ drawing.Written nodes length
+        → 1048576 * (nodes - 1) + length ≡ treePacked (treeAnswer book plan row buffer)
+    unfolding treePacked packed
+    tree-written nodes length e = rw (sym same ∙ e) (omega arith)

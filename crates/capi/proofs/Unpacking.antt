@@ -1,6 +1,6 @@
 -- A call's number can be taken apart again: the refusal's number, its place and the value are the answer's own, so two
 -- different answers are never one number. Assumes nothing.
-use Prim.Native.Nat.{ℕ, zero, suc, _+_, _*_, _/_, _%_, _^_, _≤_, _<_}
+use Prim.Native.Nat.{ℕ, zero, suc, _+_, _-_, _*_, _/_, _%_, _^_, _≤_, _<_}
 use native.Mathlib.Omega.{arith}
 use mathlib.Core.Path.{_≡_, refl, sym, _∙_}
 use mathlib.Core.Bool.{Bool, true, false, cond, false≢true}
@@ -52,10 +52,13 @@ use Rattle.blocked.specs.declared.Causes.the-variants as causes
 use Rattle.blocked.proofs.DemandLaws.{blocked-told, demand}
 use Rattle.blocked.proofs.ScopeLaws.{covers-user, datum-bounds}
 use Rattle.blocked.proofs.FewLaws.{culprits-mask}
+use Rattle.trees.specs.Answers.{treeAnswer}
+use Rattle.trees.specs.declared.Drawn.the-variants as drawing
+use Rattle.trees.proofs.DemandLaws.{answer-draws}
 use Rattle.capi.specs.Packing.{packed, refusalPacked, checkPacked, sealPacked, flowsPacked, judgePacked}
-use Rattle.capi.specs.Packing.{idlePacked, blockedPacked, culpritsPacked, submitPacked}
+use Rattle.capi.specs.Packing.{idlePacked, blockedPacked, culpritsPacked, submitPacked, treePacked}
 use Rattle.capi.proofs.Bounds.{Small, check-small, seal-small, flows-small, judge-small, idle-small}
-use Rattle.capi.proofs.Bounds.{blocked-small, culprits-small, submit-small}
+use Rattle.capi.proofs.Bounds.{blocked-small, culprits-small, submit-small, tree-small}
 use Rattle.capi.proofs.Masks.{asking-bits, asking-fits, asking-some}
 
 -- what is taken out of r: the bits from 40 on, the 8 bits from 32 on, the low 32 bits
@@ -133,6 +136,13 @@ module _ (x : Refusal) where
   unfolding submitPacked
   submit-refused-parts book user plan ledger tally h =
       rw h (refusal-parts x (submit-small book user plan ledger tally x h))
+
+  pub tree-refused-parts :
+      (book plan : List ℕ) (row : ℕ) (buffer : List ℕ)
+      → treeAnswer book plan row buffer ≡ drawing.Refused x
+      → Refuses (treePacked (treeAnswer book plan row buffer)) x
+  unfolding treePacked
+  tree-refused-parts book plan row buffer h = rw h (refusal-parts x (tree-small book plan row buffer x h))
 
 -- Book check: the number of rules
 
@@ -350,3 +360,20 @@ module _ (book : List ℕ) (user : ℕ) (plan ledger : List ℕ) (tally : Tally)
   submit-parts mask h =
       let m = declined-mask mask h in
       (rw h (packed-parts 0 0 mask (omega arith) (m .1)), m .0)
+
+-- Tree: 1 to 4,096 nodes of at most 136 bytes, which go apart again
+
+module _ (book plan : List ℕ) (row : ℕ) (buffer : List ℕ) (nodes length : ℕ)
+    (h : treeAnswer book plan row buffer ≡ drawing.Written nodes length) where
+  pub tree-parts :
+      Parts (treePacked (treeAnswer book plan row buffer)) 0 0 (1048576 * (nodes - 1) + length)
+      × (1 ≤ nodes)
+      × (nodes ≤ 4096)
+      × (length < 1048576)
+  unfolding treePacked
+  tree-parts =
+      let d = answer-draws book plan row buffer nodes length h in
+      let some = d .some in
+      let most = d .most in
+      let short = d .short in
+      (rw h (packed-parts 0 0 (1048576 * (nodes - 1) + length) (omega arith) (omega arith)), some, most, omega arith)

@@ -1,6 +1,6 @@
--- What the numbers of pspec_judge, pspec_idle, pspec_blocked, pspec_culprits and pspec_submit say, for whoever calls
--- the C library: demands 2 and 3, N1, N6 and N3 over the number itself. A number from 2^32 on is a refusal; below it,
--- it is the value. Assumes nothing.
+-- What the numbers of pspec_judge, pspec_idle, pspec_blocked, pspec_culprits, pspec_submit and pspec_tree say, for
+-- whoever calls the C library: demands 2 and 3, N1, N6, N3 and N7 over the number itself. A number from 2^32 on is a
+-- refusal; below it, it is the value. Assumes nothing.
 use Prim.Native.Nat.{ℕ, _+_, _/_, _%_, _^_, _≤_, _<_}
 use mathlib.Core.Path.{_≡_}
 use mathlib.Core.List.{List}
@@ -21,6 +21,7 @@ use Rattle.blocked.specs.Few.{withAsking}
 use Rattle.blocked.specs.Answers.{blockedAnswer, datumByte}
 use Rattle.blocked.specs.Demand.{BlockedAccepted, InScope, ClosedFirst, NoneClosed}
 use Rattle.blocked.specs.Minimal.{Behind}
+use Rattle.trees.specs.Demand.{TreeAccepted, Draws}
 use Rattle.capi.specs.Packing.{blockedPacked}
 
 -- the least number that is a refusal
@@ -137,3 +138,13 @@ pub record SubmitSays
     pub others-keep : (w : ℕ) → (w / 32 ≡ user → ⊥) → getD after w 0 ≡ getD before w 0
     -- after a list of submissions from fresh, this one is the next of the list, and what is left keeps the promise
     pub continues : Continues book user plan before after tally counted
+
+-- pspec_tree: the number is (nodes - 1) × 2^20 + the text's length
+pub record TreeSays (book : Book) (plan : Plan) (row : ℕ) (before after : List ℕ) (answer : ℕ) : Type 0 where
+  -- nothing is refused exactly when book and plan are accepted, the row is a value row and its tree fits
+  pub accepted : answer < refusals → TreeAccepted book plan row before
+  pub accepts : TreeAccepted book plan row before → answer < refusals
+  -- the nodes and bytes of the text that is written
+  pub draws : answer < refusals → Draws plan row before after (answer / 1048576 + 1) (answer % 1048576)
+  -- otherwise the buffer is as it was
+  pub refused-keeps : refusals ≤ answer → after ≡ before

@@ -1,6 +1,6 @@
 -- Each answer as one number: refusal number × 2^40 + place × 2^32 + value, the refusal 0 where nothing is refused and
 -- the value 0 where something is. Assumes nothing.
-use Prim.Native.Nat.{ℕ, _+_, _*_, _^_}
+use Prim.Native.Nat.{ℕ, _+_, _-_, _*_, _^_}
 use Rattle.book.specs.declared.Refusal.{Refusal}
 use Rattle.book.specs.declared.Checked.{Checked}
 use Rattle.book.specs.declared.Checked.the-variants as checked
@@ -18,6 +18,8 @@ use Rattle.blocked.specs.declared.Blocking.{Blocking}
 use Rattle.blocked.specs.declared.Blocking.the-variants as blocking
 use Rattle.blocked.specs.declared.Causes.{Causes}
 use Rattle.blocked.specs.declared.Causes.the-variants as causes
+use Rattle.trees.specs.declared.Drawn.{Drawn}
+use Rattle.trees.specs.declared.Drawn.the-variants as drawn
 
 unfoldable pub packed : ℕ → ℕ → ℕ → ℕ
 packed number place value = 1099511627776 * number + 4294967296 * place + value
@@ -69,3 +71,8 @@ unfoldable pub submitPacked : Submitted → ℕ
 submitPacked submitted.Admitted = packed 0 0 0
 submitPacked (submitted.Declined mask) = packed 0 0 mask
 submitPacked (submitted.Refused refusal) = refusalPacked refusal
+
+-- Tree: (nodes - 1) × 2^20 + the text's length; a tree has 1 to 4,096 nodes, and its text less than 2^20 bytes
+unfoldable pub treePacked : Drawn → ℕ
+treePacked (drawn.Written nodes length) = packed 0 0 (1048576 * (nodes - 1) + length)
+treePacked (drawn.Refused refusal) = refusalPacked refusal

@@ -1,6 +1,6 @@
-// The eight calls for C and Rust, each answer packed in one number (specs/Packing.antt). What the
-// numbers of Judge, Idle, Blocked, Culprits and Submit mean is specs/Demands.antt. A slice is a pointer
-// and a length in elements, a record a pointer.
+// The nine calls for C and Rust, each answer packed in one number (specs/Packing.antt). What the
+// numbers of Judge, Idle, Blocked, Culprits, Submit and Tree mean is specs/Demands.antt. A slice is a
+// pointer and a length in elements, a record a pointer.
 // No call asks anything of the bytes or the numbers it is given.
 use blocked::Blocking;
 use blocked::Causes;
@@ -18,6 +18,8 @@ use lineage::Flowed;
 use lineage::flows;
 use search::Idleness;
 use search::idle;
+use trees::Drawn;
+use trees::tree;
 use verdicts::Judged;
 use verdicts::judge;
 ghost use mathlib.Core.Path.{_≡_};
@@ -28,9 +30,11 @@ ghost use Rattle.verdicts.specs.Answers.{judgeAnswer};
 ghost use Rattle.ledger.specs.Answers.{submitAnswer, submitLedger, submitTally};
 ghost use Rattle.search.specs.Answers.{idleAnswer, idleBuffer};
 ghost use Rattle.blocked.specs.Answers.{blockedAnswer, culpritsAnswer};
+ghost use Rattle.trees.specs.Answers.{treeAnswer, treeBuffer};
 ghost use Rattle.capi.specs.Demands.{BlockedSays, CulpritsSays, IdleSays, JudgeSays, SubmitSays};
+ghost use Rattle.capi.specs.Demands.{TreeSays};
 ghost use Rattle.capi.specs.Packing.{blockedPacked, checkPacked, culpritsPacked, flowsPacked, idlePacked};
-ghost use Rattle.capi.specs.Packing.{judgePacked, refusalPacked, sealPacked, submitPacked};
+ghost use Rattle.capi.specs.Packing.{judgePacked, refusalPacked, sealPacked, submitPacked, treePacked};
 
 // A refusal's number and place, above the value's 32 bits.
 fn packed(refusal: Refusal) -> u64
@@ -188,4 +192,17 @@ pub extern "C" fn pspec_submit(
     let counted = submit_counted(book, user, plan, ledger, *tally);
     *tally = counted.tally;
     counted.answer
+}
+
+#[no_mangle]
+pub extern "C" fn pspec_tree(book: &[u8], plan: &[u8], row: u32, buffer: &mut [u8]) -> u64
+    ensures { λ r. ⌜ (r ≡ treePacked (treeAnswer (now (book .entry)) (now (plan .entry)) row (now (buffer .entry))))
+        × (now (buffer .exit) ≡ treeBuffer (now (book .entry)) (now (plan .entry)) row (now (buffer .entry)))
+        × TreeSays (now (book .entry)) (now (plan .entry)) row (now (buffer .entry)) (now (buffer .exit)) r ⌝ }
+{
+    let answer = tree(book, plan, row, buffer);
+    match answer {
+        Drawn::Refused(refusal) => packed(refusal),
+        Drawn::Written { nodes, length } => 1048576 * ((nodes as u64) - 1) + length as u64,
+    }
 }

@@ -1,5 +1,5 @@
 -- What Tree's numbers say of the buffer, and when nothing is refused. Assumes nothing.
-use Prim.Native.Nat.{ℕ, _+_, _^_, _≤_, _<_}
+use Prim.Native.Nat.{ℕ, _+_, _/_, _^_, _≤_, _<_}
 use native.Mathlib.Omega.{arith}
 use mathlib.Core.Path.{_≡_, refl, sym, ap, _∙_}
 use mathlib.Core.Bool.{true, _&&_}
@@ -9,23 +9,25 @@ use lib.Seq.{take-append-seam, drop-append-seam}
 use lib.Dec.{ltb, leb}
 use borrow.Author.Tests.{leb-true, le-leb, lt-ltb}
 use Rattle.book.specs.Blocks.{headOf}
-use Rattle.book.specs.Tests.{Passes, firstFailing}
+use Rattle.book.specs.Tests.{Passes, answered, firstFailing, refusedOr}
 use Rattle.book.specs.Refusals.{bookTests}
+use Rattle.book.specs.declared.Refusal.{Refusal}
 use Rattle.book.specs.declared.Tested.{Tested}
 use Rattle.book.specs.declared.Tested.the-variants as tested
 use Rattle.book.proofs.Lists.{and-both}
-use Rattle.book.proofs.Answers.{answered-passed, answered-refused, append-passed, first-append, last-passed}
+use Rattle.book.proofs.Answers.{answered-passed, append-passed, first-append, last-passed}
 use Rattle.book.specs.Inner.Testing.{orElse}
 use Rattle.lineage.specs.Rows.{rowCount, kindAt, isValue}
 use Rattle.lineage.specs.Answers.{planTests}
+use Rattle.lineage.proofs.Accepted.{accepted-plan}
 use Rattle.trees.specs.Trees.{nodeCount}
 use Rattle.trees.specs.Text.{treeText, lineCount}
-use Rattle.trees.specs.Answers.{isValueRow, valueTests, treeFits, roomTests, rowTests, treeTests, drawn, treeAnswer}
+use Rattle.trees.specs.Answers.{isValueRow, valueTests, treeFits, roomTests, treeRowTests, treeTests, drawn, treeAnswer}
 use Rattle.trees.specs.Answers.{written, treeBuffer}
 use Rattle.trees.specs.Demand.{TreeAccepted, Draws}
 use Rattle.trees.specs.declared.Drawn.{Drawn}
 use Rattle.trees.specs.declared.Drawn.the-variants as drawing
-use Rattle.trees.proofs.TreeLaws.{tree-few, tree-lines}
+use Rattle.trees.proofs.TreeLaws.{tree-few, tree-lines, tree-short, tree-some}
 use Rattle.trees.proofs.TreeAnswers.{row-accepted}
 
 module _ (book plan : List ℕ) (i : ℕ) (buffer : List ℕ) where
@@ -33,7 +35,7 @@ module _ (book plan : List ℕ) (i : ℕ) (buffer : List ℕ) where
   pub tree-accepted : Passes (treeTests book plan i buffer) → TreeAccepted book plan i buffer
   unfolding treeTests roomTests treeFits
   tree-accepted h =
-      let parts = append-passed (rowTests book plan i) (roomTests plan i buffer) h in
+      let parts = append-passed (treeRowTests book plan i) (roomTests plan i buffer) h in
       let row = row-accepted book plan i (parts .0) in
       let room =
       and-both (leb (nodeCount plan i) 4096) (leb (length (treeText plan i)) (length buffer))
@@ -47,7 +49,7 @@ module _ (book plan : List ℕ) (i : ℕ) (buffer : List ℕ) where
       }
 
   pub accepted-tree : TreeAccepted book plan i buffer → Passes (treeTests book plan i buffer)
-  unfolding treeTests rowTests valueTests isValueRow roomTests treeFits firstFailing orElse
+  unfolding treeTests treeRowTests valueTests isValueRow roomTests treeFits firstFailing orElse
   accepted-tree a =
       rw (
         first-append (bookTests book ++ planTests (headOf book) plan ++ valueTests plan i) (roomTests plan i buffer),
@@ -60,6 +62,13 @@ module _ (book plan : List ℕ) (i : ℕ) (buffer : List ℕ) where
         le-leb (nodeCount plan i) 4096 (a .few),
         le-leb (length (treeText plan i)) (length buffer) (a .fits),
       )
+
+  -- an accepted plan has at most 64 rows
+  value-low : TreeAccepted book plan i buffer → i < 64
+  value-low a =
+      let l : i < length plan / 4 = a .there in
+      let s = accepted-plan (headOf book) plan (a .both .1) .short in
+      omega arith
 
   -- the buffer with the text at its front
   pub accepted-draws :
@@ -79,9 +88,69 @@ module _ (book plan : List ℕ) (i : ℕ) (buffer : List ℕ) where
         whole = omega arith;
         count = refl;
         lines = ap lineCount front ∙ tree-lines plan i;
+        some = tree-some plan i;
         most = a .few;
         powers = tree-few plan i;
+        short = tree-short plan i (value-low a);
       }
+
+  -- The answer and the buffer, by the outcome of the tests
+
+  by-tests :
+      (P : Drawn → List ℕ → Type 0)
+      → ((x : Refusal) → P (drawing.Refused x) buffer)
+      → (Passes (treeTests book plan i buffer) → P (drawn plan i) (written (treeText plan i) buffer))
+      → P (treeAnswer book plan i buffer) (treeBuffer book plan i buffer)
+  unfolding treeAnswer treeBuffer answered refusedOr
+  by-tests P refused passed = go (firstFailing (treeTests book plan i buffer)) refl
+    where
+      go :
+          (t : Tested)
+          → firstFailing (treeTests book plan i buffer) ≡ t
+          → P (refusedOr t drawing.Refused (drawn plan i))
+          (refusedOr t (λ refusal. buffer) (written (treeText plan i) buffer))
+      go tested.Passed e = passed e
+      go (tested.Refused x) e = refused x
+
+  written-told :
+      (nodes bytes : ℕ)
+      → treeAnswer book plan i buffer ≡ drawing.Written nodes bytes
+      → TreeAccepted book plan i buffer × Draws plan i buffer (treeBuffer book plan i buffer) nodes bytes
+  unfolding drawn
+  written-told nodes bytes =
+      by-tests
+      (λ a b. a ≡ drawing.Written nodes bytes → TreeAccepted book plan i buffer × Draws plan i buffer b nodes bytes)
+      (λ x e. let z : _≡_ {A = ℕ} 0 1 = cc in absurd (omega arith))
+      (λ t e.
+      let n : nodeCount plan i ≡ nodes = cc in
+      let b : length (treeText plan i) ≡ bytes = cc in
+      (tree-accepted t, rw (sym n, sym b) (accepted-draws (tree-accepted t))))
+
+  pub answer-accepted :
+      (nodes bytes : ℕ) → treeAnswer book plan i buffer ≡ drawing.Written nodes bytes → TreeAccepted book plan i buffer
+  answer-accepted nodes bytes e = written-told nodes bytes e .0
+
+  pub answer-draws :
+      (nodes bytes : ℕ)
+      → treeAnswer book plan i buffer ≡ drawing.Written nodes bytes
+      → Draws plan i buffer (treeBuffer book plan i buffer) nodes bytes
+  answer-draws nodes bytes e = written-told nodes bytes e .1
+
+  pub answer-refused :
+      (x : Refusal) → treeAnswer book plan i buffer ≡ drawing.Refused x → treeBuffer book plan i buffer ≡ buffer
+  unfolding drawn
+  answer-refused x =
+      by-tests (λ a b. a ≡ drawing.Refused x → b ≡ buffer) (λ y e. refl)
+      (λ t e. let z : _≡_ {A = ℕ} 0 1 = cc in absurd (omega arith))
+
+  pub tree-unrefused :
+      TreeAccepted book plan i buffer → (x : Refusal) → treeAnswer book plan i buffer ≡ drawing.Refused x → ⊥
+  unfolding treeAnswer drawn
+  tree-unrefused given x h =
+      let e =
+      sym (answered-passed (treeTests book plan i buffer) drawing.Refused (drawn plan i) (accepted-tree given)) ∙ h in
+      let z : _≡_ {A = ℕ} 0 1 = cc in
+      omega arith
 
   -- of the answer itself
   pub tree-draws :
@@ -91,21 +160,4 @@ module _ (book plan : List ℕ) (i : ℕ) (buffer : List ℕ) where
       → (nodes bytes : ℕ)
       → r ≡ drawing.Written nodes bytes
       → Draws plan i buffer after nodes bytes
-  unfolding treeAnswer treeBuffer drawn
-  tree-draws r after er ea nodes bytes e = by (firstFailing (treeTests book plan i buffer)) refl
-    where
-      by : (t : Tested) → firstFailing (treeTests book plan i buffer) ≡ t → Draws plan i buffer after nodes bytes
-      by tested.Passed t =
-          let v = answered-passed (treeTests book plan i buffer) drawing.Refused (drawn plan i) t in
-          let w =
-          answered-passed (treeTests book plan i buffer) (λ refusal. buffer) (written (treeText plan i) buffer) t in
-          let same : drawing.Written (nodeCount plan i) (length (treeText plan i)) ≡ drawing.Written nodes bytes =
-          sym v ∙ sym er ∙ e in
-          let n : nodeCount plan i ≡ nodes = cc in
-          let b : length (treeText plan i) ≡ bytes = cc in
-          rw (sym n, sym b, ea, w) (accepted-draws (tree-accepted t))
-      by (tested.Refused refusal) t =
-          let v = answered-refused (treeTests book plan i buffer) drawing.Refused (drawn plan i) refusal t in
-          let same : drawing.Refused refusal ≡ drawing.Written nodes bytes = sym v ∙ sym er ∙ e in
-          let z : _≡_ {A = ℕ} 0 1 = cc in
-          absurd (omega arith)
+  tree-draws r after er ea nodes bytes e = rw ea (answer-draws nodes bytes (sym er ∙ e))

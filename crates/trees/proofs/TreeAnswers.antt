@@ -24,7 +24,7 @@ use Rattle.lineage.specs.Answers.{BothAccepted, planTests}
 use Rattle.lineage.proofs.Accepted.{accepted-plan}
 use Rattle.trees.specs.Trees.{treeNodes, nodeCount}
 use Rattle.trees.specs.Text.{textOf, treeText, lineCount}
-use Rattle.trees.specs.Answers.{isValueRow, valueTests, treeFits, roomTests, rowTests, treeTests, drawn, treeAnswer}
+use Rattle.trees.specs.Answers.{isValueRow, valueTests, treeFits, roomTests, treeRowTests, treeTests, drawn, treeAnswer}
 use Rattle.trees.specs.Answers.{written, treeBuffer}
 use Rattle.trees.specs.Demand.{TreeAccepted, Draws}
 use Rattle.trees.specs.Inner.Walks.{code, codes, decoded}
@@ -32,7 +32,6 @@ use Rattle.trees.specs.Inner.Writing.{Put}
 use Rattle.trees.specs.declared.Drawn.{Drawn}
 use Rattle.trees.specs.declared.Drawn.the-variants as drawing
 use Rattle.trees.proofs.Puts.{put-fits, put-over}
-use Rattle.trees.proofs.TextLaws.{text-short}
 use Rattle.trees.proofs.TreeLaws.{tree-few, tree-lines, tree-deep, codes-back}
 
 -- 29
@@ -104,11 +103,6 @@ module _ (plan : List ℕ) (i : ℕ) where
   unfolding treeText
   listed-text nodes low e =
       ap (λ ns. textOf plan (map decoded ns)) e ∙ ap (textOf plan) (codes-back (treeNodes plan i) (tree-deep plan i low))
-
-  -- a tree of a plan of 64 rows has at most 136 bytes a node
-  pub tree-short : i < 64 → length (treeText plan i) ≤ 136 * nodeCount plan i
-  unfolding treeText nodeCount
-  tree-short low = text-short plan (treeNodes plan i) (tree-deep plan i low)
 
 pub first-short : (n : ℕ) (list r : List ℕ) → r ≡ take n list → n ≤ 4096 → length r ≤ 4096
 first-short n list r e h = rw (e, length-take) (omega arith)
@@ -199,15 +193,15 @@ module _ (book plan : List ℕ) (i : ℕ) where
       → both ≡ orElse x y
       → z ≡ firstFailing (valueTests plan i)
       → r ≡ orElse both z
-      → r ≡ firstFailing (rowTests book plan i)
-  unfolding rowTests
+      → r ≡ firstFailing (treeRowTests book plan i)
+  unfolding treeRowTests
   row-joined head x y both z r eh ex ey eb ez er =
       joined (bookTests book ++ planTests (headOf book) plan) (valueTests plan i) both z r
       (joined (bookTests book) (planTests (headOf book) plan) x y both ex (rw eh at ey) eb) ez er
 
   pub row-accepted :
-      Passes (rowTests book plan i) → BothAccepted book plan × (i < rowCount plan) × (isValue (kindAt plan i) ≡ true)
-  unfolding rowTests valueTests isValueRow
+      Passes (treeRowTests book plan i) → BothAccepted book plan × (i < rowCount plan) × (isValue (kindAt plan i) ≡ true)
+  unfolding treeRowTests valueTests isValueRow
   row-accepted h =
       let last = append-passed (bookTests book ++ planTests (headOf book) plan) (valueTests plan i) h in
       let both =
@@ -218,7 +212,7 @@ module _ (book plan : List ℕ) (i : ℕ) where
       )
 
   -- an accepted plan has at most 64 rows
-  pub row-low : Passes (rowTests book plan i) → i < 64
+  pub row-low : Passes (treeRowTests book plan i) → i < 64
   row-low h =
       let a = row-accepted h in
       let l : i < length plan / 4 = a .1 in
@@ -228,25 +222,25 @@ module _ (book plan : List ℕ) (i : ℕ) where
 module _ (book plan : List ℕ) (i : ℕ) (buffer : List ℕ) where
   pub tree-refused :
       (r : Refusal)
-      → firstFailing (rowTests book plan i) ≡ tested.Refused r
+      → firstFailing (treeRowTests book plan i) ≡ tested.Refused r
       → (drawing.Refused r ≡ treeAnswer book plan i buffer) × (buffer ≡ treeBuffer book plan i buffer)
   unfolding treeAnswer treeBuffer treeTests
   tree-refused r h =
-      let e = append-refused (rowTests book plan i) (roomTests plan i buffer) r h in (
+      let e = append-refused (treeRowTests book plan i) (roomTests plan i buffer) r h in (
         sym (answered-refused (treeTests book plan i buffer) drawing.Refused (drawn plan i) r e),
         sym (answered-refused (treeTests book plan i buffer) (λ refusal. buffer) (written (treeText plan i) buffer) r e),
       )
 
   pub tree-answered :
-      Passes (rowTests book plan i)
+      Passes (treeRowTests book plan i)
       → (answer : Drawn) (after : List ℕ)
       → Answered plan i buffer answer after
       → (answer ≡ treeAnswer book plan i buffer) × (after ≡ treeBuffer book plan i buffer)
   unfolding treeAnswer treeBuffer treeTests
   tree-answered h answer after a = (
-    a .0 ∙ sym (answered-after (rowTests book plan i) (roomTests plan i buffer) drawing.Refused (drawn plan i) h),
+    a .0 ∙ sym (answered-after (treeRowTests book plan i) (roomTests plan i buffer) drawing.Refused (drawn plan i) h),
     a .1
         ∙ sym
-        (answered-after (rowTests book plan i) (roomTests plan i buffer) (λ refusal. buffer)
+        (answered-after (treeRowTests book plan i) (roomTests plan i buffer) (λ refusal. buffer)
         (written (treeText plan i) buffer) h),
   )

@@ -19,7 +19,7 @@ use Rattle.trees.specs.Text.{treeText, lineCount}
 use Rattle.trees.specs.Demand.{Trees}
 use Rattle.trees.specs.Inner.Walks.{code, codes, decoded}
 use Rattle.trees.proofs.Nodes.{below, nodes-named, nodes-step}
-use Rattle.trees.proofs.TextLaws.{feeds-text}
+use Rattle.trees.proofs.TextLaws.{feeds-text, text-short}
 
 -- How many nodes
 
@@ -79,13 +79,15 @@ module _ (plan : List ℕ) where
       let p = few (suc i) 0 i (omega arith) in
       rw (add-one i) (omega arith)
 
+  -- a row is a node of its own tree
+  pub tree-some : (i : ℕ) → 1 ≤ nodeCount plan i
+  unfolding nodeCount treeNodes
+  tree-some i = rw (nodes-step plan 0 i) (omega arith)
+
   -- the node count "equals the lines written"
   pub tree-lines : (i : ℕ) → lineCount (treeText plan i) ≡ nodeCount plan i
   unfolding treeText nodeCount
   tree-lines i = feeds-text plan (treeNodes plan i)
-
-  pub every-tree : Trees plan
-  every-tree = record { tree = nodes-step plan; powers = tree-few; lines = tree-lines }
 
 -- How deep
 
@@ -127,6 +129,16 @@ module _ (plan : List ℕ) (most : ℕ) where
 pub tree-deep : (plan : List ℕ) (i : ℕ) → i < 64 → all (λ n. leb (n .level + n .row) 63) (treeNodes plan i) ≡ true
 unfolding treeNodes nodesFrom
 tree-deep plan i h = deep plan 63 (suc i) 0 i (omega arith)
+
+module _ (plan : List ℕ) where
+  -- a tree of a plan of 64 rows has at most 136 bytes a node
+  pub tree-short : (i : ℕ) → i < 64 → length (treeText plan i) ≤ 136 * nodeCount plan i
+  unfolding treeText nodeCount
+  tree-short i low = text-short plan (treeNodes plan i) (tree-deep plan i low)
+
+  pub every-tree : Trees plan
+  every-tree =
+      record { tree = nodes-step plan; powers = tree-few plan; lines = tree-lines plan; short = tree-short }
 
 -- a node as a number, and back
 code-back : (n : Node) → n .level + n .row ≤ 63 → decoded (code n) ≡ n

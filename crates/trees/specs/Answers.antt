@@ -37,12 +37,12 @@ unfoldable pub roomTests : Plan → (row : ℕ) → (buffer : List ℕ) → List
 roomTests plan i buffer = (noRoom, 0, treeFits plan i (length buffer)) ∷ []
 
 -- "Flows' refusals 1 to 22, then 29"
-unfoldable pub rowTests : Book → Plan → (row : ℕ) → List Test
-rowTests book plan i = bookTests book ++ planTests (headOf book) plan ++ valueTests plan i
+unfoldable pub treeRowTests : Book → Plan → (row : ℕ) → List Test
+treeRowTests book plan i = bookTests book ++ planTests (headOf book) plan ++ valueTests plan i
 
 -- "then 30"
 unfoldable pub treeTests : Book → Plan → (row : ℕ) → (buffer : List ℕ) → List Test
-treeTests book plan i buffer = rowTests book plan i ++ roomTests plan i buffer
+treeTests book plan i buffer = treeRowTests book plan i ++ roomTests plan i buffer
 
 -- "The node count is [..] returned with the text's length"
 unfoldable pub drawn : Plan → (row : ℕ) → Drawn

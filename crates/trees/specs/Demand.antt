@@ -1,6 +1,6 @@
 -- N7, over what is in the buffer: what Tree's numbers say of it; and what the tree of every accepted plan is. Document
 -- 02, N7. Assumes nothing.
-use Prim.Native.Nat.{ℕ, _+_, _^_, _≤_, _<_}
+use Prim.Native.Nat.{ℕ, _+_, _*_, _^_, _≤_, _<_}
 use mathlib.Core.Path.{_≡_}
 use mathlib.Core.Bool.{true}
 use mathlib.Core.List.{List, [], _∷_}
@@ -31,10 +31,13 @@ pub record Draws (plan : Plan) (i : ℕ) (before after : List ℕ) (nodes bytes 
   -- "The node count [..] equals the lines written"
   pub count : nodes ≡ nodeCount plan i
   pub lines : lineCount (take bytes after) ≡ nodes
-  -- "given up once above 4,096"
+  -- a row is a node of its own tree; "given up once above 4,096"
+  pub some : 1 ≤ nodes
   pub most : nodes ≤ 4096
   -- "The tree of row i has at most 3 to the power (i + 1) nodes."
   pub powers : nodes ≤ 3 ^ (i + 1)
+  -- at most 63 levels below the top: 126 spaces, two digits, a space, six letters and the line feed
+  pub short : bytes ≤ 136 * nodes
 
 -- the children of a row of an accepted plan, by its kind
 pub record Children (plan : Plan) (i : ℕ) : Type 0 where
@@ -53,6 +56,8 @@ pub record Trees (plan : Plan) : Type 0 where
       ≡ record { level = level; row = i } ∷ flat (nodesFrom plan (level + 1)) (children plan i)
   pub powers : (i : ℕ) → nodeCount plan i ≤ 3 ^ (i + 1)
   pub lines : (i : ℕ) → lineCount (treeText plan i) ≡ nodeCount plan i
+  -- so a buffer of 4,096 × 136 bytes has room for every tree of at most 4,096 nodes
+  pub short : (i : ℕ) → i < 64 → length (treeText plan i) ≤ 136 * nodeCount plan i
 
 -- of an accepted book and plan
 abbrev pub EveryChild : Book → Plan → Type 0

@@ -25,7 +25,7 @@ ghost use Rattle.book.specs.Tests.{answered, firstFailing};
 ghost use Rattle.book.specs.Inner.Words.{HeadWords};
 ghost use Rattle.lineage.specs.Rows.{isValue, kindAt};
 ghost use Rattle.trees.specs.Text.{treeText};
-ghost use Rattle.trees.specs.Answers.{drawn, roomTests, rowTests, treeAnswer, treeBuffer, valueTests, written};
+ghost use Rattle.trees.specs.Answers.{drawn, roomTests, treeRowTests, treeAnswer, treeBuffer, valueTests, written};
 ghost use Rattle.trees.specs.Demand.{Draws};
 
 fn no_room() -> Drawn
@@ -77,7 +77,7 @@ fn test_value(plan: &[u8], row: u32) -> Tested
 // The tests of the book, of the plan, of the row.
 fn test_row(book: &[u8], t: &[u64], plan: &[u8], row: u32) -> Tested
     ensures { λ r. ⌜ (HeadWords (headOf (now (book .entry))) (now (t .entry))
-        → r ≡ firstFailing (rowTests (now (book .entry)) (now (plan .entry)) row)) ⌝ }
+        → r ≡ firstFailing (treeRowTests (now (book .entry)) (now (plan .entry)) row)) ⌝ }
 {
     let both = or_else(test_book(book, t), test_plan(head_of(book), plan));
     or_else(both, test_value(plan, row))
