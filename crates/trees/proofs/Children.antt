@@ -23,7 +23,10 @@ module _ (head plan : List ℕ) (i : ℕ) (low : i < 64) (holds : rowHolds head 
   unfolding names
   no-second e = rw (e, le-ltb 255 i (omega arith))
 
-  second : (rowC plan i ≡ 255 → ⊥) → (eqb (rowC plan i) 255 || names plan i (rowC plan i)) ≡ true → names plan i (rowC plan i) ≡ true
+  second :
+      (rowC plan i ≡ 255 → ⊥)
+      → (eqb (rowC plan i) 255 || names plan i (rowC plan i)) ≡ true
+      → names plan i (rowC plan i) ≡ true
   second n h = rw (ne-eqb (rowC plan i) 255 n) at h
 
   choose-named :

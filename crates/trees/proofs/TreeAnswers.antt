@@ -45,7 +45,9 @@ pub value-joined :
     → r ≡ firstFailing (valueTests plan i)
 unfolding valueTests isValueRow kindAt
 value-joined plan i n there value r en et ev er =
-    er ∙ ap (λ b. firstFailing ((29, 0, b) ∷ [])) (ap (λ b. there && b) (ev ∙ ap (λ k. isValue (kindOf k)) en) ∙ ap (λ b. b && isValue (kindOf (kindByte plan i))) et)
+    er
+    ∙ ap (λ b. firstFailing ((29, 0, b && value) ∷ [])) et
+    ∙ ap (λ b. firstFailing ((29, 0, ltb i (rowCount plan) && b) ∷ [])) (ev ∙ ap (λ k. isValue (kindOf k)) en)
 
 -- The nodes listed in 4,097 places
 

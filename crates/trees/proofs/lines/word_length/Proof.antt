@@ -21,7 +21,10 @@ unfolding kindWord kindOf
 returns-3 c = (rw (word-as _ _ (c .before .kind .result) (c .before .kind .ensures .0), c .match .keys3), search needs)
 
 returns-4 : tie.Need-returns-4
-returns-4 c = (rw (word-as _ _ (c .before .kind .result) (c .before .kind .ensures .0), word-none (c .before .kind .result) (c .match .rest .0 .0 .1) (c .match .rest .0 .1) (c .match .rest .1)), search needs)
+returns-4 c =
+    let k = c .before .kind in
+    let none = c .match .rest in
+    (rw (word-as _ _ (k .result) (k .ensures .0), word-none (k .result) (none .0 .0 .1) (none .0 .1) (none .1)), search needs)
 
 pub word-length-spec : {M : Type 1} → statement M
 word-length-spec = tie.close (tie.spec (λ c κs. search needs) returns returns-2 returns-3 returns-4)

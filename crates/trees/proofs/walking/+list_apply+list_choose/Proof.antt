@@ -87,28 +87,39 @@ pub +list-apply+list-choose-spec : {M : Type 1} → statement M
     (λ c κs. search needs)
     (λ c κs. search needs)
     (λ c.
-    let one = c .before .before .before .before .before .before .before .before .before .before .before .before in
+    let listed = c .before .before .before .before .before .before in
+    let one = listed .before .before .before .before .before .before in
     let start = one .before .before .before in
     let more = level-more _ _ (start .pre .1) (one .if1 .left) in
     omega arith)
     (λ c κs.
     let named = c .before .before .before in
-    let one = named .before .before .before .before .before .before .before .before .before .before in
+    let listed = named .before .before .before .before in
+    let one = listed .before .before .before .before .before .before in
     let start = one .before .before .before in
     called _ _ _ (one .if1 .left) _ (start .pre) (named .lower .ensures .1))
     (λ c κs.
-    let named = c .before .before .before .before .before .before .before in
-    let one = named .before .before .before .before .before .before .before .before .before .before in
+    let b-apply = c .before .before .before in
+    let named = b-apply .before .before .before .before in
+    let listed = named .before .before .before .before in
+    let one = listed .before .before .before .before .before .before in
     let start = one .before .before .before in
     called _ _ _ (one .if1 .left) _ (start .pre) (named .lower .ensures .1))
     (λ c κs.
-    let named = c .before .before .before .before .before .before .before .before .before in
-    let one = named .before .before .before .before .before .before .before .before .before .before .before .before in
+    let b-choose = c .before .before .before in
+    let b-apply = b-choose .before .before .before .before in
+    let named = b-apply .before .before in
+    let listed = named .before .before .before .before .before .before in
+    let one = listed .before .before .before .before .before .before in
     let start = one .before .before .before in
     called _ _ _ (one .if1 .left) _ (start .pre) (named .lower2 .ensures .1))
     (λ c κs.
-    let named = c .before .before .before .before .before .before .before .before .before .before .before .before .before in
-    let one = named .before .before .before .before .before .before .before .before .before .before .before .before in
+    let c-apply = c .before .before .before in
+    let b-choose = c-apply .before .before .before .before in
+    let b-apply = b-choose .before .before .before .before in
+    let named = b-apply .before .before in
+    let listed = named .before .before .before .before .before .before in
+    let one = listed .before .before .before .before .before .before in
     let start = one .before .before .before in
     called _ _ _ (one .if1 .left) _ (start .pre) (named .lower2 .ensures .1))
     (λ c.
@@ -173,38 +184,60 @@ pub +list-apply+list-choose-spec : {M : Type 1} → statement M
     (λ c κs. search needs)
     (λ c κs. search needs)
     (λ c.
-    let one = c .before .before .before .before .before .before .before .before .before .before .before .before .before in
+    let listed = c .before .before .before .before .before .before .before .before in
+    let one = listed .before .before .before .before .before in
     let start = one .before .before .before in
     let more = level-more _ _ (start .pre .1) (one .if1 .left) in
     omega arith)
     (λ c κs.
     let named = c .before .before .before .before .before in
-    let one = named .before .before .before .before .before .before .before .before .before in
+    let listed = named .before .before .before .before in
+    let one = listed .before .before .before .before .before in
     let start = one .before .before .before in
     called _ _ _ (one .if1 .left) _ (start .pre) (named .lower .ensures .1))
     (λ c κs.
-    let named = c .before .before .before .before .before .before .before .before .before in
-    let one = named .before .before .before .before .before .before .before .before .before in
+    let a-apply = c .before .before .before in
+    let named = a-apply .before .before .before .before .before .before in
+    let listed = named .before .before .before .before in
+    let one = listed .before .before .before .before .before in
     let start = one .before .before .before in
     called _ _ _ (one .if1 .left) _ (start .pre) (named .lower .ensures .1))
     (λ c κs.
-    let named = c .before .before .before .before .before .before .before .before .before .before .before in
-    let one = named .before .before .before .before .before .before .before .before .before .before .before in
+    let a-choose = c .before .before .before in
+    let a-apply = a-choose .before .before .before .before in
+    let named = a-apply .before .before .before .before in
+    let listed = named .before .before .before .before .before .before in
+    let one = listed .before .before .before .before .before in
     let start = one .before .before .before in
     called _ _ _ (one .if1 .left) _ (start .pre) (named .lower2 .ensures .1))
     (λ c κs.
-    let named = c .before .before .before .before .before .before .before .before .before .before .before .before .before .before .before in
-    let one = named .before .before .before .before .before .before .before .before .before .before .before in
+    let b-apply = c .before .before .before in
+    let a-choose = b-apply .before .before .before .before in
+    let a-apply = a-choose .before .before .before .before in
+    let named = a-apply .before .before .before .before in
+    let listed = named .before .before .before .before .before .before in
+    let one = listed .before .before .before .before .before in
     let start = one .before .before .before in
     called _ _ _ (one .if1 .left) _ (start .pre) (named .lower2 .ensures .1))
     (λ c κs.
-    let named = c .before .before .before .before .before .before .before .before .before .before .before .before .before .before .before .before .before in
-    let one = named .before .before .before .before .before .before .before .before .before .before .before .before .before in
+    let b-choose = c .before .before .before in
+    let b-apply = b-choose .before .before .before .before in
+    let a-choose = b-apply .before .before .before .before in
+    let a-apply = a-choose .before .before .before .before in
+    let named = a-apply .before .before in
+    let listed = named .before .before .before .before .before .before .before .before in
+    let one = listed .before .before .before .before .before in
     let start = one .before .before .before in
     called _ _ _ (one .if1 .left) _ (start .pre) (named .lower3 .ensures .1))
     (λ c κs.
-    let named = c .before .before .before .before .before .before .before .before .before .before .before .before .before .before .before .before .before .before .before .before .before in
-    let one = named .before .before .before .before .before .before .before .before .before .before .before .before .before in
+    let c-apply = c .before .before .before in
+    let b-choose = c-apply .before .before .before .before in
+    let b-apply = b-choose .before .before .before .before in
+    let a-choose = b-apply .before .before .before .before in
+    let a-apply = a-choose .before .before .before .before in
+    let named = a-apply .before .before in
+    let listed = named .before .before .before .before .before .before .before .before in
+    let one = listed .before .before .before .before .before in
     let start = one .before .before .before in
     called _ _ _ (one .if1 .left) _ (start .pre) (named .lower3 .ensures .1))
     (λ c.
