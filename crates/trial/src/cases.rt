@@ -9,6 +9,7 @@ use crate::blocking;
 use crate::books::build;
 use crate::causing;
 use crate::checking;
+use crate::drawing;
 use crate::flowing;
 use crate::idling;
 use crate::judging;
@@ -36,6 +37,7 @@ pub enum Call {
     Blocked,
     Culprits,
     Submit,
+    Tree,
     Readers,
 }
 
@@ -57,6 +59,7 @@ fn may_ask(call: Call, asked: Numbers) -> bool {
         Call::Blocked => asked.within(1, 2),
         Call::Culprits => asked.within(1, 2),
         Call::Submit => asked.within(1, 4),
+        Call::Tree => asked.within(1, 4),
         Call::Readers => asked.within(1, 4),
     }
 }
@@ -70,6 +73,7 @@ fn answered(call: Call, asked: Numbers, book: &[u8], plan: &[u8], records: &mut 
         Call::Blocked => blocking::answered(asked, book),
         Call::Culprits => causing::answered(asked, book),
         Call::Submit => submitting::answered(asked, book, plan, records),
+        Call::Tree => drawing::answered(asked, book, plan),
         _ => reading::answered(asked, book),
     }
 }
@@ -100,7 +104,7 @@ fn tried(call: Call, common: &[u8], parts: &[u8], records: &mut [u64]) -> Answer
     }
     match call {
         Call::Seal => sealing::answered(asked, texts),
-        Call::Flows | Call::Judge | Call::Submit => built(
+        Call::Flows | Call::Judge | Call::Submit | Call::Tree => built(
             call,
             asked,
             before(texts, b'|'),

@@ -8,6 +8,7 @@ mod books; // building books to try
 mod cases; // a file's lines
 mod causing; // Culprits
 mod checking; // Book check
+mod drawing; // Tree
 mod flowing; // Flows
 mod idling; // Idle
 mod judging; // Judge
@@ -33,5 +34,6 @@ fn main() {
     try_file(Call::Blocked, b"blocked.cases");
     try_file(Call::Culprits, b"culprits.cases");
     try_file(Call::Submit, b"submit.cases");
+    try_file(Call::Tree, b"tree.cases");
     try_file(Call::Readers, b"readers.cases");
 }
