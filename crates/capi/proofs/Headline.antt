@@ -48,7 +48,6 @@ use Rattle.blocked.specs.declared.Causes.the-variants as causes
 use Rattle.blocked.proofs.DemandLaws as blocked
 use Rattle.blocked.proofs.FewLaws as few
 use Rattle.trees.specs.Answers.{treeAnswer, treeBuffer}
-use Rattle.trees.specs.Demand.{TreeAccepted, Draws}
 use Rattle.trees.specs.declared.Drawn.{Drawn}
 use Rattle.trees.specs.declared.Drawn.the-variants as drawing
 use Rattle.trees.proofs.DemandLaws.{answer-accepted, answer-draws, answer-refused, tree-unrefused}

@@ -5,13 +5,12 @@ use mathlib.Core.Path.{_≡_, refl, ap, _∙_}
 use mathlib.Core.Bool.{Bool, true, false, _&&_, _||_}
 use mathlib.Core.List.{List, [], _∷_}
 use lib.ListN.{length}
-use lib.Dec.{eqb, ltb}
+use lib.Dec.{eqb}
 use borrow.Author.Tests.{le-ltb, ne-eqb}
 use Rattle.book.specs.Lists.{keep}
 use Rattle.book.specs.Blocks.{headOf}
 use Rattle.book.proofs.Lists.{and-both}
-use Rattle.lineage.specs.Rows.{Column, Apply, Choose, rowCount, kindAt, isValue, names, soundAs, rowA, rowB, rowC, rowHolds}
-use Rattle.lineage.specs.Answers.{BothAccepted}
+use Rattle.lineage.specs.Rows.{Choose, kindAt, names, soundAs, rowA, rowB, rowC, rowHolds}
 use Rattle.lineage.proofs.Accepted.{accepted-plan, apply-holds}
 use Rattle.trees.specs.Trees.{rowBytes, children}
 use Rattle.trees.specs.Demand.{Children, EveryChild}

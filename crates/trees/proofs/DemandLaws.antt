@@ -1,12 +1,11 @@
 -- What Tree's numbers say of the buffer, and when nothing is refused. Assumes nothing.
-use Prim.Native.Nat.{ℕ, _+_, _/_, _^_, _≤_, _<_}
+use Prim.Native.Nat.{ℕ, _+_, _/_, _<_}
 use native.Mathlib.Omega.{arith}
 use mathlib.Core.Path.{_≡_, refl, sym, ap, _∙_}
-use mathlib.Core.Bool.{true, _&&_}
 use mathlib.Core.List.{List, _++_}
-use lib.ListN.{length, take, drop, length-append, length-drop}
+use lib.ListN.{length, drop, length-append, length-drop}
 use lib.Seq.{take-append-seam, drop-append-seam}
-use lib.Dec.{ltb, leb}
+use lib.Dec.{leb}
 use borrow.Author.Tests.{leb-true, le-leb, lt-ltb}
 use Rattle.book.specs.Blocks.{headOf}
 use Rattle.book.specs.Tests.{Passes, answered, firstFailing, refusedOr}
@@ -17,7 +16,7 @@ use Rattle.book.specs.declared.Tested.the-variants as tested
 use Rattle.book.proofs.Lists.{and-both}
 use Rattle.book.proofs.Answers.{answered-passed, append-passed, first-append, last-passed}
 use Rattle.book.specs.Inner.Testing.{orElse}
-use Rattle.lineage.specs.Rows.{rowCount, kindAt, isValue}
+use Rattle.lineage.specs.Rows.{rowCount}
 use Rattle.lineage.specs.Answers.{planTests}
 use Rattle.lineage.proofs.Accepted.{accepted-plan}
 use Rattle.trees.specs.Trees.{nodeCount}

@@ -1,14 +1,14 @@
 -- Laws of a text of several lines: one line more, as many line feeds as nodes, at most 136 bytes a node. Assumes
 -- nothing.
-use Prim.Native.Nat.{ℕ, zero, suc, _+_, _*_, _≤_, _<_}
+use Prim.Native.Nat.{ℕ, _+_, _*_, _≤_, _<_}
 use native.Mathlib.Numerals.{add-one}
 use native.Mathlib.Omega.{arith}
 use mathlib.Core.Path.{_≡_, refl, sym, ap, _∙_}
-use mathlib.Core.Bool.{true}
+use mathlib.Core.Bool.{Bool, true, false, cond}
 use mathlib.Core.List.{List, [], _∷_, _++_, append-assoc, append-nil, map}
 use lib.ListN.{length, length-append, getD, take}
 use lib.Seq.{take-all, take-suc}
-use lib.Dec.{leb}
+use lib.Dec.{leb, ltb}
 use borrow.Author.Tests.{leb-true}
 use Rattle.book.specs.Lists.{all, flat}
 use Rattle.book.proofs.Lists.{and-both}
@@ -109,3 +109,16 @@ module _ (plan : List ℕ) where
       let f = text-short ns (b .1) in
       let g = length-append (lineText plan n) (textOf plan ns) in
       rw (text-cons n ns) (omega arith)
+
+-- where there are at most 4,096 nodes, all of them are counted
+pub most-lines :
+    (n count k : ℕ) → count ≡ cond (ltb n 4096) n 4096 → n ≤ 4096 → count ≤ k → n ≤ k
+most-lines n count k e few h = by (ltb n 4096) refl
+  where
+    by : (b : Bool) → ltb n 4096 ≡ b → n ≤ k
+    by true t =
+        let f : count ≡ n = e ∙ rw t in
+        omega arith
+    by false t =
+        let f : count ≡ 4096 = e ∙ rw t in
+        omega arith

@@ -1,12 +1,12 @@
 -- Tree's answer and the buffer on leaving, from the list of nodes, their text and the outcome of the tests. Assumes
 -- nothing.
-use Prim.Native.Nat.{ℕ, _+_, _*_, _^_, _≤_, _<_, _/_}
+use Prim.Native.Nat.{ℕ, _+_, _≤_, _<_, _/_}
 use native.Mathlib.Omega.{arith}
 use mathlib.Core.Path.{_≡_, refl, sym, ap, _∙_}
 use mathlib.Core.Bool.{Bool, true, false, _&&_}
 use mathlib.Core.List.{List, [], _∷_, _++_, map}
 use lib.ListN.{length, take, drop, length-map, length-take}
-use lib.Seq.{take-append-seam, drop-append-seam}
+use lib.Seq.{take-append-seam}
 use lib.Dec.{ltb, leb}
 use borrow.Author.Tests.{ltb-true, le-leb, lt-leb, leb-true, leb-false}
 use Rattle.book.specs.Blocks.{headOf}
@@ -23,16 +23,15 @@ use Rattle.lineage.specs.Rows.{rowCount, kindByte, kindOf, kindAt, isValue}
 use Rattle.lineage.specs.Answers.{BothAccepted, planTests}
 use Rattle.lineage.proofs.Accepted.{accepted-plan}
 use Rattle.trees.specs.Trees.{treeNodes, nodeCount}
-use Rattle.trees.specs.Text.{textOf, treeText, lineCount}
+use Rattle.trees.specs.Text.{textOf, treeText}
 use Rattle.trees.specs.Answers.{isValueRow, valueTests, treeFits, roomTests, treeRowTests, treeTests, drawn, treeAnswer}
 use Rattle.trees.specs.Answers.{written, treeBuffer}
-use Rattle.trees.specs.Demand.{TreeAccepted, Draws}
 use Rattle.trees.specs.Inner.Walks.{code, codes, decoded}
 use Rattle.trees.specs.Inner.Writing.{Put}
 use Rattle.trees.specs.declared.Drawn.{Drawn}
 use Rattle.trees.specs.declared.Drawn.the-variants as drawing
 use Rattle.trees.proofs.Puts.{put-fits, put-over}
-use Rattle.trees.proofs.TreeLaws.{tree-few, tree-lines, tree-deep, codes-back}
+use Rattle.trees.proofs.TreeLaws.{tree-deep, codes-back}
 
 -- 29
 

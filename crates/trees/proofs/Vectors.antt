@@ -3,16 +3,16 @@
 use Prim.Native.Nat.{ℕ, zero, suc, _+_}
 use mathlib.Core.Path.{_≡_, refl}
 use mathlib.Core.List.{List, [], _∷_, _++_, map}
-use lib.ListN.{length, replicate}
+use lib.ListN.{replicate}
 use Rattle.book.specs.Lists.{flat, keep}
 use Rattle.book.specs.Tests.{firstFailing}
 use Rattle.book.specs.declared.Tested.{Tested}
 use Rattle.book.specs.declared.Tested.the-variants.{Passed, Refused}
 use Rattle.lineage.specs.Rows.{kindOf, kindAt, isValue, names}
 use Rattle.lineage.proofs.Vectors.{plan, column, apply, applyBoth, choose, output, condition}
-use Rattle.lineage.proofs.Vectors.{state, city, price, avg, sum, concat, concatBoth}
+use Rattle.lineage.proofs.Vectors.{state, city, price, avg, sum, concatBoth}
 use Rattle.trees.specs.Trees.{Node, rowBytes, children, nodesIn, nodesFrom, treeNodes, nodeCount}
-use Rattle.trees.specs.Text.{decimal, kindWord, rowText, lineText, textOf, treeText, lineCount}
+use Rattle.trees.specs.Text.{decimal, kindWord, rowText, lineText, textOf, treeText}
 use Rattle.trees.specs.Answers.{isValueRow, valueTests, treeFits, roomTests, written}
 
 -- Small trees

@@ -2,10 +2,9 @@
 use Prim.Native.Nat.{ℕ, suc, _+_, _≤_, _<_}
 use native.Mathlib.Omega.{arith}
 use mathlib.Core.Path.{_≡_, refl, sym, ap, _∙_}
-use mathlib.Core.Bool.{Bool, true, false, cond}
-use mathlib.Core.List.{List, [], _∷_, _++_, append-assoc, map}
-use lib.Dec.{eqb, ltb}
-use borrow.Author.Tests.{ltb-true, ltb-false, lt-ltb, le-ltb, ne-eqb}
+use mathlib.Core.Bool.{true}
+use mathlib.Core.List.{List, [], _∷_, _++_}
+use borrow.Author.Tests.{lt-ltb, le-ltb, ne-eqb}
 use Rattle.lineage.specs.Rows.{kindByte, kindAt, isValue, rowA, rowB, rowC}
 use Rattle.trees.specs.Trees.{Node, treeNodes}
 use Rattle.trees.specs.Inner.Walks.{isRow, lowerRow, rank, applyNodes, chooseNodes, code, codes}
@@ -33,21 +32,21 @@ pub lower-none : (i r : ℕ) → i ≤ r → (255 ≡ lowerRow i r) × (rank 255
 unfolding lowerRow
 lower-none i r h = (rw (le-ltb r i h), rw rank-none (omega arith))
 
--- at each call the row is lower, and the level stays within its type
-module _ (t level r : ℕ) (n : r ≡ 255 → ⊥) where
-  pub called :
-      (lower : ℕ)
-      → (rank r ≡ t) × (level + rank r ≤ 255)
-      → rank lower ≤ r
-      → (rank lower < t) × (level + 1 + rank lower ≤ 255)
-  called lower h l =
-      let k = rank-row r n in
-      let e = h .0 in
-      let d = h .1 in
-      (omega arith, omega arith)
+-- at each call the row is lower
+pub row-falls : (t r lower : ℕ) → (r ≡ 255 → ⊥) → rank r ≡ t → rank lower ≤ r → rank lower < t
+row-falls t r lower n e l =
+    let k = rank-row r n in
+    omega arith
 
-pub level-more : (level r : ℕ) → level + rank r ≤ 255 → (r ≡ 255 → ⊥) → level + 1 ≤ 255
-level-more level r h n =
+-- and the level stays within its type
+pub deeper :
+    (level r lower : ℕ) → (r ≡ 255 → ⊥) → level + rank r ≤ 255 → rank lower ≤ r → level + 1 + rank lower ≤ 255
+deeper level r lower n h l =
+    let k = rank-row r n in
+    omega arith
+
+pub not-deeper : (level r : ℕ) → (r ≡ 255 → ⊥) → level ≡ 255 → level + rank r ≤ 255 → ⊥
+not-deeper level r n e h =
     let k = rank-row r n in
     omega arith
 

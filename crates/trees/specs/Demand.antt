@@ -6,7 +6,7 @@ use mathlib.Core.Bool.{true}
 use mathlib.Core.List.{List, [], _∷_}
 use lib.ListN.{length, take, drop}
 use Rattle.book.specs.Lists.{flat}
-use Rattle.book.specs.Blocks.{Book, headOf}
+use Rattle.book.specs.Blocks.{Book}
 use Rattle.lineage.specs.Rows.{Plan, Column, Apply, Choose, rowCount, kindAt, isValue, rowA, rowB, rowC}
 use Rattle.lineage.specs.Answers.{BothAccepted}
 use Rattle.trees.specs.Trees.{children, nodesFrom, nodeCount}

@@ -18,7 +18,6 @@ use lineage::rows::is_value;
 use lineage::rows::test_plan;
 ghost use mathlib.Core.Path.{_≡_};
 ghost use mathlib.Core.Bool.{true};
-ghost use mathlib.Core.List.{_++_};
 ghost use Prim.Native.Nat.{ℕ, _<_};
 ghost use Rattle.book.specs.Blocks.{headOf};
 ghost use Rattle.book.specs.Tests.{answered, firstFailing};

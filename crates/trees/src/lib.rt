@@ -1,8 +1,7 @@
 // Lineage trees, as text for the documentation.
 //
-// `tree` has no `requires`; what it answers and what it leaves in the buffer are equations with
-// definitions of specs/Answers.antt. The two walks, which are not exported, ask that the level fits its
-// type.
+// No function has a `requires`. What Tree answers and leaves in the buffer are equations with
+// definitions of specs/Answers.antt; what the text in the buffer is, specs/Demand.antt.
 mod drawing; // Tree
 mod lines; // a tree's text
 mod walking; // a tree's nodes, by the walk of an Apply and the walk of a Choose

@@ -1,5 +1,6 @@
 // The text of a list of nodes: its length, and its lines, written to a lent buffer from a place on. A
 // full buffer takes no more, and the place stays.
+use book::bytes::smaller;
 use lineage::rows::kind;
 ghost use mathlib.Core.Path.{_≡_};
 ghost use mathlib.Core.List.{[], _∷_, _++_, map};
@@ -51,12 +52,14 @@ pub fn first(list: &[u16], n: usize) -> &[u16]
     &list[..n]
 }
 
+// The bytes of a text of at most 4,096 lines.
 pub fn text_length(plan: &[u8], nodes: &[u16]) -> usize
-    requires { ⌜ length (now nodes) ≤ 4096 ⌝ }
-    ensures { λ r. ⌜ (r ≡ length (textOf (now (plan .entry)) (map decoded (now (nodes .entry))))) × (r ≤ 2129920) ⌝ }
+    ensures { λ r. ⌜ (length (now (nodes .entry)) ≤ 4096
+        → r ≡ length (textOf (now (plan .entry)) (map decoded (now (nodes .entry))))) × (r ≤ 2129920) ⌝ }
 {
+    let count = smaller(nodes.len(), 4096);
     let mut sum = 0usize;
-    for k in 0..nodes.len() {
+    for k in 0..count {
         sum = sum + line_length(plan, nodes[k]);
     }
     sum

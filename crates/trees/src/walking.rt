@@ -37,13 +37,16 @@ fn put_node(list: &mut [u16], at: usize, level: u8, row: u8) -> usize
 }
 
 // The walk of an Apply, or of a Column: the nodes of a row of these kinds, from a place on. Each walk
-// returns at once for a row that is the other's, so that a row is passed to both in turn.
+// returns at once for a row that is the other's, so that a row is passed to both in turn. No tree has
+// 255 levels.
 fn list_apply(plan: &[u8], level: u8, row: u8, list: &mut [u16], at: usize) -> usize
-    requires { ⌜ level + rank row ≤ 255 ⌝ }
-    ensures { λ r. ⌜ Put (codes (applyNodes (now (plan .entry)) level row)) (now (list .entry)) at
-        (now (list .exit)) r ⌝ }
+    ensures { λ r. ⌜ (level + rank row ≤ 255
+        → Put (codes (applyNodes (now (plan .entry)) level row)) (now (list .entry)) at (now (list .exit)) r) ⌝ }
 {
     if row == 255 {
+        return at;
+    }
+    if level == 255 {
         return at;
     }
     if list.len() <= at {
@@ -68,11 +71,13 @@ fn list_apply(plan: &[u8], level: u8, row: u8, list: &mut [u16], at: usize) -> u
 
 // The walk of a Choose.
 fn list_choose(plan: &[u8], level: u8, row: u8, list: &mut [u16], at: usize) -> usize
-    requires { ⌜ level + rank row ≤ 255 ⌝ }
-    ensures { λ r. ⌜ Put (codes (chooseNodes (now (plan .entry)) level row)) (now (list .entry)) at
-        (now (list .exit)) r ⌝ }
+    ensures { λ r. ⌜ (level + rank row ≤ 255
+        → Put (codes (chooseNodes (now (plan .entry)) level row)) (now (list .entry)) at (now (list .exit)) r) ⌝ }
 {
     if row == 255 {
+        return at;
+    }
+    if level == 255 {
         return at;
     }
     if list.len() <= at {

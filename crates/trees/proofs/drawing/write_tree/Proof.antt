@@ -16,9 +16,6 @@ returns c low value =
     let e = tree-many _ _ _ (listed-many _ _ _ _ _ room listed (c .before .if1 .taken)) in
     (c .no-room .ensures ∙ e .0, e .1)
 
-text-length-requires : tie.Need-text-length-requires
-text-length-requires c κs = first-short _ _ _ (c .first .ensures) (c .before .before .if1 .left)
-
 returns-2 : tie.Need-returns-2
 returns-2 c low value =
     let measured = c .before .before in
@@ -27,7 +24,7 @@ returns-2 c low value =
     let listed = few .before .before in
     let e =
     told-long _ _ _ _ _ _ _ _ low room (listed .list-tree .ensures low value) (few .if1 .left) (first .first .ensures)
-    (measured .text-length .ensures .0) (c .before .if2 .taken) in
+    (measured .text-length .ensures .0 (first-short _ _ _ (first .first .ensures) (few .if1 .left))) (c .before .if2 .taken) in
     (c .no-room2 .ensures ∙ e .0, e .1)
 
 returns-3 : tie.Need-returns-3
@@ -39,7 +36,7 @@ returns-3 c low value =
     let few = first .before .before in
     let listed = few .before .before in
     told-written _ _ _ _ _ _ _ _ low room (listed .list-tree .ensures low value) (few .if1 .left) (first .first .ensures)
-    (measured .text-length .ensures .0) _ (fits .if2 .left) (written .write-lines .ensures)
+    (measured .text-length .ensures .0 (first-short _ _ _ (first .first .ensures) (few .if1 .left))) _ (fits .if2 .left) (written .write-lines .ensures)
 
 pub write-tree-spec : {M : Type 1} → statement M
 write-tree-spec =
@@ -51,7 +48,7 @@ write-tree-spec =
     returns
     (λ c. search needs)
     (λ c κs. search needs)
-    text-length-requires
+    (λ c κs. search needs)
     (λ c κs. search needs)
     returns-2
     (λ c κs. search needs)

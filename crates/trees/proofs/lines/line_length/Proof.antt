@@ -1,8 +1,6 @@
 -- The parts' lengths (`line-length`). Assumes nothing.
 use borrow.Author.Needs.{needs}
 use native.Mathlib.Omega.{arith}
-use mathlib.Core.Path.{_≡_}
-use Prim.Native.Nat.{_/_, _≤_}
 use Rattle.trees.specs.Inner.Walks.{decoded}
 use Rattle.trees.proofs.LineLaws.{line-length}
 use Rattle.trees.proofs.lines.line_length.Statement.{statement}

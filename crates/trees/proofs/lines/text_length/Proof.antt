@@ -5,19 +5,24 @@ use native.Mathlib.Omega.{arith}
 use mathlib.Core.Path.{_≡_, sym, ap, _∙_}
 use lib.ListN.{length, take}
 use lib.Seq.{take-all}
-use Rattle.trees.proofs.TextLaws.{linesOf, lines-length, text-none}
+use Rattle.trees.proofs.TextLaws.{linesOf, lines-length, most-lines, text-none}
 use Rattle.trees.proofs.lines.text_length.Statement.{statement}
 use Rattle.trees.proofs.lines.text_length.Tie as tie
 
 abbrev Inv-loop : tie.InvT-loop
-Inv-loop plan nodes sum₀ k₀ k-end sum k =
-    (k ≤ k-end) × (k-end ≡ length nodes) × (sum ≤ 520 * k) × (sum ≡ length (linesOf plan (take k nodes)))
+Inv-loop plan nodes count sum₀ k₀ sum k =
+    (k ≤ count)
+    × (count ≤ 4096)
+    × (count ≤ length nodes)
+    × (sum ≤ 520 * k)
+    × (sum ≡ length (linesOf plan (take k nodes)))
 
 abbrev μ-loop : tie.MeasureT-loop
-μ-loop plan nodes sum₀ k₀ k-end sum k = k-end - k
+μ-loop plan nodes count sum₀ k₀ sum k = count - k
 
 loop-holds : tie.Need-loop-holds Inv-loop μ-loop
-loop-holds c = (search needs, search needs, search needs, sym (ap length (text-none _)))
+loop-holds c =
+    (search needs, c .smaller .ensures .2, c .smaller .ensures .1, search needs, sym (ap length (text-none _)))
 
 add-sum : tie.Need-add-sum Inv-loop μ-loop
 add-sum c =
@@ -28,21 +33,24 @@ add-sum c =
 loop-again : tie.Need-loop-again Inv-loop μ-loop
 loop-again c =
     let turn = c .before .before .before .loop in
-    let a = c .before .before .before .before .before .before .args in
+    let a = c .before .before .before .before .before .before .before .args in
     let least = c .line-length .ensures .1 in (
       search needs,
-      search needs,
+      turn .inv .1,
+      turn .inv .2,
       omega arith,
-      lines-length (a .plan .now) (a .nodes .now) (turn .k) _ _ (omega arith) (turn .inv .3) (c .line-length .ensures .0),
+      lines-length (a .plan .now) (a .nodes .now) (turn .k) _ _ (omega arith) (turn .inv .4) (c .line-length .ensures .0),
     )
 
 returns : tie.Need-returns Inv-loop μ-loop
 returns c =
     let turn = c .before .loop in
-    let a = c .before .before .before .before .args in
-    let start = c .before .before .before .before in
-    let most = start .pre in (
-      turn .inv .3 ∙ ap (λ xs. length (linesOf (a .plan .now) xs)) (take-all (turn .k) (a .nodes .now) (omega arith)),
+    let told = c .before .before .smaller .ensures .0 in
+    let a = c .before .before .before .before .before .args in (
+      λ few.
+          turn .inv .4
+          ∙ ap (λ xs. length (linesOf (a .plan .now) xs))
+          (take-all (turn .k) (a .nodes .now) (most-lines _ _ (turn .k) told few (c .loop-test .left))),
       omega arith,
     )
 
@@ -52,6 +60,7 @@ text-length-spec =
     (tie.spec
     Inv-loop
     μ-loop
+    (λ c κs. search needs)
     loop-holds
     (λ c. search needs)
     (λ c. search needs)

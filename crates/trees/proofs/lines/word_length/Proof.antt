@@ -2,7 +2,6 @@
 use Rattle.trees.specs.Text.{kindWord}
 use Rattle.lineage.specs.Rows.{kindOf}
 use Rattle.trees.proofs.LineLaws.{word-as, word-none}
-use mathlib.Core.Path.{refl}
 use borrow.Author.Needs.{needs}
 use Rattle.trees.proofs.lines.word_length.Statement.{statement}
 use Rattle.trees.proofs.lines.word_length.Tie as tie

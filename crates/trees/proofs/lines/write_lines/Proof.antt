@@ -3,9 +3,8 @@
 use borrow.Author.Needs.{needs}
 use Prim.Native.Nat.{_≤_, _-_}
 use native.Mathlib.Omega.{arith}
-use mathlib.Core.Path.{_≡_, sym, ap, _∙_}
+use mathlib.Core.Path.{_≡_}
 use lib.ListN.{length, take}
-use lib.Seq.{take-all}
 use Rattle.trees.specs.Inner.Writing.{Put}
 use Rattle.trees.proofs.Puts.{put-fits}
 use Rattle.trees.proofs.TextLaws.{linesOf, lines-none, lines-put, lines-whole}

@@ -1,10 +1,9 @@
--- The row number falls at each call (`called`). `apply-put` and `choose-put` chain what the calls list. Assumes nothing.
-use native.Mathlib.Omega.{arith}
+-- The row number falls at each call (`row-falls`). `apply-put` and `choose-put` chain what the calls list. Assumes nothing.
 use mathlib.Core.Path.{ap, _∙_}
 use Rattle.trees.specs.Inner.Walks.{lowerRow, rank}
 use Rattle.trees.proofs.Nodes.{apply-absent, choose-absent, apply-other, choose-other}
 use Rattle.trees.proofs.Puts.{put-full}
-use Rattle.trees.proofs.Walked.{called, level-more, nothing-put, column-put, apply-put, choose-put}
+use Rattle.trees.proofs.Walked.{row-falls, deeper, not-deeper, nothing-put, column-put, apply-put, choose-put}
 use borrow.Author.Needs.{needs}
 use Prim.Native.Nat.{ℕ, _<_}
 use borrow.Fn.Kinds.{In}
@@ -65,63 +64,58 @@ pub +list-apply+list-choose-spec : {M : Type 1} → statement M
 )
     (list-apply-at t)
     list-apply.Post
-    (λ c. nothing-put _ _ _ (apply-absent _ _ _ (c .if1 .taken)))
-    (λ c. put-full _ _ _ (c .if2 .taken))
+    (λ c deep. nothing-put _ _ _ (apply-absent _ _ _ (c .if1 .taken)))
+    (λ c deep. absurd (not-deeper _ _ (c .before .if1 .left) (c .if2 .taken) deep))
+    (λ c deep. put-full _ _ _ (c .if3 .taken))
     (λ c κs. search needs)
     (λ c κs. search needs)
     (λ c. search needs)
-    (λ c.
+    (λ c deep.
     let listed = c .before .before in
-    let three = listed .before .before in
-    let kinds = three .before in
-    let one = kinds .before .before in
-    let start = one .before .before .before in
-    column-put _ _ _ (one .if1 .left) (start .pre .1) (kinds .kind .result) (kinds .kind .ensures .0) (three .if3 .taken)
-    _ _ _ _ (listed .put-node .ensures))
-    (λ c.
+    let four = listed .before .before in
+    let kinds = four .before in
+    let one = kinds .before .before .before in
+    column-put _ _ _ (one .if1 .left) deep (kinds .kind .result) (kinds .kind .ensures .0) (four .if4 .taken) _ _ _ _
+    (listed .put-node .ensures))
+    (λ c deep.
     let kinds = c .before .before .kind .ensures .0 in
-    nothing-put _ _ _ (apply-other _ _ _ (λ e. c .before .if3 .left (kinds ∙ e)) (λ e. c .if4 .taken (kinds ∙ e))))
+    nothing-put _ _ _ (apply-other _ _ _ (λ e. c .before .if4 .left (kinds ∙ e)) (λ e. c .if5 .taken (kinds ∙ e))))
     (λ c κs. search needs)
     (λ c κs. search needs)
     (λ c κs. search needs)
     (λ c κs. search needs)
     (λ c κs. search needs)
-    (λ c.
-    let listed = c .before .before .before .before .before .before in
-    let one = listed .before .before .before .before .before .before in
-    let start = one .before .before .before in
-    let more = level-more _ _ (start .pre .1) (one .if1 .left) in
-    omega arith)
+    (λ c. search needs)
     (λ c κs.
     let named = c .before .before .before in
     let listed = named .before .before .before .before in
-    let one = listed .before .before .before .before .before .before in
+    let one = listed .before .before .before .before .before .before .before in
     let start = one .before .before .before in
-    called _ _ _ (one .if1 .left) _ (start .pre) (named .lower .ensures .1))
+    (row-falls _ _ _ (one .if1 .left) (start .pre .0) (named .lower .ensures .1), tt))
     (λ c κs.
     let b-apply = c .before .before .before in
     let named = b-apply .before .before .before .before in
     let listed = named .before .before .before .before in
-    let one = listed .before .before .before .before .before .before in
+    let one = listed .before .before .before .before .before .before .before in
     let start = one .before .before .before in
-    called _ _ _ (one .if1 .left) _ (start .pre) (named .lower .ensures .1))
+    (row-falls _ _ _ (one .if1 .left) (start .pre .0) (named .lower .ensures .1), tt))
     (λ c κs.
     let b-choose = c .before .before .before in
     let b-apply = b-choose .before .before .before .before in
     let named = b-apply .before .before in
     let listed = named .before .before .before .before .before .before in
-    let one = listed .before .before .before .before .before .before in
+    let one = listed .before .before .before .before .before .before .before in
     let start = one .before .before .before in
-    called _ _ _ (one .if1 .left) _ (start .pre) (named .lower2 .ensures .1))
+    (row-falls _ _ _ (one .if1 .left) (start .pre .0) (named .lower2 .ensures .1), tt))
     (λ c κs.
     let c-apply = c .before .before .before in
     let b-choose = c-apply .before .before .before .before in
     let b-apply = b-choose .before .before .before .before in
     let named = b-apply .before .before in
     let listed = named .before .before .before .before .before .before in
-    let one = listed .before .before .before .before .before .before in
+    let one = listed .before .before .before .before .before .before .before in
     let start = one .before .before .before in
-    called _ _ _ (one .if1 .left) _ (start .pre) (named .lower2 .ensures .1))
+    (row-falls _ _ _ (one .if1 .left) (start .pre .0) (named .lower2 .ensures .1), tt))
     (λ c.
     let c-choose = c .before .before in
     let c-apply = c-choose .before .before .before .before in
@@ -133,7 +127,7 @@ pub +list-apply+list-choose-spec : {M : Type 1} → statement M
     ∙ b-choose .list-choose .kept .1 .1 .1 .0
     ∙ b-apply .list-apply .kept .1 .1 .1 .0
     ∙ listed .put-node2 .kept .0)
-    (λ c.
+    (λ c deep.
     let c-choose = c .before .before in
     let c-apply = c-choose .before .before .before .before in
     let b-choose = c-apply .before .before .before .before in
@@ -143,15 +137,17 @@ pub +list-apply+list-choose-spec : {M : Type 1} → statement M
     let lower-b = byte-c .before in
     let byte-b = lower-b .before in
     let listed = byte-b .before .before .before in
-    let four = listed .before .before in
-    let kinds = four .before .before in
-    let one = kinds .before .before in
-    let start = one .before .before .before in
-    apply-put _ _ _ (one .if1 .left) (start .pre .1) (kinds .kind .result) (kinds .kind .ensures .0) (four .if4 .left) _ _
+    let five = listed .before .before in
+    let kinds = five .before .before in
+    let one = kinds .before .before .before in
+    let deep-b = (deeper _ _ _ (one .if1 .left) deep (lower-b .lower .ensures .1)) in
+    let deep-c = (deeper _ _ _ (one .if1 .left) deep (lower-c .lower2 .ensures .1)) in
+    apply-put _ _ _ (one .if1 .left) deep (kinds .kind .result) (kinds .kind .ensures .0) (five .if5 .left) _ _
     (lower-b .lower .ensures .0 ∙ ap (lowerRow _) (byte-b .row-b .ensures))
     (lower-c .lower2 .ensures .0 ∙ ap (lowerRow _) (byte-c .row-c .ensures))
-    _ _ _ _ _ _ _ _ _ _ _ _ (listed .put-node2 .ensures) (b-apply .list-apply .ensures)
-    (b-choose .list-choose .ensures) (c-apply .list-apply2 .ensures) (c-choose .list-choose2 .ensures)))
+    _ _ _ _ _ _ _ _ _ _ _ _ (listed .put-node2 .ensures) (b-apply .list-apply .ensures deep-b)
+    (b-choose .list-choose .ensures deep-b) (c-apply .list-apply2 .ensures deep-c)
+    (c-choose .list-choose2 .ensures deep-c)))
     λ t. list-choose-lts.spec (
       kind-reads.Asked,
       kind-reads.Learnt,
@@ -172,53 +168,49 @@ pub +list-apply+list-choose-spec : {M : Type 1} → statement M
     )
     (list-choose-at t)
     list-choose.Post
-    (λ c. nothing-put _ _ _ (choose-absent _ _ _ (c .if1 .taken)))
-    (λ c. put-full _ _ _ (c .if2 .taken))
+    (λ c deep. nothing-put _ _ _ (choose-absent _ _ _ (c .if1 .taken)))
+    (λ c deep. absurd (not-deeper _ _ (c .before .if1 .left) (c .if2 .taken) deep))
+    (λ c deep. put-full _ _ _ (c .if3 .taken))
     (λ c κs. search needs)
-    (λ c. nothing-put _ _ _ (choose-other _ _ _ (λ e. c .if3 .taken (c .before .kind .ensures .0 ∙ e))))
-    (λ c κs. search needs)
-    (λ c κs. search needs)
-    (λ c κs. search needs)
+    (λ c deep. nothing-put _ _ _ (choose-other _ _ _ (λ e. c .if4 .taken (c .before .kind .ensures .0 ∙ e))))
     (λ c κs. search needs)
     (λ c κs. search needs)
     (λ c κs. search needs)
     (λ c κs. search needs)
-    (λ c.
-    let listed = c .before .before .before .before .before .before .before .before in
-    let one = listed .before .before .before .before .before in
-    let start = one .before .before .before in
-    let more = level-more _ _ (start .pre .1) (one .if1 .left) in
-    omega arith)
+    (λ c κs. search needs)
+    (λ c κs. search needs)
+    (λ c κs. search needs)
+    (λ c. search needs)
     (λ c κs.
     let named = c .before .before .before .before .before in
     let listed = named .before .before .before .before in
-    let one = listed .before .before .before .before .before in
+    let one = listed .before .before .before .before .before .before in
     let start = one .before .before .before in
-    called _ _ _ (one .if1 .left) _ (start .pre) (named .lower .ensures .1))
+    (row-falls _ _ _ (one .if1 .left) (start .pre .0) (named .lower .ensures .1), tt))
     (λ c κs.
     let a-apply = c .before .before .before in
     let named = a-apply .before .before .before .before .before .before in
     let listed = named .before .before .before .before in
-    let one = listed .before .before .before .before .before in
+    let one = listed .before .before .before .before .before .before in
     let start = one .before .before .before in
-    called _ _ _ (one .if1 .left) _ (start .pre) (named .lower .ensures .1))
+    (row-falls _ _ _ (one .if1 .left) (start .pre .0) (named .lower .ensures .1), tt))
     (λ c κs.
     let a-choose = c .before .before .before in
     let a-apply = a-choose .before .before .before .before in
     let named = a-apply .before .before .before .before in
     let listed = named .before .before .before .before .before .before in
-    let one = listed .before .before .before .before .before in
+    let one = listed .before .before .before .before .before .before in
     let start = one .before .before .before in
-    called _ _ _ (one .if1 .left) _ (start .pre) (named .lower2 .ensures .1))
+    (row-falls _ _ _ (one .if1 .left) (start .pre .0) (named .lower2 .ensures .1), tt))
     (λ c κs.
     let b-apply = c .before .before .before in
     let a-choose = b-apply .before .before .before .before in
     let a-apply = a-choose .before .before .before .before in
     let named = a-apply .before .before .before .before in
     let listed = named .before .before .before .before .before .before in
-    let one = listed .before .before .before .before .before in
+    let one = listed .before .before .before .before .before .before in
     let start = one .before .before .before in
-    called _ _ _ (one .if1 .left) _ (start .pre) (named .lower2 .ensures .1))
+    (row-falls _ _ _ (one .if1 .left) (start .pre .0) (named .lower2 .ensures .1), tt))
     (λ c κs.
     let b-choose = c .before .before .before in
     let b-apply = b-choose .before .before .before .before in
@@ -226,9 +218,9 @@ pub +list-apply+list-choose-spec : {M : Type 1} → statement M
     let a-apply = a-choose .before .before .before .before in
     let named = a-apply .before .before in
     let listed = named .before .before .before .before .before .before .before .before in
-    let one = listed .before .before .before .before .before in
+    let one = listed .before .before .before .before .before .before in
     let start = one .before .before .before in
-    called _ _ _ (one .if1 .left) _ (start .pre) (named .lower3 .ensures .1))
+    (row-falls _ _ _ (one .if1 .left) (start .pre .0) (named .lower3 .ensures .1), tt))
     (λ c κs.
     let c-apply = c .before .before .before in
     let b-choose = c-apply .before .before .before .before in
@@ -237,9 +229,9 @@ pub +list-apply+list-choose-spec : {M : Type 1} → statement M
     let a-apply = a-choose .before .before .before .before in
     let named = a-apply .before .before in
     let listed = named .before .before .before .before .before .before .before .before in
-    let one = listed .before .before .before .before .before in
+    let one = listed .before .before .before .before .before .before in
     let start = one .before .before .before in
-    called _ _ _ (one .if1 .left) _ (start .pre) (named .lower3 .ensures .1))
+    (row-falls _ _ _ (one .if1 .left) (start .pre .0) (named .lower3 .ensures .1), tt))
     (λ c.
     let c-choose = c .before .before in
     let c-apply = c-choose .before .before .before .before in
@@ -255,7 +247,7 @@ pub +list-apply+list-choose-spec : {M : Type 1} → statement M
     ∙ a-choose .list-choose .kept .1 .1 .1 .0
     ∙ a-apply .list-apply .kept .1 .1 .1 .0
     ∙ listed .put-node .kept .0)
-    (λ c.
+    (λ c deep.
     let c-choose = c .before .before in
     let c-apply = c-choose .before .before .before .before in
     let b-choose = c-apply .before .before .before .before in
@@ -269,14 +261,17 @@ pub +list-apply+list-choose-spec : {M : Type 1} → statement M
     let lower-a = byte-b .before in
     let byte-a = lower-a .before in
     let listed = byte-a .before .before .before in
-    let three = listed .before .before in
-    let kinds = three .before in
-    let one = kinds .before .before in
-    let start = one .before .before .before in
-    choose-put _ _ _ (one .if1 .left) (start .pre .1) (kinds .kind .result) (kinds .kind .ensures .0) (three .if3 .left) _ _ _
+    let four = listed .before .before in
+    let kinds = four .before in
+    let one = kinds .before .before .before in
+    let deep-a = (deeper _ _ _ (one .if1 .left) deep (lower-a .lower .ensures .1)) in
+    let deep-b = (deeper _ _ _ (one .if1 .left) deep (lower-b .lower2 .ensures .1)) in
+    let deep-c = (deeper _ _ _ (one .if1 .left) deep (lower-c .lower3 .ensures .1)) in
+    choose-put _ _ _ (one .if1 .left) deep (kinds .kind .result) (kinds .kind .ensures .0) (four .if4 .left) _ _ _
     (lower-a .lower .ensures .0 ∙ ap (lowerRow _) (byte-a .row-a .ensures))
     (lower-b .lower2 .ensures .0 ∙ ap (lowerRow _) (byte-b .row-b .ensures))
     (lower-c .lower3 .ensures .0 ∙ ap (lowerRow _) (byte-c .row-c .ensures))
-    _ _ _ _ _ _ _ _ _ _ _ _ _ _ _ _ (listed .put-node .ensures) (a-apply .list-apply .ensures)
-    (a-choose .list-choose .ensures) (b-apply .list-apply2 .ensures) (b-choose .list-choose2 .ensures)
-    (c-apply .list-apply3 .ensures) (c-choose .list-choose3 .ensures))
+    _ _ _ _ _ _ _ _ _ _ _ _ _ _ _ _ (listed .put-node .ensures) (a-apply .list-apply .ensures deep-a)
+    (a-choose .list-choose .ensures deep-a) (b-apply .list-apply2 .ensures deep-b)
+    (b-choose .list-choose2 .ensures deep-b) (c-apply .list-apply3 .ensures deep-c)
+    (c-choose .list-choose3 .ensures deep-c))
