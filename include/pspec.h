@@ -1,5 +1,5 @@
 /*
- * The PSpec policy engine for C: eight calls. Link with libcapi.a (rt staticlib capi; x86-64 Linux).
+ * The PSpec policy engine for C: nine calls. Link with libcapi.a (rt staticlib capi; x86-64 Linux).
  *
  * Parameters. A slice is a pointer and a length in elements: bytes for a book, a block, a plan and a
  * buffer, 64-bit words for `words` and `ledger`. A record, `tally`, is a pointer to one struct. The
@@ -14,7 +14,8 @@
  *  - its answer is the one that crates/capi/specs/Packing.antt says, over specs/Answers.antt of the
  *    crates below, and so are the elements of a slice and the counts of a record on leaving;
  *  - what the numbers of pspec_judge, pspec_idle, pspec_blocked, pspec_culprits and pspec_submit mean for a
- *    policy is one page, crates/capi/specs/Demands.antt, and is proved of them;
+ *    policy, and those of pspec_tree for a plan, is one page, crates/capi/specs/Demands.antt, and is proved of
+ *    them;
  *  - a refusal leaves `block`, `words`, `buffer`, `ledger` and `tally` as they were.
  *
  * Answers. Each is one 64-bit number: refusal number x 2^40 + place x 2^32 + value. The refusal number
@@ -49,6 +50,9 @@ extern "C" {
 /* Words of a ledger, 32 for each user number; the count or sum of counts from which on a tally is full. */
 #define PSPEC_LEDGER_WORDS 1024
 #define PSPEC_COUNTS_LIMIT 1000000
+/* Nodes of the largest tree that pspec_tree writes; bytes with room for the text of any such tree, 136 a node. */
+#define PSPEC_NODES_MOST 4096
+#define PSPEC_TREE_MOST 557056
 
 /*
  * Refusal numbers. Where several apply, the first in this order is given: 1; 2 over all blocks; 3 over
@@ -75,7 +79,9 @@ enum pspec_refusal {
     PSPEC_BUFFER_LENGTH = 25,     /* buffer under 36 bytes */
     PSPEC_RULE_FORBIDS = 26,      /* the rule has no restriction */
     PSPEC_LEDGER_LENGTH = 27,     /* not 1,024 words */
-    PSPEC_COUNTS_FULL = 28        /* a count of the tally, or their sum, is 1,000,000 or more */
+    PSPEC_COUNTS_FULL = 28,       /* a count of the tally, or their sum, is 1,000,000 or more */
+    PSPEC_NO_VALUE_ROW = 29,      /* the row is absent, or not of kind 1 to 3 */
+    PSPEC_TREE_SIZE = 30          /* the tree has above 4,096 nodes, or its text exceeds the buffer */
 };
 
 /*
@@ -166,6 +172,20 @@ struct pspec_tally {
 uint64_t pspec_submit(const uint8_t *book, size_t book_length, uint32_t user, const uint8_t *plan,
                       size_t plan_length, uint64_t *ledger, size_t ledger_length, struct pspec_tally *tally);
 
+/*
+ * Tree: writes the lineage tree of a row as text. The row is a Column, an Apply or a Choose of the plan, counted
+ * from 0. One line a node, a node before its children: two spaces for each level below the top, the row's
+ * number in decimal, a space, `column`, `apply` or `choose`, and a line feed (byte 10); no zero byte ends the
+ * text. The children of an Apply are b, and c unless that is 255; of a Choose a, b and c; of a Column none. A row
+ * that is reached twice is written twice. Refuses 1 to 9, 21, 22, 29, 30; 30 also where the buffer is long
+ * enough and the tree has above 4,096 nodes, which is known after 4,097. Value: (nodes - 1) x 2^20 + length; the
+ * nodes are the lines written, 1 to 4,096 and at most 3^(row + 1), and the length is at most 136 x nodes. The
+ * text's `length` bytes are at the buffer's front and the rest is as it was; a text exactly as long as the
+ * buffer fits.
+ */
+uint64_t pspec_tree(const uint8_t *book, size_t book_length, const uint8_t *plan, size_t plan_length,
+                    uint32_t row, uint8_t *buffer, size_t buffer_length);
+
 /* The parts of an answer. */
 
 /* 0 where nothing is refused, else one of enum pspec_refusal. */
@@ -215,6 +235,11 @@ static inline uint32_t pspec_other_rules(uint64_t answer, uint32_t rule)
 {
     return rule < 32 ? pspec_mask(answer) & ~(UINT32_C(1) << rule) : pspec_mask(answer);
 }
+
+/* pspec_tree, not refused: the nodes of the tree, which are the lines of its text, and the text's bytes. Look at
+ * pspec_number first: a refusal has neither. */
+static inline uint32_t pspec_nodes(uint64_t answer) { return (pspec_value(answer) >> 20) + 1; }
+static inline uint32_t pspec_length(uint64_t answer) { return pspec_value(answer) & 0xFFFFFu; }
 
 #ifdef __cplusplus
 }

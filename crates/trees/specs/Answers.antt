@@ -16,25 +16,25 @@ use Rattle.trees.specs.declared.Drawn.{Drawn}
 use Rattle.trees.specs.declared.Drawn.the-variants.{Written, Refused}
 
 -- the refusals' numbers
-abbrev pub noRow : ℕ
-noRow = 29
+abbrev pub noValueRow : ℕ
+noValueRow = 29
 
-abbrev pub noRoom : ℕ
-noRoom = 30
+abbrev pub treeSize : ℕ
+treeSize = 30
 
 -- 29: "the row is absent or not of kind 1 to 3"
 unfoldable pub isValueRow : Plan → (row : ℕ) → Bool
 isValueRow plan i = ltb i (rowCount plan) && isValue (kindAt plan i)
 
 unfoldable pub valueTests : Plan → (row : ℕ) → List Test
-valueTests plan i = (noRow, 0, isValueRow plan i) ∷ []
+valueTests plan i = (noValueRow, 0, isValueRow plan i) ∷ []
 
 -- 30: "the tree has above 4,096 nodes or its text exceeds the buffer"
 unfoldable pub treeFits : Plan → (row room : ℕ) → Bool
 treeFits plan i room = leb (nodeCount plan i) 4096 && leb (length (treeText plan i)) room
 
 unfoldable pub roomTests : Plan → (row : ℕ) → (buffer : List ℕ) → List Test
-roomTests plan i buffer = (noRoom, 0, treeFits plan i (length buffer)) ∷ []
+roomTests plan i buffer = (treeSize, 0, treeFits plan i (length buffer)) ∷ []
 
 -- "Flows' refusals 1 to 22, then 29"
 unfoldable pub treeRowTests : Book → Plan → (row : ℕ) → List Test

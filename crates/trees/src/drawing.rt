@@ -1,7 +1,7 @@
 // Tree: the lineage tree of a value row, as text at the front of a lent buffer.
 use crate::Drawn;
-use crate::NO_ROOM;
-use crate::NO_ROW;
+use crate::NO_VALUE_ROW;
+use crate::TREE_SIZE;
 use crate::lines::first;
 use crate::lines::text_length;
 use crate::lines::write_lines;
@@ -27,11 +27,12 @@ ghost use Rattle.trees.specs.Text.{treeText};
 ghost use Rattle.trees.specs.Answers.{drawn, roomTests, treeRowTests, treeAnswer, treeBuffer, valueTests, written};
 ghost use Rattle.trees.specs.Demand.{Draws};
 
-fn no_room() -> Drawn
+// The refusal 30.
+fn too_large() -> Drawn
     ensures { λ r. ⌜ r ≡ Drawn.Refused (record { number = 30; place = 0 }) ⌝ }
 {
     Drawn::Refused(Refusal {
-        number: NO_ROOM,
+        number: TREE_SIZE,
         place: 0,
     })
 }
@@ -49,12 +50,12 @@ fn write_tree(plan: &[u8], row: u8, buffer: &mut [u8]) -> Drawn
     let mut list = [0u16; 4097];
     let count = list_tree(plan, row, &mut list);
     if 4096 < count {
-        return no_room();
+        return too_large();
     }
     let nodes = first(&list, count);
     let length = text_length(plan, nodes);
     if buffer.len() < length {
-        return no_room();
+        return too_large();
     }
     write_lines(plan, nodes, buffer);
     Drawn::Written {
@@ -70,7 +71,7 @@ fn test_value(plan: &[u8], row: u32) -> Tested
     let at = row as usize;
     let there = at < plan.len() / 4;
     let kind = byte_at(plan, 4 * at);
-    test(NO_ROW, 0, there & is_value(kind))
+    test(NO_VALUE_ROW, 0, there & is_value(kind))
 }
 
 // The tests of the book, of the plan, of the row.

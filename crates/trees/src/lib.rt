@@ -16,6 +16,6 @@ pub enum Drawn {
 }
 
 // The refusals' numbers.
-pub const NO_ROW: u32 = 29;
+pub const NO_VALUE_ROW: u32 = 29;
 
-pub const NO_ROOM: u32 = 30;
+pub const TREE_SIZE: u32 = 30;

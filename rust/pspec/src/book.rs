@@ -1,6 +1,6 @@
 //! A book, and the calls that ask it something.
 
-use crate::{raw, Accesses, Blocking, Broken, Causes, Idleness, Plan, Refusal, Verdict};
+use crate::{raw, Accesses, Blocking, Broken, Causes, Idleness, Plan, Refusal, Tree, Verdict};
 use crate::{Ledger, Reply, Tally};
 use std::fmt;
 
@@ -223,6 +223,37 @@ impl Book {
     pub fn culprits(&self, rule: u32) -> Result<Causes, Refusal> {
         let value = raw::value(raw::culprits(&self.bytes, rule))?;
         Ok(Causes::of(value, rule))
+    }
+
+    /// The lineage tree of a row of a plan, as text: what the value of a Column, an Apply or a Choose is
+    /// made of. The children of an Apply are its one or two rows; of a Choose first the row that decides,
+    /// then the two that it chooses from. A row that is reached twice is written twice. Any other row is
+    /// refused ([`Refusal::NoValueRow`]), and so is a tree of more than 4,096 nodes
+    /// ([`Refusal::TreeSize`]); no shorter one lacks room here.
+    ///
+    /// ```
+    /// use pspec::{Book, Plan, Refusal};
+    ///
+    /// # let bytes = books::named::small_shop().bytes();
+    /// let book = Book::new(bytes)?; // the small shop
+    /// let plan = Plan::new([
+    ///     1, 0, 0, 0, // row 0: column 0, a state
+    ///     1, 2, 0, 0, // row 1: column 2, a price
+    ///     2, 1, 1, 255, // row 2: the average of row 1
+    ///     3, 1, 2, 0, // row 3: row 1 decides between rows 2 and 0
+    ///     4, 3, 0, 0, // row 4: output of row 3
+    /// ]);
+    /// let tree = book.tree(&plan, 3)?;
+    /// assert_eq!(tree.text(), "3 choose\n  1 column\n  2 apply\n    1 column\n  0 column\n");
+    /// assert_eq!(tree.node_count(), 5);
+    /// assert_eq!(book.tree(&plan, 4), Err(Refusal::NoValueRow)); // an output
+    /// # Ok::<(), Refusal>(())
+    /// ```
+    pub fn tree(&self, plan: &Plan, row: u32) -> Result<Tree, Refusal> {
+        let mut buffer = vec![0; raw::TREE];
+        let value = raw::value(raw::tree(&self.bytes, plan.bytes(), row, &mut buffer))?;
+        let (nodes, length) = raw::drawn(value);
+        Ok(Tree::new(&buffer[..length as usize], nodes))
     }
 }
 

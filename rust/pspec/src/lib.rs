@@ -13,6 +13,7 @@ mod refusal;
 mod reply;
 mod rules;
 mod tally;
+mod tree;
 mod verdict;
 
 pub use accesses::{Access, Accesses, Action};
@@ -26,4 +27,5 @@ pub use refusal::Refusal;
 pub use reply::Reply;
 pub use rules::Rules;
 pub use tally::Tally;
+pub use tree::{Node, Tree};
 pub use verdict::{Broken, Verdict};

@@ -13,6 +13,8 @@ pub const WORDS: usize = 32;
 pub const BUFFER: usize = 36;
 /// The words of the ledger of `submit`: [`WORDS`] for each user number.
 pub const LEDGER: usize = 1_024;
+/// Bytes with room for every text that `tree` writes: 4,096 nodes of at most 136 bytes.
+pub const TREE: usize = 4_096 * 136;
 
 /// The tally of `submit` as C has it.
 #[repr(C)]
@@ -61,6 +63,15 @@ mod c {
             ledger: *mut u64,
             ledger_len: usize,
             tally: *mut super::Tally,
+        ) -> u64;
+        pub fn pspec_tree(
+            book: *const u8,
+            book_len: usize,
+            plan: *const u8,
+            plan_len: usize,
+            row: u32,
+            buffer: *mut u8,
+            buffer_len: usize,
         ) -> u64;
     }
 }
@@ -137,6 +148,23 @@ pub fn submit(book: &[u8], user: u32, plan: &[u8], ledger: &mut [u64], tally: &m
     }
 }
 
+/// Writes the lineage tree of a row. Value: see `drawn`; the text is at the buffer's front.
+pub fn tree(book: &[u8], plan: &[u8], row: u32, buffer: &mut [u8]) -> u64 {
+    let (to, room) = (buffer.as_mut_ptr(), buffer.len());
+    // SAFETY: as above; the buffer overlaps neither the book nor the plan, as it is lent alone.
+    unsafe {
+        c::pspec_tree(
+            book.as_ptr(),
+            book.len(),
+            plan.as_ptr(),
+            plan.len(),
+            row,
+            to,
+            room,
+        )
+    }
+}
+
 /// The value of an answer, or its refusal.
 pub fn value(answer: u64) -> Result<u32, Refusal> {
     let number = (answer >> 40) as u32;
@@ -176,6 +204,12 @@ pub fn others(value: u32, rule: u32) -> Option<u32> {
     }
 }
 
+/// The nodes and the text's bytes in a value of `tree`. A tree has at least one node, so the value has
+/// one less.
+pub fn drawn(value: u32) -> (u32, u32) {
+    ((value >> 20) + 1, value & 0xF_FFFF)
+}
+
 #[cfg(test)]
 mod tests {
     use super::*;
@@ -213,5 +247,12 @@ mod tests {
         // No value is of such a rule, but nothing is shifted out.
         assert_eq!(others(0b11, 32), Some(0b11));
         assert_eq!(others(0b11, u32::MAX), Some(0b11));
+    }
+
+    #[test]
+    fn nodes_and_bytes() {
+        assert_eq!(drawn(9), (1, 9));
+        assert_eq!(drawn(4_095 * (1 << 20) + TREE as u32), (4_096, 557_056));
+        assert_eq!(drawn(u32::MAX), (4_096, 0xF_FFFF));
     }
 }

@@ -96,6 +96,8 @@ refusals! {
     26 RuleForbids "the rule forbids: it has no restriction",
     27 LedgerLength "the ledger is not 1,024 words",
     28 CountsFull "the admitted or declined plans, or both together, are already 1,000,000 or more",
+    29 NoValueRow "the row is absent, or no Column, Apply or Choose",
+    30 TreeSize "the tree has above 4,096 nodes, or its text exceeds the buffer",
 }
 
 impl fmt::Display for Refusal {

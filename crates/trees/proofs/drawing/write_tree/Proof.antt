@@ -14,7 +14,7 @@ returns : tie.Need-returns
 returns c low value =
     let listed = c .before .before .before .list-tree .ensures low value in
     let e = tree-many _ _ _ (listed-many _ _ _ _ _ room listed (c .before .if1 .taken)) in
-    (c .no-room .ensures ∙ e .0, e .1)
+    (c .too-large .ensures ∙ e .0, e .1)
 
 returns-2 : tie.Need-returns-2
 returns-2 c low value =
@@ -25,7 +25,7 @@ returns-2 c low value =
     let e =
     told-long _ _ _ _ _ _ _ _ low room (listed .list-tree .ensures low value) (few .if1 .left) (first .first .ensures)
     (measured .text-length .ensures .0 (first-short _ _ _ (first .first .ensures) (few .if1 .left))) (c .before .if2 .taken) in
-    (c .no-room2 .ensures ∙ e .0, e .1)
+    (c .too-large2 .ensures ∙ e .0, e .1)
 
 returns-3 : tie.Need-returns-3
 returns-3 c low value =
