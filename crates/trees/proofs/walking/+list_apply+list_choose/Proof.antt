@@ -1,4 +1,5 @@
 -- The row number falls at each call (`row-falls`). `apply-put` and `choose-put` chain what the calls list. Assumes nothing.
+use native.Mathlib.Omega.{arith}
 use mathlib.Core.Path.{ap, _∙_}
 use Rattle.trees.specs.Inner.Walks.{lowerRow, rank}
 use Rattle.trees.proofs.Nodes.{apply-absent, choose-absent, apply-other, choose-other}
@@ -45,6 +46,72 @@ abbrev list-choose-below : ℕ → In 2 list-choose-kinds.ps
 list-choose-below t =
     and 2 list-choose-kinds.ps (falls 2 list-choose-kinds.ps _<_ μ-list-choose t) list-choose.Pre
 
+-- at the calls every row that is named is lower
+
+apply-falls :
+    (t : ℕ)
+    (c : list-apply-lts.After-lower2 (
+      kind-reads.Asked,
+      kind-reads.Learnt,
+      put-node-reads.Asked,
+      put-node-reads.Learnt,
+      row-b-reads.Asked,
+      row-b-reads.Learnt,
+      lower-reads.Asked,
+      lower-reads.Learnt,
+      row-c-reads.Asked,
+      row-c-reads.Learnt,
+      list-apply-below t,
+      list-apply.Post,
+      list-choose-below t,
+      list-choose.Post,
+    )
+    (list-apply-at t)
+    list-apply.Post)
+    → (rank (c .before .before .lower .result) < t) × (rank (c .lower2 .result) < t)
+apply-falls t c =
+    let b = c .before .before in
+    let one = b .before .before .before .before .before .before .before .before .before .before .before in
+    let start = one .before .before .before in (
+      row-falls _ _ _ (one .if1 .left) (start .pre .0) (b .lower .ensures .1),
+      row-falls _ _ _ (one .if1 .left) (start .pre .0) (c .lower2 .ensures .1),
+    )
+
+choose-falls :
+    (t : ℕ)
+    (c : list-choose-lts.After-lower3 (
+      kind-reads.Asked,
+      kind-reads.Learnt,
+      put-node-reads.Asked,
+      put-node-reads.Learnt,
+      row-a-reads.Asked,
+      row-a-reads.Learnt,
+      lower-reads.Asked,
+      lower-reads.Learnt,
+      row-b-reads.Asked,
+      row-b-reads.Learnt,
+      row-c-reads.Asked,
+      row-c-reads.Learnt,
+      list-apply-below t,
+      list-apply.Post,
+      list-choose-below t,
+      list-choose.Post,
+    )
+    (list-choose-at t)
+    list-choose.Post)
+    → (rank (c .before .before .before .before .lower .result) < t)
+    × (rank (c .before .before .lower2 .result) < t)
+    × (rank (c .lower3 .result) < t)
+choose-falls t c =
+    let b = c .before .before in
+    let a = b .before .before in
+    let one = a .before .before .before .before .before .before .before .before .before .before in
+    let start = one .before .before .before in (
+      row-falls _ _ _ (one .if1 .left) (start .pre .0) (a .lower .ensures .1),
+      row-falls _ _ _ (one .if1 .left) (start .pre .0) (b .lower2 .ensures .1),
+      row-falls _ _ _ (one .if1 .left) (start .pre .0) (c .lower3 .ensures .1),
+    )
+
 pub +list-apply+list-choose-spec : {M : Type 1} → statement M
 +list-apply+list-choose-spec = close μ-list-apply μ-list-choose (λ t. list-apply-lts.spec (
   kind-reads.Asked,
@@ -86,36 +153,10 @@ pub +list-apply+list-choose-spec : {M : Type 1} → statement M
     (λ c κs. search needs)
     (λ c κs. search needs)
     (λ c. search needs)
-    (λ c κs.
-    let named = c .before .before .before in
-    let listed = named .before .before .before .before in
-    let one = listed .before .before .before .before .before .before .before in
-    let start = one .before .before .before in
-    (row-falls _ _ _ (one .if1 .left) (start .pre .0) (named .lower .ensures .1), tt))
-    (λ c κs.
-    let b-apply = c .before .before .before in
-    let named = b-apply .before .before .before .before in
-    let listed = named .before .before .before .before in
-    let one = listed .before .before .before .before .before .before .before in
-    let start = one .before .before .before in
-    (row-falls _ _ _ (one .if1 .left) (start .pre .0) (named .lower .ensures .1), tt))
-    (λ c κs.
-    let b-choose = c .before .before .before in
-    let b-apply = b-choose .before .before .before .before in
-    let named = b-apply .before .before in
-    let listed = named .before .before .before .before .before .before in
-    let one = listed .before .before .before .before .before .before .before in
-    let start = one .before .before .before in
-    (row-falls _ _ _ (one .if1 .left) (start .pre .0) (named .lower2 .ensures .1), tt))
-    (λ c κs.
-    let c-apply = c .before .before .before in
-    let b-choose = c-apply .before .before .before .before in
-    let b-apply = b-choose .before .before .before .before in
-    let named = b-apply .before .before in
-    let listed = named .before .before .before .before .before .before in
-    let one = listed .before .before .before .before .before .before .before in
-    let start = one .before .before .before in
-    (row-falls _ _ _ (one .if1 .left) (start .pre .0) (named .lower2 .ensures .1), tt))
+    (λ c κs. let h = apply-falls t (c .before) in (omega arith, tt))
+    (λ c κs. let h = apply-falls t (c .before .before .before .before .before) in (omega arith, tt))
+    (λ c κs. let h = apply-falls t (c .before .before .before .before .before .before .before .before .before) in (omega arith, tt))
+    (λ c κs. let h = apply-falls t (c .before .before .before .before .before .before .before .before .before .before .before .before .before) in (omega arith, tt))
     (λ c.
     let c-choose = c .before .before in
     let c-apply = c-choose .before .before .before .before in
@@ -181,57 +222,12 @@ pub +list-apply+list-choose-spec : {M : Type 1} → statement M
     (λ c κs. search needs)
     (λ c κs. search needs)
     (λ c. search needs)
-    (λ c κs.
-    let named = c .before .before .before .before .before in
-    let listed = named .before .before .before .before in
-    let one = listed .before .before .before .before .before .before in
-    let start = one .before .before .before in
-    (row-falls _ _ _ (one .if1 .left) (start .pre .0) (named .lower .ensures .1), tt))
-    (λ c κs.
-    let a-apply = c .before .before .before in
-    let named = a-apply .before .before .before .before .before .before in
-    let listed = named .before .before .before .before in
-    let one = listed .before .before .before .before .before .before in
-    let start = one .before .before .before in
-    (row-falls _ _ _ (one .if1 .left) (start .pre .0) (named .lower .ensures .1), tt))
-    (λ c κs.
-    let a-choose = c .before .before .before in
-    let a-apply = a-choose .before .before .before .before in
-    let named = a-apply .before .before .before .before in
-    let listed = named .before .before .before .before .before .before in
-    let one = listed .before .before .before .before .before .before in
-    let start = one .before .before .before in
-    (row-falls _ _ _ (one .if1 .left) (start .pre .0) (named .lower2 .ensures .1), tt))
-    (λ c κs.
-    let b-apply = c .before .before .before in
-    let a-choose = b-apply .before .before .before .before in
-    let a-apply = a-choose .before .before .before .before in
-    let named = a-apply .before .before .before .before in
-    let listed = named .before .before .before .before .before .before in
-    let one = listed .before .before .before .before .before .before in
-    let start = one .before .before .before in
-    (row-falls _ _ _ (one .if1 .left) (start .pre .0) (named .lower2 .ensures .1), tt))
-    (λ c κs.
-    let b-choose = c .before .before .before in
-    let b-apply = b-choose .before .before .before .before in
-    let a-choose = b-apply .before .before .before .before in
-    let a-apply = a-choose .before .before .before .before in
-    let named = a-apply .before .before in
-    let listed = named .before .before .before .before .before .before .before .before in
-    let one = listed .before .before .before .before .before .before in
-    let start = one .before .before .before in
-    (row-falls _ _ _ (one .if1 .left) (start .pre .0) (named .lower3 .ensures .1), tt))
-    (λ c κs.
-    let c-apply = c .before .before .before in
-    let b-choose = c-apply .before .before .before .before in
-    let b-apply = b-choose .before .before .before .before in
-    let a-choose = b-apply .before .before .before .before in
-    let a-apply = a-choose .before .before .before .before in
-    let named = a-apply .before .before in
-    let listed = named .before .before .before .before .before .before .before .before in
-    let one = listed .before .before .before .before .before .before in
-    let start = one .before .before .before in
-    (row-falls _ _ _ (one .if1 .left) (start .pre .0) (named .lower3 .ensures .1), tt))
+    (λ c κs. let h = choose-falls t (c .before) in (omega arith, tt))
+    (λ c κs. let h = choose-falls t (c .before .before .before .before .before) in (omega arith, tt))
+    (λ c κs. let h = choose-falls t (c .before .before .before .before .before .before .before .before .before) in (omega arith, tt))
+    (λ c κs. let h = choose-falls t (c .before .before .before .before .before .before .before .before .before .before .before .before .before) in (omega arith, tt))
+    (λ c κs. let h = choose-falls t (c .before .before .before .before .before .before .before .before .before .before .before .before .before .before .before .before .before) in (omega arith, tt))
+    (λ c κs. let h = choose-falls t (c .before .before .before .before .before .before .before .before .before .before .before .before .before .before .before .before .before .before .before .before .before) in (omega arith, tt))
     (λ c.
     let c-choose = c .before .before in
     let c-apply = c-choose .before .before .before .before in
