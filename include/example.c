@@ -1,6 +1,6 @@
 /*
- * Reads a book, checks it, judges three plans, submits some from Monday to Friday, and asks of each rule
- * whether it is idle, whether it is blocked and by which rules.
+ * Reads a book, checks it, judges three plans, submits some from Monday to Friday, asks of each rule whether
+ * it is idle, whether it is blocked and by which rules, and prints a plan's lineage trees.
  *
  *   rt staticlib capi
  *   cc -Iinclude include/example.c target/staticlib/libcapi.a -o target/example
@@ -104,6 +104,19 @@ static void blocked(const uint8_t *book, size_t length, uint32_t rule)
     printf("\n");
 }
 
+static void tree(const uint8_t *book, size_t length, const uint8_t *plan, size_t plan_length, uint32_t row)
+{
+    static uint8_t text[PSPEC_TREE_MOST];
+    uint64_t answer = pspec_tree(book, length, plan, plan_length, row, text, sizeof text);
+    printf("tree of row %u: ", row);
+    if (pspec_number(answer) != PSPEC_NOT_REFUSED) {
+        print_refusal(answer);
+        return;
+    }
+    printf("%u nodes, %u bytes\n", pspec_nodes(answer), pspec_length(answer));
+    fwrite(text, 1, pspec_length(answer), stdout);
+}
+
 /* The book with a last rule more: user 1 may have category 4 only under operation 2. */
 static size_t with_rule(uint8_t *book, size_t length)
 {
@@ -163,6 +176,11 @@ int main(int count, char **arguments)
     for (uint32_t rule = 0; rule < pspec_value(checked); rule++)
         idle(book, length, rule);
     idle(book, length, pspec_value(checked));
+
+    /* By column 2 it is chosen between column 2 through function 1 and column 0; then that is put out. */
+    static const uint8_t chosen[] = {1, 0, 0, 0, 1, 2, 0, 0, 2, 1, 1, 255, 3, 1, 2, 0, 4, 3, 0, 0};
+    for (uint32_t row = 2; row < 5; row++)
+        tree(book, length, chosen, sizeof chosen, row);
 
     for (uint32_t rule = 0; rule < pspec_value(checked); rule++)
         blocked(book, length, rule);
