@@ -468,11 +468,9 @@ module _ (book plan : List ℕ) (row : ℕ) (before : List ℕ) where
       go (drawing.Written nodes length) h =
           let e : answer ≡ 1048576 * (nodes - 1) + length = same ∙ rw h (omega arith) in
           let parts = tree-parts book plan row before nodes length h in
-          let some = parts .1 in
-          let most = parts .2 in
-          let short = parts .3 in
-          let en : answer / 1048576 + 1 ≡ nodes = omega arith in
-          let el : answer % 1048576 ≡ length = omega arith in
+          let low = parts .1 in
+          let en = ap (λ a. a / 1048576 + 1) e ∙ parts .2 in
+          let el = ap (λ a. a % 1048576) e ∙ parts .3 in
           record {
             accepted = λ l. answer-accepted book plan row before nodes length h;
             accepts = λ g. omega arith;

@@ -365,15 +365,18 @@ module _ (book : List ℕ) (user : ℕ) (plan ledger : List ℕ) (tally : Tally)
 
 module _ (book plan : List ℕ) (row : ℕ) (buffer : List ℕ) (nodes length : ℕ)
     (h : treeAnswer book plan row buffer ≡ drawing.Written nodes length) where
+  abbrev value : ℕ
+  value = 1048576 * (nodes - 1) + length
+
   pub tree-parts :
-      Parts (treePacked (treeAnswer book plan row buffer)) 0 0 (1048576 * (nodes - 1) + length)
-      × (1 ≤ nodes)
-      × (nodes ≤ 4096)
-      × (length < 1048576)
+      Parts (treePacked (treeAnswer book plan row buffer)) 0 0 value
+      × (value < 4294967296)
+      × (value / 1048576 + 1 ≡ nodes)
+      × (value % 1048576 ≡ length)
   unfolding treePacked
   tree-parts =
       let d = answer-draws book plan row buffer nodes length h in
       let some = d .some in
       let most = d .most in
       let short = d .short in
-      (rw h (packed-parts 0 0 (1048576 * (nodes - 1) + length) (omega arith) (omega arith)), some, most, omega arith)
+      (rw h (packed-parts 0 0 value (omega arith) (omega arith)), omega arith, omega arith, omega arith)
