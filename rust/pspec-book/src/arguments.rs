@@ -71,6 +71,7 @@ const HTML: Flag = Flag::with(
         "write the report to FILE as a page to read and print",
     ),
 );
+const NAMES: Flag = Flag::new("--names", "put names beside the row numbers");
 
 /// All commands.
 pub const COMMANDS: &[Command] = &[
@@ -135,6 +136,12 @@ pub const COMMANDS: &[Command] = &[
         operands: &["BOOK", "PLAN"],
         options: &[JSON],
         about: "what a plan gives away",
+    },
+    Command {
+        name: "tree",
+        operands: &["BOOK", "PLAN", "ROW"],
+        options: &[JSON, NAMES],
+        about: "what the value of a plan's row is made of, row by row, for the records",
     },
     Command {
         name: "encode",
@@ -225,6 +232,11 @@ impl Arguments {
         self.option(JSON.word).is_some()
     }
 
+    /// Are names asked for?
+    pub fn names(&self) -> bool {
+        self.option(NAMES.word).is_some()
+    }
+
     /// The value of an option that is given; empty for one without a value.
     pub fn option(&self, word: &str) -> Option<&str> {
         let option = self.options.iter().find(|(given, _)| *given == word);
@@ -252,6 +264,19 @@ pub fn read(words: &[String]) -> Result<Asked, String> {
         let (found, name) = (shown(&words.join(" ")), command.name);
         let usage = command.usage();
         format!("found '{found}'; expected {usage}\n'pspec-book {name} --help' says more")
+    })
+}
+
+/// The number of a row; else what is wrong with the word, and where help is.
+pub fn row(word: &str) -> Result<u32, String> {
+    let digits = word.bytes().all(|digit| digit.is_ascii_digit());
+    let row = word.parse().ok().filter(|_| digits);
+    row.ok_or_else(|| {
+        let found = shown(word);
+        format!(
+            "found '{found}'; expected the number of a row, 0 to 63\n\
+             'pspec-book tree --help' says more"
+        )
     })
 }
 

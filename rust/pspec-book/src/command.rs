@@ -12,7 +12,7 @@ use crate::named::NamedBook;
 use crate::phrases::{counted, shown};
 use crate::plan::{self, PlanText};
 use crate::report::{self, RuleReport};
-use crate::{blocked, build, explain, html, labels, policy, show};
+use crate::{blocked, build, explain, html, labels, lineage_tree, policy, show};
 use std::io::{self, Write};
 
 /// How a command ends that gives its answer.
@@ -49,6 +49,7 @@ fn carry_out(arguments: &Arguments, out: &mut dyn Write) -> Result<Outcome, Faul
         ("labels", [book]) => labels(book, arguments.json(), out),
         ("judge", [book, user, plan]) => judge(book, user, plan, arguments.json(), out),
         ("flows", [book, plan]) => flows(book, plan, arguments.json(), out),
+        ("tree", [book, plan, row]) => tree(book, plan, row, arguments, out),
         ("encode", [book, plan]) => encode(book, plan, arguments.option("-o"), out),
         ("decode", [book, rows @ ..]) => decode(book, &rows.join(" "), out),
         (name, _) => Err(Fault::Usage(format!("found '{name}'"))),
@@ -168,6 +169,33 @@ fn flows(book: &str, plan: &str, json: bool, out: &mut dyn Write) -> Result<Outc
         said(writeln!(out, "{}", access.text(&named.names)))?;
     }
     Ok(Outcome::Fine)
+}
+
+fn tree(
+    book: &str,
+    plan: &str,
+    row: &str,
+    arguments: &Arguments,
+    out: &mut dyn Write,
+) -> Result<Outcome, Fault> {
+    let row = arguments::row(row).map_err(Fault::Usage)?;
+    let named = open(book)?;
+    let refused = |mistakes: Mistakes| Fault::Refused(mistakes.in_file(plan));
+    let read = plan::read(&read_text(plan)?, &named).map_err(refused)?;
+    let tree = named.book.tree(&read.plan, row);
+    let tree =
+        tree.map_err(|refusal| refused(explain::tree(refusal, row, &read, &named).into()))?;
+    match (arguments.json(), arguments.names()) {
+        (true, _) => {
+            let json = lineage_tree::json(row, &tree, &read.plan, &named);
+            said(writeln!(out, "{json}"))
+        }
+        (_, true) => {
+            let text = lineage_tree::text(&tree, &read.plan, &named);
+            said(write!(out, "{text}"))
+        }
+        _ => said(write!(out, "{tree}")),
+    }
 }
 
 fn encode(

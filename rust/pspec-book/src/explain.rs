@@ -10,11 +10,12 @@ use crate::hierarchy::{children, leaves, under};
 use crate::mistake::{mistake, Mistake, Mistakes};
 use crate::named::NamedBook;
 use crate::names::Names;
-use crate::phrases::shown;
-use crate::plan::PlanText;
+use crate::phrases::{counted, shown};
+use crate::plan::{PlanText, NONE};
 use crate::policy::Policy;
 use crate::rule::operations;
-use pspec::Refusal;
+use pspec::{Book, Plan, Refusal};
+use std::collections::BTreeSet;
 
 /// Why the engine refuses the book of a policy: it is asked about each column and each rule alone,
 /// so that all are found.
@@ -214,6 +215,67 @@ fn wrongly_named(other: u8, row: usize, rows: &[[u8; 4]]) -> Option<String> {
              expected a column, a function or a choice"
         )
     })
+}
+
+/// Why the engine gives no tree of a row, with its line or the one at fault. A row that the plan
+/// does not have is missed at the plan's end.
+pub fn tree(refusal: Refusal, row: u32, read: &PlanText, named: &NamedBook) -> Mistake {
+    let number = row as usize;
+    let found = match refusal {
+        Refusal::NoValueRow => no_value(number, &read.plan),
+        Refusal::TreeSize => too_long(number, &read.plan, &named.book),
+        _ => return plan(refusal, read, &named.contents),
+    };
+    let line = read.lines.get(number).or(read.lines.last());
+    refused(line.copied().unwrap_or(1), refusal, found)
+}
+
+/// What a row is that gives no value.
+fn no_value(row: usize, plan: &Plan) -> Option<String> {
+    let what = match plan.rows().nth(row) {
+        None => {
+            let rows = counted(plan.rows().count(), "row");
+            return Some(format!(
+                "found row {row}; the plan has {rows}, counted from 0"
+            ));
+        }
+        Some([4, a, ..]) => format!("the output of row {a}"),
+        Some([5, a, ..]) => format!("a condition on row {a}"),
+        Some(_) => return None,
+    };
+    Some(format!(
+        "found row {row}, {what}, which gives no value; \
+         expected a column, a function or a choice"
+    ))
+}
+
+/// That a tree is too long, and the highest row in it with one that is not.
+fn too_long(row: usize, plan: &Plan, book: &Book) -> Option<String> {
+    let rows: Vec<[u8; 4]> = plan.rows().collect();
+    let mut reached = BTreeSet::from([row]);
+    // A row names rows above it alone, so they come highest number first.
+    while let Some(part) = reached.pop_last() {
+        if book.tree(plan, part as u32).is_ok() {
+            return Some(format!(
+                "found more than 4,096 nodes in the tree of row {row}, as a row reached twice is \
+                 written twice; expected at most 4,096. Row {part} is the highest row in it whose \
+                 tree fits"
+            ));
+        }
+        reached.extend(named_by(*rows.get(part)?));
+    }
+    None
+}
+
+/// The rows that a value is made of.
+fn named_by(row: [u8; 4]) -> Vec<usize> {
+    let named = match row {
+        [2, _, b, NONE] => vec![b],
+        [2, _, b, c] => vec![b, c],
+        [3, a, b, c] => vec![a, b, c],
+        _ => vec![],
+    };
+    named.into_iter().map(usize::from).collect()
 }
 
 /// That the book names no such user.

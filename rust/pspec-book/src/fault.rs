@@ -7,6 +7,6 @@ pub enum Fault {
     Usage(String),
     /// A file can't be read or written, or the names are not the book's.
     File(String),
-    /// The policy, the book, the user or the plan is refused.
+    /// The policy, the book, the user, the plan or the row is refused.
     Refused(String),
 }

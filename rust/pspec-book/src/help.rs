@@ -42,18 +42,25 @@ none. A function of two rows does not count as an operation, nor does anything a
 Names are taken from BOOK.names; without that file they are numbers, such as user0 or data3.
 
 Exit status: 0 when the answer is given and, for judge, no rule is broken; 1 when the policy, the
-book, the user or the plan is refused, or a rule is broken, so that only 0 opens a gate; 2 for wrong
-arguments, a file that can't be read or written, or names of another book; 3 for report --exit-code
-when some rule is idle, and for blocked --exit-code when some rule is blocked. With --json the
-answer is one line of JSON; what is refused is said in words on the other output, and the status is
-the same.
+book, the user, the plan or the row is refused, or a rule is broken, so that only 0 opens a gate; 2
+for wrong arguments, a file that can't be read or written, or names of another book; 3 for report
+--exit-code when some rule is idle, and for blocked --exit-code when some rule is blocked. With
+--json the answer is one line of JSON; what is refused is said in words on the other output, and the
+status is the same.
+
+The tree of a row has a line for each row that its value is made of: the row's number, and column,
+apply or choose. Two spaces further in stand, below an apply, the rows that the function takes, and
+below a choose the row that decides and then the two that it chooses from. A row reached twice is
+written twice, and more than 4,096 lines are refused. With --names each line goes on: with the column
+and its label, the function and its operation, or which row decides. Whether a column is had under
+that operation is said by flows.
 
 For each blocked rule, blocked names a few rules that close its data, itself among them unless it
 asks for nothing. None of the others can be left out, but another set may do as well. A change of the
 rules that opens the data changes at least one of those named. That may not be enough: rules that are
 not named may close the same data. A function for an operation that none had may open them as well.
 
-Every answer about a book comes from the proved engine: the book check, Flows, Judge, Idle, Blocked
-and Culprits. Why a rule is idle is found by asking it about books with rules left out. This program
-stands outside the proof: that a text means the blocks made of it, which accesses break a rule and
-from which lines they come, and the words around an answer are tried by tests only.";
+Every answer about a book comes from the proved engine: the book check, Flows, Judge, Idle, Blocked,
+Culprits and Tree. Why a rule is idle is found by asking it about books with rules left out. This
+program stands outside the proof: that a text means the blocks made of it, which accesses break a
+rule and from which lines they come, and the words around an answer are tried by tests only.";

@@ -1,8 +1,8 @@
 //! Policies as text, over the safe wrapper of the engine.
 //!
 //! A policy file names users, data, columns, functions and rules; `build` makes the engine's blocks
-//! of it and `show` makes text of blocks again. `report`, `blocked`, `judge` and `flows` put the
-//! engine's answers in the policy's names.
+//! of it and `show` makes text of blocks again. `report`, `blocked`, `judge`, `flows` and
+//! `lineage_tree` put the engine's answers in the policy's names.
 //!
 //! All of this stands outside the proved core. The engine decides whether a book is accepted, which
 //! rules a plan breaks and which are idle or blocked; that the text means the blocks is this crate's
@@ -48,6 +48,7 @@ pub mod json;
 pub mod judge;
 pub mod labels;
 pub mod lineage;
+pub mod lineage_tree;
 pub mod mistake;
 pub mod named;
 pub mod names;

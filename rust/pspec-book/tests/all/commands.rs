@@ -241,7 +241,7 @@ fn the_answers_in_the_document() {
     run(&folder, &["build", "tpc-ds.pspec", "-o", "tpc.book"]);
     let document = text("docs/EXAMPLE.md");
     let (_, shown) = document.split_once("```json\n").expect("it is there");
-    let shown: Vec<&str> = shown.lines().take(5).collect();
+    let shown: Vec<&str> = shown.lines().take(6).collect();
     let answer = |arguments: &[&str]| run(&folder, arguments).1;
     assert!(answer(&["report", "shop.book", "--json"]).contains(shown[0]));
     assert!(answer(&["blocked", "tpc.book", "--json"]).contains(shown[4]));
@@ -250,6 +250,7 @@ fn the_answers_in_the_document() {
         (&["labels", "shop.book", "--json"][..], shown[1]),
         (&["judge", "tpc.book", "Analyst", plan, "--json"], shown[2]),
         (&["flows", "tpc.book", plan, "--json"], shown[3]),
+        (&["tree", "tpc.book", plan, "2", "--json"], shown[5]),
     ] {
         assert_eq!(answer(arguments).trim_end(), shown);
     }

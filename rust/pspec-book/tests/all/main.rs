@@ -9,6 +9,7 @@ mod examples;
 mod format;
 mod idle;
 mod imports;
+mod lineage_tree;
 mod mistakes;
 mod page;
 mod program;
