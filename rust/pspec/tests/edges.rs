@@ -1,7 +1,7 @@
 //! Empty slices, and slices in the middle of other bytes.
 
 use books::named::{opposed_shop, small_shop};
-use pspec::{raw, seal, Book, Causes, Ledger, Plan, Refusal, Reply, Tally, Verdict};
+use pspec::{raw, seal, Book, Causes, Ledger, Node, Plan, Refusal, Reply, Tally, Verdict};
 
 fn refusal(answer: u64) -> Refusal {
     raw::value(answer).expect_err("it is refused")
@@ -25,6 +25,10 @@ fn empty_slices() {
     assert_eq!(refusal(submit(&[])), Refusal::BookLength);
     assert_eq!(refusal(submit(&book)), Refusal::LedgerLength);
     assert_eq!(tally, raw::Tally::default());
+    let tree = |book: &[u8], plan: &[u8]| refusal(raw::tree(book, plan, 0, &mut []));
+    assert_eq!(tree(&[], &[]), Refusal::BookLength);
+    assert_eq!(tree(&book, &[]), Refusal::NoValueRow);
+    assert_eq!(tree(&book, &[1, 0, 0, 0]), Refusal::TreeSize);
 }
 
 #[test]
@@ -60,6 +64,13 @@ fn nothing_outside_a_buffer_is_written() {
         declined: 7,
     };
     assert_eq!(tallies, [around, raised, around]);
+
+    let mut buffer = [7; 30];
+    let average = [1, 2, 0, 0, 2, 1, 0, 255];
+    let answer = raw::tree(&book, &average, 1, &mut buffer[4..23]);
+    assert_eq!(raw::value(answer).map(raw::drawn), Ok((2, 19)));
+    assert_eq!(&buffer[4..23], b"1 apply\n  0 column\n");
+    assert_eq!((&buffer[..4], &buffer[23..]), (&[7; 4][..], &[7; 7][..]));
 
     let mut bytes = [0; 520];
     bytes[3] = 4;
@@ -134,6 +145,62 @@ fn no_others_behind_a_block() {
         panic!("no function has what it asks for");
     };
     assert!(others.is_empty());
+}
+
+/// The value as the header packs it, at both ends of the buffer's length and of the row's number.
+#[test]
+fn trees_and_their_room() {
+    let bytes = small_shop().bytes();
+    let book = Book::new(bytes.clone()).expect("it is sound");
+    let plan = [1, 2, 0, 0, 3, 0, 0, 0, 4, 1, 0, 0];
+    let text = b"1 choose\n  0 column\n  0 column\n  0 column\n";
+    for (length, answer) in [(41, 30 << 40), (42, (3 << 20) + 42), (43, (3 << 20) + 42)] {
+        let mut buffer = vec![7; length];
+        assert_eq!(raw::tree(&bytes, &plan, 1, &mut buffer), answer);
+        let mut wanted = vec![7; length];
+        if length >= text.len() {
+            wanted[..text.len()].copy_from_slice(text);
+        }
+        assert_eq!(buffer, wanted);
+    }
+    let plan = Plan::new(plan);
+    for row in [2, 3, 63, 64, 255, 256, 257, 1 << 16, u32::MAX] {
+        assert_eq!(book.tree(&plan, row), Err(Refusal::NoValueRow));
+    }
+    assert_eq!(
+        book.tree(&Plan::new([1, 2, 0]), 0),
+        Err(Refusal::PlanLength)
+    );
+}
+
+/// Chains of Choose and of Apply rows up to the last row, at both ends of what is written.
+#[test]
+fn large_trees() {
+    let book = Book::new(small_shop().bytes()).expect("it is sound");
+    let chain = |first: [u8; 4], next: fn(u8) -> [u8; 4]| {
+        let rows = std::iter::once(first).chain((0..63).map(next));
+        Plan::new(rows.flatten().collect::<Vec<u8>>())
+    };
+    let chosen = chain([1, 2, 0, 0], |i| [3, i, i, i]);
+    let nodes = |plan: &Plan, row| book.tree(plan, row).map(|tree| tree.node_count());
+    assert_eq!(nodes(&chosen, 7), Ok(3_280));
+    for row in 8..64 {
+        assert_eq!(nodes(&chosen, row), Err(Refusal::TreeSize));
+    }
+    // Apply of two rows eleven times, then of one row.
+    let applied = chain([1, 2, 0, 0], |i| [2, 0, i, if i < 11 { i } else { 255 }]);
+    assert_eq!(nodes(&applied, 11), Ok(4_095));
+    assert_eq!(nodes(&applied, 12), Ok(4_096));
+    assert_eq!(nodes(&applied, 13), Err(Refusal::TreeSize));
+    let deep = chain([1, 2, 0, 0], |i| [2, 0, i, 255]);
+    let tree = book.tree(&deep, 63).expect("it has 64 nodes");
+    assert_eq!(tree.node_count(), 64);
+    assert!(tree.nodes().eq((0..64).map(|level| Node {
+        level,
+        row: 63 - level
+    })));
+    let last = format!("{}0 column\n", " ".repeat(126));
+    assert!(tree.text().ends_with(&last));
 }
 
 #[test]

@@ -72,6 +72,25 @@ fn the_plans_are_judged_so() {
 }
 
 #[test]
+fn the_tree_is_written_so() {
+    let format = text("docs/FORMAT.md");
+    let (_, tree) = format
+        .split_once("**The lineage tree")
+        .expect("it is there");
+    let (words, tree) = tree.split_once("```text\n").expect("it is there");
+    let (tree, _) = tree.split_once("```").expect("it ends");
+    let (_, rows) = words.split_once("the plan `").expect("it is there");
+    let (rows, words) = rows.split_once('`').expect("it ends");
+    let book = Book::new(small_shop()).expect("it is sound");
+    let drawn = book.tree(&Plan::new(hexadecimal(rows)), 3);
+    let drawn = drawn.expect("it is a value row");
+    assert_eq!(drawn.text(), tree);
+    let words: Vec<&str> = words.split_whitespace().collect();
+    let counts = format!("{} nodes and {} bytes:", drawn.node_count(), tree.len());
+    assert!(words.join(" ").ends_with(&counts));
+}
+
+#[test]
 fn the_days_are_replied_to_so() {
     let book = Book::new(small_shop()).expect("it is sound");
     let format = text("docs/FORMAT.md");
