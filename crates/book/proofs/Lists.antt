@@ -11,7 +11,7 @@ use lib.ListN.{length, getD, take, drop, length-take, length-drop, drop-of-lengt
 use lib.Seq.{take-all, take-nil, take-suc}
 use lib.Dec.{eqb, ltb}
 use borrow.Author.Tests.{not-true, ltb-true, lt-ltb, eqb-true, eq-eqb}
-use Rattle.book.specs.Lists.{from, upTo, all, any}
+use Rattle.book.specs.Lists.{from, upTo, all, any, keep}
 
 -- Parts of a list
 
@@ -171,6 +171,17 @@ ltb-more j k n =
 pub by-cases : {A : Type 0} (b : Bool) (x y : A) → (elim b as (λ t. A) [ true ↦ x | false ↦ y ]) ≡ cond b x y
 by-cases true x y = refl
 by-cases false x y = refl
+
+-- What is kept of a list, one element more
+
+module _ {A : Type 0} (f : A → Bool) (x : A) (l : List A) where
+  pub keep-in : f x ≡ true → keep f (x ∷ l) ≡ x ∷ keep f l
+  unfolding keep
+  keep-in h = rw (keep, h)
+
+  pub keep-out : f x ≡ false → keep f (x ∷ l) ≡ keep f l
+  unfolding keep
+  keep-out h = rw (keep, h)
 
 -- Quantifiers over a list
 

@@ -11,12 +11,12 @@ use Rattle.book.specs.Lists.{any, keep}
 use Rattle.book.specs.Blocks.{headOf}
 use Rattle.book.specs.Refusals.{BookAccepted}
 use Rattle.book.specs.declared.Refusal.{Refusal}
+use Rattle.book.proofs.Lists.{keep-in, keep-out}
 use Rattle.lineage.specs.Accesses.{accessWords}
 use Rattle.verdicts.specs.Accesses.{Access, accessesOf, union}
 use Rattle.verdicts.specs.Breaking.{brokenMask}
 use Rattle.verdicts.proofs.Held.{held-operations, held-zero}
 use Rattle.verdicts.proofs.DemandLaws.{query-demand}
-use Rattle.verdicts.proofs.Quantifiers.{keep-in, keep-out}
 use Rattle.verdicts.proofs.Verdict.{broken-none, mask-same, nothing-broken}
 use Rattle.ledger.specs.Ledger.{heldFor, wordsOf}
 use Rattle.ledger.specs.Answers.{joinedAccesses, unionMask, ledgerAfter, submitLedger}

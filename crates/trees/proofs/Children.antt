@@ -9,12 +9,11 @@ use lib.Dec.{eqb}
 use borrow.Author.Tests.{le-ltb, ne-eqb}
 use Rattle.book.specs.Lists.{keep}
 use Rattle.book.specs.Blocks.{headOf}
-use Rattle.book.proofs.Lists.{and-both}
+use Rattle.book.proofs.Lists.{and-both, keep-in, keep-out}
 use Rattle.lineage.specs.Rows.{Choose, kindAt, names, soundAs, rowA, rowB, rowC, rowHolds}
 use Rattle.lineage.proofs.Accepted.{accepted-plan, apply-holds}
 use Rattle.trees.specs.Trees.{rowBytes, children}
 use Rattle.trees.specs.Demand.{Children, EveryChild}
-use Rattle.trees.proofs.Nodes.{kept, dropped}
 
 module _ (head plan : List ℕ) (i : ℕ) (low : i < 64) (holds : rowHolds head plan i ≡ true) where
   -- 255 is no row of a plan of 64
@@ -55,18 +54,18 @@ module _ (head plan : List ℕ) (i : ℕ) (low : i < 64) (holds : rowHolds head 
         column = λ k. rw k none-kept;
         apply-one = λ k e.
             let h = apply-holds head plan i holds k in
-            rw k (kept named b (c ∷ []) (h .1) ∙ ap (λ xs. b ∷ xs) (dropped named c [] (no-second e) ∙ none-kept));
+            rw k (keep-in named b (c ∷ []) (h .1) ∙ ap (λ xs. b ∷ xs) (keep-out named c [] (no-second e) ∙ none-kept));
         apply-two = λ k n.
             let h = apply-holds head plan i holds k in
             rw k (two b c (h .1) (second n (h .2)));
         choose = λ k.
             let h = choose-named k in
-            rw k (kept named a (b ∷ c ∷ []) (h .0) ∙ ap (λ xs. a ∷ xs) (two b c (h .1) (h .2)));
+            rw k (keep-in named a (b ∷ c ∷ []) (h .0) ∙ ap (λ xs. a ∷ xs) (two b c (h .1) (h .2)));
       }
     where
       two : (x y : ℕ) → named x ≡ true → named y ≡ true → keep named (x ∷ y ∷ []) ≡ x ∷ y ∷ []
       two x y p q =
-          kept named x (y ∷ []) p ∙ ap (λ xs. x ∷ xs) (kept named y [] q ∙ ap (λ xs. y ∷ xs) none-kept)
+          keep-in named x (y ∷ []) p ∙ ap (λ xs. x ∷ xs) (keep-in named y [] q ∙ ap (λ xs. y ∷ xs) none-kept)
 
 pub every-child : (book plan : List ℕ) → EveryChild book plan
 every-child book plan both i there =

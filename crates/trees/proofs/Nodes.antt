@@ -8,7 +8,7 @@ use mathlib.Core.List.{List, [], _∷_, _++_, append-nil}
 use lib.Dec.{ltb}
 use borrow.Author.Tests.{ltb-true, ne-eqb}
 use Rattle.book.specs.Lists.{flat, keep}
-use Rattle.book.proofs.Lists.{and-false, by-cases}
+use Rattle.book.proofs.Lists.{and-false}
 use Rattle.lineage.specs.Rows.{Kind, Column, Apply, Choose, Output, Condition, Unknown}
 use Rattle.lineage.specs.Rows.{kindByte, kindOf, kindAt, isValue, names, rowA, rowB, rowC}
 use Rattle.lineage.proofs.Accepted.{names-both}
@@ -16,17 +16,6 @@ use Rattle.trees.specs.Trees.{Node, rowBytes, children, nodesIn, nodesFr
 use Rattle.trees.specs.Inner.Walks.{ofApply, ofChoose, isRow, lowerRow, applyNodes, chooseNodes}
 
 -- What is kept of a list, and the lists that a function gives for it
-
-module _ {A : Type 0} (f : A → Bool) (x : A) (xs : List A) where
-  keep-step : keep f (x ∷ xs) ≡ cond (f x) (x ∷ keep f xs) (keep f xs)
-  unfolding keep
-  keep-step = by-cases (f x) (x ∷ keep f xs) (keep f xs)
-
-  pub kept : f x ≡ true → keep f (x ∷ xs) ≡ x ∷ keep f xs
-  kept h = rw (keep-step, h)
-
-  pub dropped : f x ≡ false → keep f (x ∷ xs) ≡ keep f xs
-  dropped h = rw (keep-step, h)
 
 module _ {A B : Type 0} (f : A → Bool) (g h : A → List B) where
   keep-same :

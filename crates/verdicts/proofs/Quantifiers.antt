@@ -42,16 +42,6 @@ module _ {A : Type 0} (f : A → Bool) where
       go true e = rw e
       go false e = e
 
--- one element more
-module _ {A : Type 0} (f : A → Bool) (x : A) (l : List A) where
-  pub keep-in : f x ≡ true → keep f (x ∷ l) ≡ x ∷ keep f l
-  unfolding keep
-  keep-in h = rw (keep, h)
-
-  pub keep-out : f x ≡ false → keep f (x ∷ l) ≡ keep f l
-  unfolding keep
-  keep-out h = rw (keep, h)
-
 -- The numbers below n
 
 pub all-below : (n : ℕ) → all (λ k. ltb k n) (upTo n) ≡ true
