@@ -24,6 +24,7 @@ pub mod random;
 pub mod relatives;
 pub mod shop;
 pub mod submissions;
+pub mod trees;
 pub mod valid;
 
 pub use case::Case;

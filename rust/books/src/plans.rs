@@ -80,16 +80,18 @@ pub fn few(random: &mut Random, draft: &Draft) -> Vec<u8> {
     plan.rows.concat()
 }
 
+/// A plan that is being made.
 #[derive(Default)]
-struct Plan {
-    rows: Vec<[u8; 4]>,
+pub(crate) struct Plan {
+    /// Its rows.
+    pub(crate) rows: Vec<[u8; 4]>,
     /// The rows of kind 1 to 3, which others may name.
     namable: Vec<u8>,
 }
 
 impl Plan {
     /// Adds a row, and gives its number.
-    fn add(&mut self, row: [u8; 4]) -> u8 {
+    pub(crate) fn add(&mut self, row: [u8; 4]) -> u8 {
         let number = self.rows.len() as u8;
         if row[0] <= 3 {
             self.namable.push(number);

@@ -1,4 +1,4 @@
-//! The eight calls: what is refused, in the documents' order, and what is answered.
+//! The nine calls: what is refused, in the documents' order, and what is answered.
 
 use crate::access::Access;
 use crate::blocked::{self, Datum};
@@ -6,7 +6,9 @@ use crate::book::Book;
 use crate::culprits::{self, Others};
 use crate::idle::{self, Found};
 use crate::ledger::{self, Tally};
+use crate::plan::Row;
 use crate::refusal::*;
+use crate::tree::{self, MOST};
 use crate::{block, breaking, path, plan, reading, shown};
 use std::collections::BTreeSet;
 
@@ -228,4 +230,31 @@ pub fn submit(
         tally.declined += 1;
     }
     Ok(mask)
+}
+
+/// **Tree** (document 02, N7). "The tree of a value row is written to the front of a lent buffer, the
+/// rest unchanged". The node count is "returned with the text's length".
+pub fn tree(book: &[u8], plan: &[u8], row: u32, buffer: &mut [u8]) -> Result<(u32, u32), Refusal> {
+    let book = reading::read(book)?;
+    let rows = plan::read(plan, &book)?;
+    let (row, nodes) = a_value_row(&rows, row).ok_or(Refusal::of(NO_VALUE_ROW))?;
+    let text = text(&rows, row, nodes).filter(|text| text.len() <= buffer.len());
+    let text = text.ok_or(Refusal::of(TREE_SIZE))?;
+    buffer[..text.len()].copy_from_slice(text.as_bytes());
+    Ok((nodes as u32, text.len() as u32))
+}
+
+/// A row "of kind 1 to 3", and the nodes of its tree.
+fn a_value_row(rows: &[Row], row: u32) -> Option<(usize, u128)> {
+    let row = usize::try_from(row).ok()?;
+    let nodes = *tree::counts(rows).get(row)?;
+    nodes.map(|nodes| (row, nodes))
+}
+
+/// "The node count is worked out before anything is written".
+fn text(rows: &[Row], row: usize, nodes: u128) -> Option<String> {
+    if nodes > MOST {
+        return None;
+    }
+    tree::of(rows, row).map(|tree| tree.text())
 }

@@ -1,4 +1,4 @@
-//! A second implementation of the eight calls of the policy engine.
+//! A second implementation of the nine calls of the policy engine.
 //!
 //! It is written from the sentences of documents 01 and 02, each quoted where it is followed, with
 //! ordinary sets, explicit paths and explicit choices. It is made to be read and believed, not to be quick:
@@ -29,12 +29,13 @@ pub mod reading;
 pub mod refusal;
 pub mod rule;
 pub mod shown;
+pub mod tree;
 
 mod calls;
 
 pub use calls::{
     blocked, blocked_naive, blocked_within, check, culprits, culprits_naive, culprits_within,
-    flows, idle, idle_naive, idle_within, judge, seal, submit,
+    flows, idle, idle_naive, idle_within, judge, seal, submit, tree,
 };
 pub use ledger::Tally;
 pub use refusal::Refusal;

@@ -19,8 +19,8 @@ pub enum Row {
 }
 
 impl Row {
-    /// The rows that a row names.
-    fn named(self) -> Vec<usize> {
+    /// The rows that a row names, in the order a, b, c.
+    pub fn named(self) -> Vec<usize> {
         match self {
             Row::Column(_) => vec![],
             Row::Apply(_, b, c) => [Some(b), c].into_iter().flatten().collect(),

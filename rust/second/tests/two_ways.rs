@@ -1,12 +1,12 @@
 //! Where there are two ways to an answer, both give it, on small random books.
 
 use books::valid::{draft, Size};
-use books::{plans, Random};
+use books::{plans, trees, Random};
 use second::access::Access;
 use second::book::Book;
 use second::path::Applied;
 use second::plan::Row;
-use second::{blocked, breaking, choice, culprits, idle, path, plan, reading};
+use second::{blocked, breaking, choice, culprits, idle, path, plan, reading, tree};
 use std::collections::BTreeSet;
 use std::fmt::Debug;
 
@@ -50,6 +50,61 @@ fn accesses_by_paths_and_by_rows() {
     }
     println!("{compared} accesses; operations below a mix in {below} plans, above in {above}");
     assert!(compared > 1_000 && below > 50 && above > 50);
+}
+
+/// The lines of each row's tree, row by row: its own, and those of its children two spaces further in. A
+/// row with more than so many has none.
+fn lines_from_below(plan: &[u8], most: usize) -> Vec<Option<Vec<String>>> {
+    let mut all: Vec<Option<Vec<String>>> = Vec::new();
+    for row in plan.chunks(4) {
+        let (word, children): (&str, &[u8]) = match *row {
+            [1, ..] => ("column", &[]),
+            [2, .., 255] => ("apply", &row[2..3]),
+            [2, ..] => ("apply", &row[2..]),
+            [3, ..] => ("choose", &row[1..]),
+            _ => ("", &[]),
+        };
+        let own = vec![format!("{} {word}\n", all.len())];
+        let lines = children.iter().try_fold(own, |mut lines, &child| {
+            let lower = all[usize::from(child)].as_ref()?;
+            lines.extend(lower.iter().map(|line| format!("  {line}")));
+            (lines.len() <= most).then_some(lines)
+        });
+        all.push(lines.filter(|_| !word.is_empty()));
+    }
+    all
+}
+
+/// And they are as many as was counted before, and at most 3 to the power (i + 1).
+#[test]
+fn trees_by_nodes_and_from_below() {
+    let mut random = Random::new(18);
+    let [mut compared, mut large] = [0, 0];
+    for i in 0..300 {
+        let draft = draft(&mut random, Size::Tiny);
+        let book = reading::read(&draft.bytes()).expect("the draft is sound");
+        let bytes = match i % 3 {
+            0 => plans::sound(&mut random, &draft),
+            _ => trees::grown(&mut random, &draft, 2 * i + 3_800),
+        };
+        let rows = plan::read(&bytes, &book).expect("the plan is sound");
+        let counts = tree::counts(&rows);
+        for (row, lines) in lines_from_below(&bytes, 4_096).into_iter().enumerate() {
+            let count = counts[row];
+            assert!(count <= Some(3u128.pow(row as u32 + 1)));
+            let Some(lines) = lines else {
+                large += usize::from(count.is_some());
+                assert!(count.is_none() || count > Some(tree::MOST));
+                continue;
+            };
+            assert_eq!(count, Some(lines.len() as u128));
+            let node = tree::of(&rows, row).expect("it is a value row");
+            assert_eq!(node.text(), lines.concat());
+            compared += 1;
+        }
+    }
+    println!("{compared} trees, {large} too large");
+    assert!(compared > 1_000 && large > 100);
 }
 
 /// Tries every rule of so many random books that has few choices.
