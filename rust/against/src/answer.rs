@@ -1,6 +1,6 @@
 //! What an engine answers to a case.
 
-use crate::engine::{unpacked, Engine};
+use crate::engine::{nodes_and_length, unpacked, Engine};
 use books::Case;
 use second::Refusal;
 use std::fmt;
@@ -30,13 +30,15 @@ pub enum Answer {
     Admitted,
     /// Submit: the plan is declined, and the mask of broken rules.
     Declined(u32),
+    /// Tree: the nodes and the text's length, as they are packed.
+    Written(u32),
     /// The call is refused.
     Refused(Refusal),
     /// No engine's answer: what Idle may say of a rule that some plan breaks alone.
     NotIdle,
     /// No engine's answer: what Blocked may say of a rule whose data some plan opens.
     NotClosed,
-    /// No engine's answer: what the documents state of every list of submissions.
+    /// No engine's answer: what the documents state of every list of submissions, or of every answer.
     Stated(&'static str),
     /// The engine gave up; nothing can be compared.
     GaveUp,
@@ -56,6 +58,7 @@ impl fmt::Display for Answer {
             Answer::Few(mask) => few(f, *mask),
             Answer::Admitted => write!(f, "admitted"),
             Answer::Declined(mask) => write!(f, "declined, broken {mask:#x}"),
+            Answer::Written(value) => written(f, *value),
             Answer::Refused(Refusal { number, place }) => write!(f, "refused {number} at {place}"),
             Answer::NotIdle => write!(f, "not idle, as a user and a plan break it alone"),
             Answer::NotClosed => write!(f, "not closed, as a plan opens it"),
@@ -72,6 +75,11 @@ fn closed(f: &mut fmt::Formatter<'_>, value: u32) -> fmt::Result {
         write!(f, ", {:?} {}", datum.action, datum.leaf)?;
     }
     Ok(())
+}
+
+fn written(f: &mut fmt::Formatter<'_>, value: u32) -> fmt::Result {
+    let (nodes, length) = nodes_and_length(value);
+    write!(f, "written ({value:#010x}), {nodes} nodes, {length} bytes")
 }
 
 fn few(f: &mut fmt::Formatter<'_>, mask: u32) -> fmt::Result {
@@ -112,6 +120,7 @@ pub fn of(engine: &dyn Engine, case: &mut Case) -> Answer {
             0 => Answer::Admitted,
             _ => Answer::Declined(mask),
         }),
+        Case::Tree(given) => engine.tree(given).map(Answer::Written),
     };
     answer.unwrap_or_else(Answer::Refused)
 }

@@ -1,6 +1,7 @@
 //! The engines that can be tried.
 
 use books::submissions::Submit;
+use books::trees::Tree;
 #[cfg(feature = "engine")]
 use pspec::raw;
 use second::access::Action;
@@ -18,7 +19,7 @@ pub type Blocking = Option<Result<u32, Refusal>>;
 /// among the others and 0 for a rule that is not blocked.
 pub type Causes = Option<Result<u32, Refusal>>;
 
-/// The eight calls of an engine.
+/// The nine calls of an engine.
 pub trait Engine {
     /// What it is called in reports.
     fn name(&self) -> &'static str;
@@ -38,6 +39,9 @@ pub trait Engine {
     fn culprits(&self, book: &[u8], rule: u32) -> Causes;
     /// Submit: the ledger and the counts are changed as the call changes them.
     fn submit(&self, given: &mut Submit) -> Result<u32, Refusal>;
+    /// Tree: the value as C has it, so that every bit of it is compared. The memory is changed as the
+    /// call changes it.
+    fn tree(&self, given: &mut Tree) -> Result<u32, Refusal>;
 }
 
 /// The second implementation, with one of its searches.
@@ -109,6 +113,11 @@ impl Engine for Second {
         (given.admitted, given.declined) = (tally.admitted, tally.declined);
         answer
     }
+    fn tree(&self, given: &mut Tree) -> Result<u32, Refusal> {
+        let buffer = &mut given.memory[..given.lent];
+        let answer = second::tree(&given.book, &given.plan, given.row, buffer);
+        answer.map(|(nodes, length)| with_length(nodes, length))
+    }
 }
 
 /// A user and an association as the header packs them: user × 2^24, and for reference i
@@ -128,6 +137,16 @@ pub fn packed(user: u32, data: &[Datum]) -> u32 {
 /// A mask of other rules as the header packs it: + 2^rule.
 pub fn with_asking(others: u32, rule: u32) -> u32 {
     others + (1 << rule)
+}
+
+/// The nodes of a tree and the length of its text as the header packs them: (nodes − 1) × 2^20 + length.
+pub fn with_length(nodes: u32, length: u32) -> u32 {
+    ((nodes - 1) << 20) + length
+}
+
+/// A value of Tree taken apart again: the nodes and the length.
+pub fn nodes_and_length(value: u32) -> (u32, u32) {
+    ((value >> 20) + 1, value % (1 << 20))
 }
 
 /// A value of Blocked that is not 0 taken apart again.
@@ -193,6 +212,10 @@ impl Engine for Proved {
         let answer = raw::submit(&given.book, given.user, &given.plan, ledger, &mut tally);
         (given.admitted, given.declined) = (tally.admitted, tally.declined);
         value(answer)
+    }
+    fn tree(&self, given: &mut Tree) -> Result<u32, Refusal> {
+        let buffer = &mut given.memory[..given.lent];
+        value(raw::tree(&given.book, &given.plan, given.row, buffer))
     }
 }
 

@@ -1,4 +1,4 @@
-//! Tries one engine against another on random books: all eight calls, answers and buffers.
+//! Tries one engine against another on random books: all nine calls, answers and buffers.
 #![forbid(unsafe_code)]
 #![warn(missing_docs)]
 
@@ -13,6 +13,8 @@ pub mod reached;
 pub mod run;
 pub mod submissions;
 pub mod text;
+pub mod tree;
+pub mod tree_counts;
 
 pub use compare::Difference;
 pub use engine::Engine;

@@ -4,6 +4,7 @@ use crate::actions::{self, PAIRS};
 use crate::answer::Answer;
 use crate::engine::unpacked;
 use crate::mixing::{self, MISREADINGS};
+use crate::tree_counts::TreeCounts;
 use books::draft::BLOCK;
 use books::Case;
 use second::access::Access;
@@ -13,8 +14,8 @@ use std::collections::BTreeMap;
 use std::fmt;
 
 /// Every refusal number that the calls have.
-pub const REFUSALS: [u32; 19] = [
-    1, 2, 3, 4, 5, 6, 7, 8, 9, 10, 20, 21, 22, 23, 24, 25, 26, 27, 28,
+pub const REFUSALS: [u32; 21] = [
+    1, 2, 3, 4, 5, 6, 7, 8, 9, 10, 20, 21, 22, 23, 24, 25, 26, 27, 28, 29, 30,
 ];
 
 /// Those of Blocked, "book refusals, 24, then 26 if the rule forbids", and of Culprits.
@@ -22,6 +23,9 @@ pub const BLOCKED_REFUSALS: [u32; 11] = [1, 2, 3, 4, 5, 6, 7, 8, 9, 24, 26];
 
 /// Those of Submit: "Judge's refusals, then 27 [..] then 28".
 pub const SUBMIT_REFUSALS: [u32; 14] = [1, 2, 3, 4, 5, 6, 7, 8, 9, 20, 21, 22, 27, 28];
+
+/// Those of Tree: "Flows' refusals 1 to 22, then 29 [..] then 30".
+pub const TREE_REFUSALS: [u32; 13] = [1, 2, 3, 4, 5, 6, 7, 8, 9, 21, 22, 29, 30];
 
 /// How often each thing happened.
 #[derive(Clone, Debug, Default, PartialEq, Eq)]
@@ -78,6 +82,8 @@ pub struct Reached {
     pub histories: u64,
     /// Of these, those in which plans are admitted, declined and refused.
     pub mixed_histories: u64,
+    /// What was reached of Tree.
+    pub trees: TreeCounts,
     /// Searches that were given up.
     pub given_up: u64,
 }
@@ -95,6 +101,9 @@ impl Reached {
     pub fn count(&mut self, case: &Case, answer: Answer) {
         self.cases += 1;
         *self.calls.entry(call(case)).or_default() += 1;
+        if let Case::Tree(given) = case {
+            self.trees.count(given, answer);
+        }
         match answer {
             Answer::Refused(refusal) => {
                 let of = (call(case), refusal.number);
@@ -110,7 +119,7 @@ impl Reached {
             Answer::Few(mask) => self.count_causes(case, mask),
             Answer::Admitted | Answer::Declined(_) => self.count_submitted(case, answer),
             Answer::Done => self.count_flows(case),
-            Answer::Rules(_) => {}
+            Answer::Rules(_) | Answer::Written(_) => {}
             Answer::NotIdle | Answer::NotClosed | Answer::Stated(_) => {}
         }
     }
@@ -269,6 +278,7 @@ fn call(case: &Case) -> &'static str {
         Case::Blocked { .. } => "blocked",
         Case::Culprits { .. } => "culprits",
         Case::Submit(_) => "submit",
+        Case::Tree(_) => "tree",
     }
 }
 
@@ -373,6 +383,7 @@ impl fmt::Display for Reached {
         )?;
         writeln!(f, "; {} searches given up", self.given_up)?;
         writeln!(f, "{}", self.by_others())?;
-        write!(f, "{}", self.by_reply())
+        writeln!(f, "{}", self.by_reply())?;
+        write!(f, "{}", self.trees)
     }
 }

@@ -7,6 +7,7 @@ use crate::culprits::try_causes;
 use crate::engine::Engine;
 use crate::reached::Reached;
 use crate::submissions::{try_history, try_submission};
+use crate::tree::try_tree;
 use books::{case, submissions, Case, Random};
 use std::time::{Duration, Instant};
 
@@ -51,8 +52,8 @@ pub fn run(
 }
 
 /// Compares a case. Then what Idle shows is judged, and what Blocked says is closed; what Culprits says is
-/// held against both Blocked and Judge; a rule that a plan breaks alone is asked for; and a submission is
-/// gone through by its sentences.
+/// held against both Blocked and Judge; a rule that a plan breaks alone is asked for; a submission is gone
+/// through by its sentences; and the text of a tree is read back.
 pub fn try_case(
     engines: [&dyn Engine; 2],
     case: &Case,
@@ -71,6 +72,7 @@ pub fn try_case(
         }
         (Case::Culprits { book, rule }, answer) => try_causes(engines, book, *rule, answer),
         (Case::Submit(given), answer) => try_submission(engines, given, answer),
+        (Case::Tree(given), answer) => try_tree(engines, given, answer),
         _ => Ok(()),
     }
 }

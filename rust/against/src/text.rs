@@ -1,6 +1,7 @@
 //! Cases as text, one word and its value a line, bytes in hexadecimal digits.
 
 use books::submissions::Submit;
+use books::trees::Tree;
 use books::Case;
 use std::collections::BTreeMap;
 
@@ -27,6 +28,7 @@ pub fn write(case: &Case) -> String {
         Case::Blocked { book, rule } => ("blocked", rule_fields(book, *rule)),
         Case::Culprits { book, rule } => ("culprits", rule_fields(book, *rule)),
         Case::Submit(given) => ("submit", submit_fields(given)),
+        Case::Tree(given) => ("tree", tree_fields(given)),
     };
     let mut text = format!("call {call}\n");
     for (name, value) in fields {
@@ -47,6 +49,16 @@ fn submit_fields(given: &Submit) -> Vec<(&'static str, String)> {
         ("ledger", hex_words(&given.ledger)),
         ("admitted", given.admitted.to_string()),
         ("declined", given.declined.to_string()),
+    ]
+}
+
+fn tree_fields(given: &Tree) -> Vec<(&'static str, String)> {
+    vec![
+        ("book", hex(&given.book)),
+        ("plan", hex(&given.plan)),
+        ("row", given.row.to_string()),
+        ("lent", given.lent.to_string()),
+        ("memory", hex(&given.memory)),
     ]
 }
 
@@ -86,6 +98,7 @@ pub fn read(text: &str) -> Result<Case, String> {
         "blocked" => of_rule(|book, rule| Case::Blocked { book, rule }),
         "culprits" => of_rule(|book, rule| Case::Culprits { book, rule }),
         "submit" => Ok(Case::Submit(submit(bytes, number)?)),
+        "tree" => Ok(Case::Tree(tree(bytes, number)?)),
         other => Err(format!("no call {other}")),
     }
 }
@@ -102,6 +115,25 @@ fn submit(
         ledger: words(&bytes("ledger")?)?,
         admitted: number("admitted")?,
         declined: number("declined")?,
+    })
+}
+
+/// A call of Tree, by its fields. No more is lent than there is.
+fn tree(
+    bytes: impl Fn(&str) -> Result<Vec<u8>, String>,
+    number: impl Fn(&str) -> Result<u32, String>,
+) -> Result<Tree, String> {
+    let memory = bytes("memory")?;
+    let lent = number("lent")? as usize;
+    if lent > memory.len() {
+        return Err(format!("{lent} bytes are lent of {}", memory.len()));
+    }
+    Ok(Tree {
+        book: bytes("book")?,
+        plan: bytes("plan")?,
+        row: number("row")?,
+        lent,
+        memory,
     })
 }
 
@@ -164,6 +196,13 @@ mod tests {
         };
         assert!(submit("4294967295").is_ok());
         assert!(submit("4294967296").is_err() && submit("-1").is_err());
+        let tree = |lent| {
+            read(&format!(
+                "call tree\nbook\nplan\nrow 0\nlent {lent}\nmemory 0a0b"
+            ))
+        };
+        assert!(tree("0").is_ok() && tree("2").is_ok());
+        assert!(tree("3").is_err() && tree("-1").is_err());
     }
 
     #[test]

@@ -1,7 +1,7 @@
 //! A fixed seed: no difference, and everything reached.
 
 use against::engine::{by_name, USUAL};
-use against::reached::{BLOCKED_REFUSALS, SUBMIT_REFUSALS};
+use against::reached::{BLOCKED_REFUSALS, SUBMIT_REFUSALS, TREE_REFUSALS};
 use against::{run, Limit, Reached};
 
 /// What is to be reached more than once or twice.
@@ -35,7 +35,8 @@ fn often(reached: &Reached) -> Vec<u64> {
         reached.verdicts_misread,
         reached.submissions_misread,
     ];
-    [&singly, for_each_part.as_flattened()].concat()
+    let trees = reached.trees.often();
+    [&singly, for_each_part.as_flattened(), &trees].concat()
 }
 
 #[test]
@@ -61,6 +62,8 @@ fn no_difference_and_everything_reached() {
     assert_eq!(reached.refusals_of("blocked"), BLOCKED_REFUSALS);
     assert_eq!(reached.refusals_of("culprits"), BLOCKED_REFUSALS);
     assert_eq!(reached.refusals_of("submit"), SUBMIT_REFUSALS);
+    assert_eq!(reached.refusals_of("tree"), TREE_REFUSALS);
+    assert_eq!(reached.trees.most, 4_096, "{reached}");
     let closed: u64 = reached.closed.iter().chain(&reached.causes).sum();
     let open = reached.open + reached.unblocked;
     let searched = reached.idle + reached.needed + open + closed;

@@ -1,11 +1,12 @@
 //! The named books: both answer alike, the hard rules are idle or needed as they were made to be,
-//! and what is hard to open is open.
+//! and what is hard to open is open. The named plans: both write the same trees.
 
 use against::answer::Answer;
 use against::compare::compare;
-use against::engine::{by_name, packed, with_asking, USUAL};
+use against::engine::{by_name, nodes_and_length, packed, with_asking, USUAL};
 use books::blocked::{hard, Found};
 use books::submissions::{Submit, LEDGER};
+use books::trees::{self, extents, Tree, MOST, ROOM};
 use books::{named, plans, Case, Draft, Random};
 use second::access::Action;
 use second::blocked::Datum;
@@ -254,5 +255,53 @@ fn all_are_needed_together() {
     for engine in engines {
         let all = |rule: &u32| engine.culprits(&book, *rule) == Some(Ok(u32::MAX));
         assert_eq!((0..32).filter(all).count(), 32, "{}", engine.name());
+    }
+}
+
+/// A call of Tree with the small shop, and eight bytes after the buffer.
+fn tree(plan: &[[u8; 4]], row: u32, lent: usize) -> Tree {
+    Tree {
+        book: named::small_shop().bytes(),
+        plan: plan.concat(),
+        row,
+        lent,
+        memory: vec![7; lent + 8],
+    }
+}
+
+/// The lengths of buffers about that of a text.
+fn about(bytes: u128) -> [usize; 6] {
+    let bytes = bytes.min(ROOM as u128) as usize;
+    [0, 9, bytes - 1, bytes, bytes + 1, ROOM]
+}
+
+/// Every row of the named plans, and the first numbers past them.
+#[test]
+fn named_plans() {
+    for named in trees::named() {
+        let extents = extents(&named.plan.concat());
+        for row in (0..=64).chain([255, 256, 256 + named.row, u32::MAX]) {
+            let extent = extents.get(row as usize).copied().flatten();
+            for lent in about(extent.map_or(9, |extent| extent.bytes)) {
+                assert_alike(&Case::Tree(tree(&named.plan, row, lent)));
+            }
+        }
+    }
+}
+
+/// Every engine gives up above 4,096 nodes, and says how many there are of what it writes.
+#[test]
+fn nodes_of_named_plans() {
+    let engines = ["second", "engine"].into_iter().filter_map(by_name);
+    for engine in engines {
+        for named in trees::named() {
+            let said = engine.tree(&mut tree(&named.plan, named.row, ROOM));
+            let wanted = match named.nodes {
+                0..=MOST => Ok(named.nodes as u32),
+                _ => Err(second::Refusal::of(30)),
+            };
+            let nodes = said.map(|value| nodes_and_length(value).0);
+            assert_eq!(nodes, wanted, "{}, {}", engine.name(), named.name);
+        }
     }
 }

@@ -6,6 +6,7 @@ use crate::numbers;
 use crate::plans;
 use crate::random::Random;
 use crate::submissions::{self, Submit};
+use crate::trees::{self, Tree};
 use crate::valid::{self, Size};
 
 /// One call.
@@ -64,9 +65,11 @@ pub enum Case {
     },
     /// Submit.
     Submit(Submit),
+    /// Tree.
+    Tree(Tree),
 }
 
-/// The calls of one round: one book of the given size, sound or changed, and all eight calls.
+/// The calls of one round: one book of the given size, sound or changed, and all nine calls.
 pub fn round(random: &mut Random, size: Size) -> Vec<Case> {
     let draft = valid::draft(random, size);
     let book = book(random, &draft);
@@ -87,6 +90,9 @@ pub fn round(random: &mut Random, size: Size) -> Vec<Case> {
         cases.push(idle(random, &draft, &book));
     }
     cases.extend(closed(random, &draft, &book));
+    // A changed book is refused for all alike.
+    let trees = if book == draft.bytes() { 4 } else { 1 };
+    cases.extend((0..trees).map(|_| Case::Tree(trees::any(random, &draft, &book))));
     cases
 }
 

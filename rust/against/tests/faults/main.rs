@@ -8,6 +8,7 @@ mod culprits;
 mod mixing;
 mod order;
 mod submit;
+mod tree;
 
 use against::actions::PAIRS;
 use against::engine::{Blocking, Causes, Idleness, Search, Second, STEPS};
@@ -15,6 +16,7 @@ use against::mixing::MISREADINGS;
 use against::run::try_case;
 use against::{run, text, Difference, Engine, Limit, Reached};
 use books::submissions::Submit;
+use books::trees::Tree;
 use second::access::Access;
 use second::book::Book;
 use second::{shown, Refusal};
@@ -24,7 +26,7 @@ const GOOD: Second = Second {
     search: Search::Skipping(STEPS),
 };
 
-/// The eight calls of a faulty engine: those that it does not get wrong are the good one's.
+/// The nine calls of a faulty engine: those that it does not get wrong are the good one's.
 trait Faulty {
     fn check(&self, book: &[u8]) -> Result<u32, Refusal> {
         GOOD.check(book)
@@ -56,6 +58,10 @@ trait Faulty {
 
     fn submit(&self, given: &mut Submit) -> Result<u32, Refusal> {
         GOOD.submit(given)
+    }
+
+    fn tree(&self, given: &mut Tree) -> Result<u32, Refusal> {
+        GOOD.tree(given)
     }
 }
 
@@ -97,6 +103,10 @@ impl<F: Faulty> Engine for FaultyEngine<F> {
 
     fn submit(&self, given: &mut Submit) -> Result<u32, Refusal> {
         self.0.submit(given)
+    }
+
+    fn tree(&self, given: &mut Tree) -> Result<u32, Refusal> {
+        self.0.tree(given)
     }
 }
 
@@ -188,4 +198,16 @@ fn what_is_stated_of_lists_finds_faults_alone() {
     submit::AGAINST_LISTS
         .into_iter()
         .for_each(submit::is_found_by_the_lists);
+}
+
+#[test]
+fn each_fault_of_tree_is_found_and_shown_again() {
+    tree::FAULTS.into_iter().for_each(is_found_and_shown_again);
+}
+
+#[test]
+fn what_is_stated_of_trees_finds_faults_alone() {
+    tree::FAULTS
+        .into_iter()
+        .for_each(tree::is_found_by_the_sentences);
 }
