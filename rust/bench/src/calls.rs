@@ -12,6 +12,7 @@ pub use without::*;
 mod with_engine {
     use super::{Duration, Range};
     use crate::clock::best;
+    use crate::trees::{Asked, ROOM};
     use pspec::raw;
     use std::hint::black_box;
 
@@ -54,6 +55,12 @@ mod with_engine {
         Some(each(rules, |rule| raw::culprits(black_box(book), rule)))
     }
 
+    pub fn tree(book: &[u8], asked: &Asked) -> Option<Duration> {
+        let mut buffer = vec![0; ROOM];
+        let mut tree = || raw::tree(book, black_box(&asked.plan), asked.row, &mut buffer);
+        Some(best(&mut tree))
+    }
+
     /// The time of each rule that does not forbid.
     fn each(rules: Range<u32>, search: impl Fn(u32) -> u64) -> Vec<(u32, Duration)> {
         let answered = |rule: &u32| raw::value(search(*rule)).is_ok();
@@ -90,11 +97,18 @@ mod with_engine {
     pub fn culprits_once(book: &[u8], rule: u32) {
         black_box(raw::culprits(black_box(book), rule));
     }
+
+    pub fn tree_once(book: &[u8], asked: &Asked) {
+        let mut buffer = vec![0; ROOM];
+        let plan = black_box(&asked.plan);
+        black_box(raw::tree(book, plan, asked.row, &mut buffer));
+    }
 }
 
 #[cfg(not(feature = "engine"))]
 mod without {
     use super::{Duration, Range};
+    use crate::trees::Asked;
 
     pub fn check(_: &[u8]) -> Option<Duration> {
         None
@@ -128,6 +142,10 @@ mod without {
         None
     }
 
+    pub fn tree(_: &[u8], _: &Asked) -> Option<Duration> {
+        None
+    }
+
     pub fn check_once(_: &[u8]) {}
 
     pub fn flows_once(_: &[u8], _: &[u8]) {}
@@ -141,4 +159,6 @@ mod without {
     pub fn blocked_once(_: &[u8], _: u32) {}
 
     pub fn culprits_once(_: &[u8], _: u32) {}
+
+    pub fn tree_once(_: &[u8], _: &Asked) {}
 }

@@ -1,11 +1,12 @@
 //! Counts the instructions of one call with callgrind, which do not depend on what else the machine
 //! is doing. The program runs itself under valgrind, one call each time.
 
-use crate::{calls, check_sums, Input};
+use crate::{calls, check_sums, trees, Input};
 use std::hint::black_box;
 use std::process::Command;
 
-/// A call to count: its name, the symbol that it is counted in, and how many rows its plan has.
+/// A call to count: its name, the symbol that it is counted in, and how many rows it takes of the book's plan.
+/// Tree has plans of its own, by the call's name.
 pub struct Counted {
     pub name: &'static str,
     symbol: &'static str,
@@ -13,7 +14,7 @@ pub struct Counted {
 }
 
 /// The plain loop over the sums comes first: the others are given as its multiples.
-pub const CALLS: [Counted; 9] = [
+pub const CALLS: [Counted; 13] = [
     counted("sums", "*check_sums*", 0),
     counted("check", "pspec_check", 0),
     counted("flows, 64 rows", "pspec_flows", 64),
@@ -23,6 +24,10 @@ pub const CALLS: [Counted; 9] = [
     counted("idle", "pspec_idle", 0),
     counted("blocked", "pspec_blocked", 0),
     counted("culprits", "pspec_culprits", 0),
+    counted("tree, 1 node", "pspec_tree", 0),
+    counted("tree, 64 nodes", "pspec_tree", 0),
+    counted("tree, 4096 nodes", "pspec_tree", 0),
+    counted("tree, refused", "pspec_tree", 0),
 ];
 
 const fn counted(name: &'static str, symbol: &'static str, rows: usize) -> Counted {
@@ -71,6 +76,10 @@ pub fn once(name: &str, input: &Input) {
         "pspec_idle" => calls::idle_once(&input.book, input.rules.start),
         "pspec_blocked" => calls::blocked_once(&input.book, input.rules.start),
         "pspec_culprits" => calls::culprits_once(&input.book, input.rules.start),
+        "pspec_tree" => {
+            let asked = trees::asked().into_iter().find(|asked| asked.name == name);
+            calls::tree_once(&input.book, &asked.expect("a plan of that name"));
+        }
         _ => {
             black_box(check_sums(black_box(&input.book)));
         }

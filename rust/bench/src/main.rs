@@ -9,6 +9,7 @@ mod clock;
 mod count;
 mod stack;
 mod table;
+mod trees;
 
 use books::submissions::LEDGER;
 use books::{named, plans, Draft, Random};
@@ -170,6 +171,7 @@ fn times() {
             flows(&input);
             judge(&input);
             submit(&input);
+            tree(&input);
         }
         // A book that is hard for Idle is so for one rule.
         if book.calls.has("idle") {
@@ -291,6 +293,18 @@ fn submit(input: &Input) {
             engine,
             second: Some(best(&mut submit)),
             ..input.line(format!("submit, {held} ledger"))
+        });
+    }
+}
+
+fn tree(input: &Input) {
+    let mut buffer = vec![0; trees::ROOM];
+    for asked in trees::asked() {
+        let mut tree = || second::tree(&input.book, black_box(&asked.plan), asked.row, &mut buffer);
+        table::row(&Line {
+            engine: calls::tree(&input.book, &asked),
+            second: Some(best(&mut tree)),
+            ..input.line(asked.name)
         });
     }
 }
