@@ -90,9 +90,7 @@ pub fn round(random: &mut Random, size: Size) -> Vec<Case> {
         cases.push(idle(random, &draft, &book));
     }
     cases.extend(closed(random, &draft, &book));
-    // A changed book is refused for all alike.
-    let trees = if book == draft.bytes() { 4 } else { 1 };
-    cases.extend((0..trees).map(|_| Case::Tree(trees::any(random, &draft, &book))));
+    cases.extend(trees(random, &draft, &book));
     cases
 }
 
@@ -198,6 +196,15 @@ fn closed(random: &mut Random, draft: &Draft, book: &[u8]) -> Vec<Case> {
         [blocked, Case::Culprits { book, rule }]
     };
     rules.into_iter().flat_map(both).collect()
+}
+
+/// Calls of Tree. A changed book is refused for all alike. They have a generator of their own, so that the
+/// other calls of a seed don't depend on how many there are.
+fn trees(random: &Random, draft: &Draft, book: &[u8]) -> Vec<Case> {
+    let mut own = Random::new(random.clone().bits());
+    let count = if book == draft.bytes() { 4 } else { 1 };
+    let tree = |_| Case::Tree(trees::any(&mut own, draft, book));
+    (0..count).map(tree).collect()
 }
 
 /// The size of the next round's book: mostly small, as most faults show on small books.
