@@ -25,8 +25,8 @@
  *
  * Not proved: this file, and that there is stack enough. On the largest book, on one with 64 categories
  * in a chain, and on a blocked rule of such books the smallest stacks that worked were 16 KiB for
- * pspec_check, pspec_flows, pspec_judge and pspec_submit, 49 KiB for pspec_idle, 56 KiB for
- * pspec_blocked, 57 KiB for pspec_culprits (bench stack); on a thread with less the process is stopped.
+ * pspec_check, pspec_flows, pspec_judge and pspec_submit, 26 KiB for pspec_tree, 49 KiB for pspec_idle,
+ * 56 KiB for pspec_blocked, 57 KiB for pspec_culprits (bench stack); on a thread with less the process is stopped.
  * Give them 128 KiB. The calls use memcpy, memmove and memset and nothing else from outside.
  */
 #ifndef PSPEC_H
