@@ -1,8 +1,7 @@
-//! Numbers of users, rules and rows, those that there are and others.
+//! Numbers of users and rules, those that there are and others.
 
 use crate::draft::{leaves, Draft};
 use crate::random::Random;
-use crate::trees::Extent;
 
 /// A user's number: mostly a leaf's, else any category's or none's.
 pub fn user(random: &mut Random, draft: &Draft) -> u32 {
@@ -28,30 +27,4 @@ pub fn out_of_range(random: &mut Random, count: usize) -> u32 {
         u32::MAX,
         1 << 31,
     ])
-}
-
-/// A row's number: mostly the last that has a tree, or any that has one; else any row's or none's.
-pub fn row(random: &mut Random, extents: &[Option<Extent>]) -> u32 {
-    let with_tree = |&row: &usize| extents[row].is_some();
-    let value_rows: Vec<usize> = (0..extents.len()).filter(with_tree).collect();
-    let any = random.below(extents.len()) as u32;
-    let count = extents.len() as u32;
-    let high = 1 << random.between(9, 31);
-    match random.below(8) {
-        0 => random.one(&[
-            count,
-            count + 1,
-            63,
-            64,
-            255,
-            256,
-            256 + any,
-            high + any,
-            1 << 31,
-            u32::MAX,
-        ]),
-        1 => any,
-        2 | 3 => random.pick(&value_rows).map_or(any, |row| row as u32),
-        _ => value_rows.last().map_or(any, |&row| row as u32),
-    }
 }

@@ -1,7 +1,6 @@
 //! Calls of Tree (document 02, N7), with plans whose trees are small, deep, or of about 4,096 nodes.
 
 use crate::draft::Draft;
-use crate::numbers;
 use crate::plans::{self, Plan};
 use crate::random::Random;
 
@@ -83,7 +82,7 @@ pub fn any(random: &mut Random, draft: &Draft, book: &[u8]) -> Tree {
         }
     };
     let extents = extents(&plan);
-    let row = numbers::row(random, &extents);
+    let row = a_row(random, &extents);
     let extent = extents.get(row as usize).copied().flatten();
     let lent = lent(random, extent);
     let after = random.below(24);
@@ -96,6 +95,32 @@ pub fn any(random: &mut Random, draft: &Draft, book: &[u8]) -> Tree {
         row,
         lent,
         memory: memory.take(lent + after).collect(),
+    }
+}
+
+/// A row's number: mostly the last that has a tree, or any that has one; else any row's or none's.
+fn a_row(random: &mut Random, extents: &[Option<Extent>]) -> u32 {
+    let with_tree = |&row: &usize| extents[row].is_some();
+    let value_rows: Vec<usize> = (0..extents.len()).filter(with_tree).collect();
+    let any = random.below(extents.len()) as u32;
+    let count = extents.len() as u32;
+    let high = 1 << random.between(9, 31);
+    match random.below(8) {
+        0 => random.one(&[
+            count,
+            count + 1,
+            63,
+            64,
+            255,
+            256,
+            256 + any,
+            high + any,
+            1 << 31,
+            u32::MAX,
+        ]),
+        1 => any,
+        2 | 3 => random.pick(&value_rows).map_or(any, |row| row as u32),
+        _ => value_rows.last().map_or(any, |&row| row as u32),
     }
 }
 
