@@ -186,9 +186,9 @@ pub +list-apply+list-choose-spec : {M : Type 1} → statement M
     apply-put _ _ _ (one .if1 .left) deep (kinds .kind .result) (kinds .kind .ensures .0) (five .if5 .left) _ _
     (lower-b .lower .ensures .0 ∙ ap (lowerRow _) (byte-b .row-b .ensures))
     (lower-c .lower2 .ensures .0 ∙ ap (lowerRow _) (byte-c .row-c .ensures))
-    _ _ _ _ _ _ _ _ _ _ _ _ (listed .put-node2 .ensures) (b-apply .list-apply .ensures deep-b)
-    (b-choose .list-choose .ensures deep-b) (c-apply .list-apply2 .ensures deep-c)
-    (c-choose .list-choose2 .ensures deep-c)))
+    _ _ _ _ _ _ _ _ _ _ _ _ (listed .put-node2 .ensures) (b-apply .list-apply .ensures (omega arith))
+    (b-choose .list-choose .ensures (omega arith)) (c-apply .list-apply2 .ensures (omega arith))
+    (c-choose .list-choose2 .ensures (omega arith))))
     λ t. list-choose-lts.spec (
       kind-reads.Asked,
       kind-reads.Learnt,
@@ -267,7 +267,7 @@ pub +list-apply+list-choose-spec : {M : Type 1} → statement M
     (lower-a .lower .ensures .0 ∙ ap (lowerRow _) (byte-a .row-a .ensures))
     (lower-b .lower2 .ensures .0 ∙ ap (lowerRow _) (byte-b .row-b .ensures))
     (lower-c .lower3 .ensures .0 ∙ ap (lowerRow _) (byte-c .row-c .ensures))
-    _ _ _ _ _ _ _ _ _ _ _ _ _ _ _ _ (listed .put-node .ensures) (a-apply .list-apply .ensures deep-a)
-    (a-choose .list-choose .ensures deep-a) (b-apply .list-apply2 .ensures deep-b)
-    (b-choose .list-choose2 .ensures deep-b) (c-apply .list-apply3 .ensures deep-c)
-    (c-choose .list-choose3 .ensures deep-c))
+    _ _ _ _ _ _ _ _ _ _ _ _ _ _ _ _ (listed .put-node .ensures) (a-apply .list-apply .ensures (omega arith))
+    (a-choose .list-choose .ensures (omega arith)) (b-apply .list-apply2 .ensures (omega arith))
+    (b-choose .list-choose2 .ensures (omega arith)) (c-apply .list-apply3 .ensures (omega arith))
+    (c-choose .list-choose3 .ensures (omega arith)))
