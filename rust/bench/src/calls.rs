@@ -12,7 +12,8 @@ pub use without::*;
 mod with_engine {
     use super::{Duration, Range};
     use crate::clock::best;
-    use crate::trees::{Asked, ROOM};
+    use crate::trees::Asked;
+    use books::trees::ROOM;
     use pspec::raw;
     use std::hint::black_box;
 

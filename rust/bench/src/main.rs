@@ -12,6 +12,7 @@ mod table;
 mod trees;
 
 use books::submissions::LEDGER;
+use books::trees::ROOM;
 use books::{named, plans, Draft, Random};
 use clock::best;
 use second::{reading, Tally};
@@ -298,7 +299,7 @@ fn submit(input: &Input) {
 }
 
 fn tree(input: &Input) {
-    let mut buffer = vec![0; trees::ROOM];
+    let mut buffer = vec![0; ROOM];
     for asked in trees::asked() {
         let mut tree = || second::tree(&input.book, black_box(&asked.plan), asked.row, &mut buffer);
         table::row(&Line {

@@ -7,9 +7,6 @@ pub struct Asked {
     pub row: u32,
 }
 
-/// Bytes with room for every tree.
-pub const ROOM: usize = 4_096 * 136;
-
 /// A column; the deepest tree; one of as many nodes as are written; one of (3^63 - 1) / 2, which is refused.
 pub fn asked() -> [Asked; 4] {
     [
