@@ -1,6 +1,6 @@
 /*
- * Reads a book, checks it, judges three plans, submits some from Monday to Friday, asks of each rule whether
- * it is idle, whether it is blocked and by which rules, and prints a plan's lineage trees.
+ * Reads a book, checks it, judges three plans, submits some from Monday to Saturday, asks of each rule
+ * whether it is idle, whether it is blocked and by which rules, and prints a plan's lineage trees.
  *
  *   rt staticlib capi
  *   cc -Iinclude include/example.c target/staticlib/libcapi.a -o target/example
@@ -43,6 +43,20 @@ static void judge(const uint8_t *book, size_t length, uint32_t user, const char 
     printf("\n");
 }
 
+/* Columns 0 and 2 shown side by side; then column 2 through function 1, and through function 2. */
+static void plans(const uint8_t *book, size_t length)
+{
+    static const uint8_t plain[] = {1, 0, 0, 0, 1, 2, 0, 0, 4, 0, 0, 0, 4, 1, 0, 0};
+    static const uint8_t by_1[] = {1, 0, 0, 0, 1, 2, 0, 0, 2, 1, 1, 255, 4, 0, 0, 0, 4, 2, 0, 0};
+    static const uint8_t by_2[] = {1, 0, 0, 0, 1, 2, 0, 0, 2, 2, 1, 255, 4, 0, 0, 0, 4, 2, 0, 0};
+    judge(book, length, 1, "plain", plain, sizeof plain);
+    judge(book, length, 1, "by function 1", by_1, sizeof by_1);
+    judge(book, length, 1, "by function 2", by_2, sizeof by_2);
+    judge(book, length, 2, "by function 2", by_2, sizeof by_2);
+    judge(book, length, 0, "plain", plain, sizeof plain);
+    judge(book, length, 1, "cut off", plain, sizeof plain - 1);
+}
+
 /* What is kept between submissions; at first all zero. */
 static uint64_t ledger[PSPEC_LEDGER_WORDS];
 static struct pspec_tally tally;
@@ -52,13 +66,33 @@ static void submit(const uint8_t *book, size_t length, uint32_t user, const char
 {
     uint64_t answer = pspec_submit(book, length, user, plan, plan_length, ledger, PSPEC_LEDGER_WORDS, &tally);
     printf("%s, user %u: ", name, user);
-    if (pspec_number(answer) != PSPEC_NOT_REFUSED)
-        printf("refused %u place %u", pspec_number(answer), pspec_place(answer));
-    else if (pspec_is_admitted(answer))
+    if (pspec_number(answer) != PSPEC_NOT_REFUSED) {
+        print_refusal(answer);
+        return;
+    }
+    if (pspec_is_admitted(answer))
         printf("admitted");
     else
         printf("declined, mask %u", pspec_mask(answer));
-    printf("; %u admitted, %u declined\n", tally.admitted, tally.declined);
+    /* Nothing is refused, so the user is a leaf and his number below 32. */
+    printf("; %u admitted, %u declined\n", tally.admitted[user], tally.declined[user]);
+}
+
+/*
+ * Column 0 on Monday and column 2 on Tuesday; on Wednesday column 2 through function 1. What user 2 submits on
+ * Thursday is counted for him alone: on Saturday user 1 goes on from his own counts.
+ */
+static void week(const uint8_t *book, size_t length)
+{
+    static const uint8_t state[] = {1, 0, 0, 0, 4, 0, 0, 0};
+    static const uint8_t price[] = {1, 2, 0, 0, 4, 0, 0, 0};
+    static const uint8_t average[] = {1, 2, 0, 0, 2, 1, 0, 255, 4, 1, 0, 0};
+    submit(book, length, 1, "Monday", state, sizeof state);
+    submit(book, length, 1, "Tuesday", price, sizeof price);
+    submit(book, length, 1, "Wednesday", average, sizeof average);
+    submit(book, length, 2, "Thursday", price, sizeof price);
+    submit(book, length, 0, "Friday", state, sizeof state);
+    submit(book, length, 1, "Saturday", state, sizeof state);
 }
 
 static void idle(const uint8_t *book, size_t length, uint32_t rule)
@@ -152,26 +186,8 @@ int main(int count, char **arguments)
     }
     printf("book accepted, %u rules\n", pspec_value(checked));
 
-    /* Columns 0 and 2 shown side by side; then column 2 through function 1, and through function 2. */
-    static const uint8_t plain[] = {1, 0, 0, 0, 1, 2, 0, 0, 4, 0, 0, 0, 4, 1, 0, 0};
-    static const uint8_t by_1[] = {1, 0, 0, 0, 1, 2, 0, 0, 2, 1, 1, 255, 4, 0, 0, 0, 4, 2, 0, 0};
-    static const uint8_t by_2[] = {1, 0, 0, 0, 1, 2, 0, 0, 2, 2, 1, 255, 4, 0, 0, 0, 4, 2, 0, 0};
-    judge(book, length, 1, "plain", plain, sizeof plain);
-    judge(book, length, 1, "by function 1", by_1, sizeof by_1);
-    judge(book, length, 1, "by function 2", by_2, sizeof by_2);
-    judge(book, length, 2, "by function 2", by_2, sizeof by_2);
-    judge(book, length, 0, "plain", plain, sizeof plain);
-    judge(book, length, 1, "cut off", plain, sizeof plain - 1);
-
-    /* Column 0 on Monday and column 2 on Tuesday; on Wednesday column 2 through function 1. */
-    static const uint8_t state[] = {1, 0, 0, 0, 4, 0, 0, 0};
-    static const uint8_t price[] = {1, 2, 0, 0, 4, 0, 0, 0};
-    static const uint8_t average[] = {1, 2, 0, 0, 2, 1, 0, 255, 4, 1, 0, 0};
-    submit(book, length, 1, "Monday", state, sizeof state);
-    submit(book, length, 1, "Tuesday", price, sizeof price);
-    submit(book, length, 1, "Wednesday", average, sizeof average);
-    submit(book, length, 2, "Thursday", price, sizeof price);
-    submit(book, length, 0, "Friday", state, sizeof state);
+    plans(book, length);
+    week(book, length);
 
     for (uint32_t rule = 0; rule < pspec_value(checked); rule++)
         idle(book, length, rule);

@@ -47,7 +47,7 @@ extern "C" {
 #define PSPEC_WORDS 32
 #define PSPEC_ROWS_MOST 64
 #define PSPEC_BUFFER_LEAST 36
-/* Words of a ledger, 32 for each user number; the count or sum of counts from which on a tally is full. */
+/* Words of a ledger, 32 for each user number; the count, or sum of both, from which on a user's pair is full. */
 #define PSPEC_LEDGER_WORDS 1024
 #define PSPEC_COUNTS_LIMIT 1000000
 /* Nodes of the largest tree that pspec_tree writes; bytes with room for the text of any such tree, 136 a node. */
@@ -79,7 +79,7 @@ enum pspec_refusal {
     PSPEC_BUFFER_LENGTH = 25,     /* buffer under 36 bytes */
     PSPEC_RULE_FORBIDS = 26,      /* the rule has no restriction */
     PSPEC_LEDGER_LENGTH = 27,     /* not 1,024 words */
-    PSPEC_COUNTS_FULL = 28,       /* a count of the tally, or their sum, is 1,000,000 or more */
+    PSPEC_COUNTS_FULL = 28,       /* a count of the user's pair, or their sum, is 1,000,000 or more */
     PSPEC_NO_VALUE_ROW = 29,      /* the row is absent, or not of kind 1 to 3 */
     PSPEC_TREE_SIZE = 30          /* the tree has above 4,096 nodes, or its text exceeds the buffer */
 };
@@ -146,28 +146,32 @@ uint64_t pspec_blocked(const uint8_t *book, size_t book_length, uint32_t rule);
 uint64_t pspec_culprits(const uint8_t *book, size_t book_length, uint32_t rule);
 
 /*
- * How many plans were admitted and how many declined, of all users together. Any counts may be given; fresh
- * is {0, 0}.
+ * How many plans of each user were admitted and how many declined: a pair of counts for each user number, which
+ * is the index. Any counts may be given; fresh, all are 0, as in {{0}, {0}}. A call changes its own user's pair
+ * and no other, and a refusal none: those of numbers that are no leaf stay as they are.
  */
 struct pspec_tally {
-    uint32_t admitted;
-    uint32_t declined;
+    uint32_t admitted[32], declined[32];
 };
 
 /*
  * Submit: admits a plan or declines it, by what its user has already seen. The ledger holds 32 words for each
  * user number: bit d of word 32 x user + 16 x s + k is set when he holds access to the leaf d by operation k,
  * s being 0 for projection and 1 for condition. Fresh, all its words are 0; any other words are joined and
- * judged as they are. Refuses 1 to 9, 20, 21, 22, 27, 28. Value: the mask of the rules that the user breaks
- * with the plan's accesses and those that he holds, bit r for rule r.
+ * judged as they are. Refuses 1 to 9, 20, 21, 22, 27, 28. It refuses 28 when admitted[user], declined[user] or
+ * their sum is 1,000,000 or more; the pairs of other users do not matter. Value: the mask of the rules that the
+ * user breaks with the plan's accesses and those that he holds, bit r for rule r.
  * An answer of 0 (pspec_is_admitted): the plan is admitted; its accesses are joined to the user's words, and
- * `admitted` is one more. Any other answer that is no refusal: the plan is declined; the ledger is as it was,
- * and `declined` is one more. A refusal's mask is 0 too, so ask pspec_is_admitted and not the mask.
+ * admitted[user] is one more. Any other answer that is no refusal: the plan is declined; the ledger is as it
+ * was, and declined[user] is one more. A refusal's mask is 0 too, so ask pspec_is_admitted and not the mask.
  * For every list of calls with one book, from a fresh ledger and tally, each user holds exactly the accesses
- * of his admitted plans and breaks no rule with them, and admitted + declined is the number of calls that
- * were not refused (stated in crates/ledger/specs/Demand.antt, proved in crates/ledger/proofs/Kept.antt). So
- * one ledger and tally belong to one book. Store both before an admitted plan is run, and let no two calls
- * begin from the same stored copy: an admitted plan would be lost.
+ * of his admitted plans and breaks no rule with them, and each user's admitted + declined is the number of his
+ * submissions that were not refused. A user's replies depend on the book, his plans and his own earlier
+ * submissions: two such lists that have the same submissions of a user in the same order, whatever others
+ * submit between, give him equal replies and leave him equal words and counts (stated in Demand.antt and
+ * Alike.antt of crates/ledger/specs, proved in crates/ledger/proofs). So one ledger and tally belong to one
+ * book. Store both before an admitted plan is run, and let no two calls begin from the same stored copy: an
+ * admitted plan would be lost.
  */
 uint64_t pspec_submit(const uint8_t *book, size_t book_length, uint32_t user, const uint8_t *plan,
                       size_t plan_length, uint64_t *ledger, size_t ledger_length, struct pspec_tally *tally);

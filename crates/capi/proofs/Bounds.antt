@@ -267,7 +267,7 @@ module _ (book : List ℕ) where
   submit-small user plan ledger tally =
       refused-small (submitTests book user plan ledger tally) submitted.Refused _ (λ x y e. cc)
       (unlike (eqb (unionMask book user plan ledger) 0))
-      (append-bounded (judgeTests book user plan ++ ledgerTests ledger) (tallyTests tally)
+      (append-bounded (judgeTests book user plan ++ ledgerTests ledger) (tallyTests user tally)
       (append-bounded (judgeTests book user plan) (ledgerTests ledger) (judge-bounded user plan)
       (λ e. last-bounded _ _ _ (omega arith) (omega arith) (omega arith)))
       (λ e. last-bounded _ _ _ (omega arith) (omega arith) (omega arith)))

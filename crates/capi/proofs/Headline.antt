@@ -27,7 +27,9 @@ use Rattle.ledger.specs.declared.Tally.{Tally}
 use Rattle.ledger.specs.declared.Submitted.{Submitted}
 use Rattle.ledger.specs.declared.Submitted.the-variants as submitted
 use Rattle.ledger.proofs.WordLaws.{other-word}
+use Rattle.ledger.proofs.CountLaws.{Pairs, pairAfter, own-pair, other-pair}
 use Rattle.ledger.proofs.SubmitLaws.{admitted-holds, by-reply, refused-answer, submit-passes, union-demand}
+use Rattle.ledger.proofs.SubmitLaws.{user-low}
 use Rattle.ledger.proofs.CallLaws.{continues}
 use Rattle.search.specs.Answers.{idleTests, idleAnswer, idleBuffer}
 use Rattle.search.specs.Alone.{firstAlone}
@@ -347,13 +349,15 @@ module _ (book : List ℕ) (r : ℕ) where
 
 -- Submit
 
-module _ (book : List ℕ) (user : ℕ) (plan ledger : List ℕ) (tally : Tally) (answer : ℕ) where
+module _
+    (book : List ℕ) (user : ℕ) (plan ledger : List ℕ) (tally : Tally) (pairs : Pairs tally) (answer : ℕ) where
   -- what is said where this is the reply
   abbrev Says : Submitted → Type 0
   Says reply =
       answer ≡ submitPacked reply
-      → Continues book user plan ledger (ledgerAfter book user plan ledger reply) tally (tallyAfter reply tally)
-      → SubmitSays book user plan ledger (ledgerAfter book user plan ledger reply) tally (tallyAfter reply tally) answer
+      → Continues book user plan ledger (ledgerAfter book user plan ledger reply) tally (tallyAfter user reply tally)
+      → SubmitSays book user plan ledger (ledgerAfter book user plan ledger reply) tally (tallyAfter user reply tally)
+      answer
 
   says-refused :
       (x : Refusal)
@@ -377,13 +381,15 @@ module _ (book : List ℕ) (user : ℕ) (plan ledger : List ℕ) (tally : Tally)
         declined-counts = λ some l. absurd (omega arith);
         refused-keeps = λ l. refl;
         others-keep = λ w n. refl;
+        others-counted = λ other n. refl;
         continues = continued;
       }
 
   module _ (given : SubmitAccepted book user plan ledger tally) where
     says-admitted : unionMask book user plan ledger ≡ 0 → Says submitted.Admitted
-    unfolding submitPacked packed ledgerAfter tallyAfter
+    unfolding submitPacked packed ledgerAfter pairAfter
     says-admitted zero same continued =
+        let low = user-low book user plan ledger tally given in
         let e : answer ≡ 0 = same ∙ omega arith in
         let holds : Demand2 book user (joinedAccesses book user plan ledger) answer =
         subst (Demand2 book user (joinedAccesses book user plan ledger)) (zero ∙ sym e)
@@ -395,17 +401,18 @@ module _ (book : List ℕ) (user : ℕ) (plan ledger : List ℕ) (tally : Tally)
           satisfies-zero = λ g s. e;
           demand = λ l. holds;
           zero-holds = λ z. admitted-holds book user plan ledger tally given;
-          zero-counts = λ z. refl;
+          zero-counts = λ z. own-pair user tally submitted.Admitted pairs low;
           some-keeps = λ some. absurd (omega arith);
           declined-counts = λ some l. absurd (omega arith);
           refused-keeps = λ l. absurd (omega arith);
           others-keep = other-word ledger user (accessWords (headOf book) plan);
+          others-counted = other-pair user tally submitted.Admitted;
           continues = continued;
         }
 
     says-declined :
         (unionMask book user plan ledger ≡ 0 → ⊥) → Says (submitted.Declined (unionMask book user plan ledger))
-    unfolding submitPacked packed ledgerAfter tallyAfter unionMask
+    unfolding submitPacked packed ledgerAfter pairAfter unionMask
     says-declined some same continued =
         let union = unionMask book user plan ledger in
         let e : answer ≡ union = same ∙ omega arith in
@@ -422,15 +429,19 @@ module _ (book : List ℕ) (user : ℕ) (plan ledger : List ℕ) (tally : Tally)
           zero-holds = λ z. absurd (some (sym e ∙ z));
           zero-counts = λ z. absurd (some (sym e ∙ z));
           some-keeps = λ l. refl;
-          declined-counts = λ l m. refl;
+          declined-counts =
+              λ l m.
+              own-pair user tally (submitted.Declined union) pairs (user-low book user plan ledger tally given);
           refused-keeps = λ l. absurd (omega (arith, e, low));
           others-keep = λ w n. refl;
+          others-counted = other-pair user tally (submitted.Declined (unionMask book user plan ledger));
           continues = continued;
         }
 
 -- the whole promise of the call
 pub submit-promised :
     (book : List ℕ) (user : ℕ) (plan ledger : List ℕ) (tally : Tally) (answer : ℕ) (counted : Tally) (after : List ℕ)
+    → Pairs tally
     → answer ≡ submitPacked (submitAnswer book user plan ledger tally)
     → counted ≡ submitTally book user plan ledger tally
     → after ≡ submitLedger book user plan ledger tally
@@ -439,14 +450,14 @@ pub submit-promised :
     × (after ≡ submitLedger book user plan ledger tally)
     × SubmitSays book user plan ledger after tally counted answer
 unfolding submitLedger submitTally
-submit-promised book user plan ledger tally answer counted after e et el = (
+submit-promised book user plan ledger tally answer counted after pairs e et el = (
   e,
   et,
   el,
   rw (et, el)
-      (by-reply book user plan ledger tally (Says book user plan ledger tally answer)
-      (says-refused book user plan ledger tally answer) (says-admitted book user plan ledger tally answer)
-      (says-declined book user plan ledger tally answer) e
+      (by-reply book user plan ledger tally (Says book user plan ledger tally pairs answer)
+      (says-refused book user plan ledger tally pairs answer) (says-admitted book user plan ledger tally pairs answer)
+      (says-declined book user plan ledger tally pairs answer) e
       (continues book user plan ledger tally (submitLedger book user plan ledger tally)
       (submitTally book user plan ledger tally) refl refl)),
 )

@@ -1,6 +1,6 @@
 -- What the numbers of pspec_judge, pspec_idle, pspec_blocked, pspec_culprits, pspec_submit and pspec_tree say, for
--- whoever calls the C library: demands 2 and 3, N1, N6, N3 and N7 over the number itself. A number from 2^32 on is a
--- refusal; below it, it is the value. Assumes nothing.
+-- whoever calls the C library: demands 2 and 3, N1, N3, N6, N7 and N8 over the number itself. A number from 2^32 on is
+-- a refusal; below it, it is the value. Assumes nothing.
 use Prim.Native.Nat.{ℕ, _+_, _/_, _%_, _^_, _≤_, _<_}
 use mathlib.Core.Path.{_≡_}
 use mathlib.Core.List.{List}
@@ -12,6 +12,7 @@ use Rattle.verdicts.specs.Accesses.{Access, accessesOf}
 use Rattle.verdicts.specs.Semantics.{SatisfiesPolicy}
 use Rattle.verdicts.specs.Demand.{JudgeAccepted, Demand2}
 use Rattle.ledger.specs.Ledger.{Ledger, heldFor}
+use Rattle.ledger.specs.Counts.{pairOf}
 use Rattle.ledger.specs.Answers.{joinedAccesses}
 use Rattle.ledger.specs.Demand.{SubmitAccepted, Continues}
 use Rattle.ledger.specs.declared.Tally.{Tally}
@@ -111,7 +112,8 @@ pub record CulpritsSays (book : Book) (r : ℕ) (answer : ℕ) : Type 0 where
 pub record SubmitSays
     (book : Book) (user : ℕ) (plan : Plan) (before after : Ledger) (tally counted : Tally) (answer : ℕ) : Type 0
   where
-    -- nothing is refused exactly when book, user and plan are accepted, the ledger is whole and the counts have room
+    -- nothing is refused exactly when book, user and plan are accepted, the ledger is whole and the user's counts have
+    -- room
     pub accepted : answer < refusals → SubmitAccepted book user plan before tally
     pub accepts : SubmitAccepted book user plan before tally → answer < refusals
     -- 0 opens the gate: exactly for an accepted submission whose plan, with all that is held for its user, satisfies the
@@ -123,20 +125,25 @@ pub record SubmitSays
         → answer ≡ 0
     -- bit r tells whether they satisfy rule r
     pub demand : answer < refusals → Demand2 book user (joinedAccesses book user plan before) answer
-    -- 0: the plan is held for its user too, and is counted
+    -- 0: the plan is held for its user too, and is counted for him
     pub zero-holds : answer ≡ 0 → (x : Access) → heldFor after user x ≡ joinedAccesses book user plan before x
     pub zero-counts :
-        answer ≡ 0 → counted ≡ record { admitted = tally .admitted + 1; declined = tally .declined }
-    -- otherwise the ledger is as it was; a plan that is declined is counted, one that is refused is not
+        answer ≡ 0
+        → pairOf counted user
+        ≡ record { admitted = pairOf tally user .admitted + 1; declined = pairOf tally user .declined }
+    -- otherwise the ledger is as it was; a plan that is declined is counted for its user, one that is refused is not
     pub some-keeps : 0 < answer → after ≡ before
     pub declined-counts :
         0 < answer
         → answer < refusals
-        → counted ≡ record { admitted = tally .admitted; declined = tally .declined + 1 }
+        → pairOf counted user
+        ≡ record { admitted = pairOf tally user .admitted; declined = pairOf tally user .declined + 1 }
     pub refused-keeps : refusals ≤ answer → counted ≡ tally
-    -- no word of another user changes
+    -- no word of another user changes, and no count
     pub others-keep : (w : ℕ) → (w / 32 ≡ user → ⊥) → getD after w 0 ≡ getD before w 0
-    -- after a list of submissions from fresh, this one is the next of the list, and what is left keeps the promise
+    pub others-counted : (other : ℕ) → (other ≡ user → ⊥) → pairOf counted other ≡ pairOf tally other
+    -- after a list of submissions from fresh, this one is the next of the list, what is left keeps the promise, and
+    -- each user has what every list alike for him gives him
     pub continues : Continues book user plan before after tally counted
 
 -- pspec_tree: the number is (nodes - 1) × 2^20 + the text's length

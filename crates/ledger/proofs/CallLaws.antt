@@ -1,5 +1,5 @@
 -- Laws of Submit: its reply, ledger and tally by the outcome of its steps, and what it promises of them. Assumes nothing.
-use Prim.Native.Nat.{ℕ, _+_}
+use Prim.Native.Nat.{ℕ}
 use mathlib.Core.Path.{_≡_, sym, subst, ap, _∙_}
 use mathlib.Core.Bool.{Bool, true, false, cond}
 use mathlib.Core.List.{List, _∷_}
@@ -16,6 +16,7 @@ use Rattle.verdicts.specs.Breaking.{brokenMask}
 use Rattle.verdicts.proofs.Held.{held-plan, held-union}
 use Rattle.verdicts.proofs.Verdict.{mask-same}
 use Rattle.ledger.specs.Ledger.{heldFor, joinedFor, wordsOf}
+use Rattle.ledger.specs.Counts.{raisedFor}
 use Rattle.ledger.specs.Answers.{submitTests, joinedAccesses, unionMask}
 use Rattle.ledger.specs.Answers.{submitAnswer, ledgerAfter, submitLedger, tallyAfter, submitTally}
 use Rattle.ledger.specs.Histories.{Submission, next, recordsAfter, log}
@@ -27,6 +28,7 @@ use Rattle.ledger.specs.declared.Submitted.the-variants as submitted
 use Rattle.ledger.proofs.WordLaws.{joined-at}
 use Rattle.ledger.proofs.SubmitLaws.{submit-answer, refused-answer, submit-means, submit-passes}
 use Rattle.ledger.proofs.Kept.{promise}
+use Rattle.ledger.proofs.Alike.{equal-histories}
 
 -- the mask of what a user holds joined with some words
 pub mask-joined :
@@ -53,8 +55,11 @@ module _ (book : List ℕ) (user : ℕ) (plan ledger : List ℕ) (tally : Tally)
   unfolding recordsAfter next
   continues after counted et el list left =
       let x : Submission = record { user = user; plan = plan } in
-      let now : recordsAfter book (x ∷ list) ≡ record { ledger = after; tally = counted } = rw (left, el, et) in
-      (now, subst (λ s. Promise book s (log book (x ∷ list))) now (promise book (x ∷ list)))
+      let now : recordsAfter book (x ∷ list) ≡ record { ledger = after; tally = counted } = rw (left, el, et) in (
+        now,
+        subst (λ s. Promise book s (log book (x ∷ list))) now (promise book (x ∷ list)),
+        equal-histories book (x ∷ list),
+      )
 
   -- what Submit promises of its outcome and of the ledger on leaving
   abbrev pub Promised : Outcome → List ℕ → Type 0
@@ -116,7 +121,7 @@ module _ (book : List ℕ) (user : ℕ) (plan ledger : List ℕ) (tally : Tally)
           (after : List ℕ)
           → mask ≡ 0
           → r .reply ≡ submitted.Admitted
-          → r .tally .admitted ≡ tally .admitted + 1
+          → r .tally .admitted ≡ raisedFor (tally .admitted) user
           → r .tally .declined ≡ tally .declined
           → after ≡ joinedFor ledger user words
           → Promised r after
@@ -130,7 +135,7 @@ module _ (book : List ℕ) (user : ℕ) (plan ledger : List ℕ) (tally : Tally)
           (mask ≡ 0 → ⊥)
           → r .reply ≡ submitted.Declined mask
           → r .tally .admitted ≡ tally .admitted
-          → r .tally .declined ≡ tally .declined + 1
+          → r .tally .declined ≡ raisedFor (tally .declined) user
           → Promised r ledger
       unfolding submitTally tallyAfter submitLedger ledgerAfter
       submit-declined z er ea ed =

@@ -1,5 +1,5 @@
 -- What every list of submissions from fresh keeps, in one record, and that a submission keeps it. Assumes nothing.
-use Prim.Native.Nat.{ℕ, _+_}
+use Prim.Native.Nat.{ℕ, _<_}
 use native.Mathlib.Omega.{arith}
 use mathlib.Core.Path.{_≡_, refl, sym, _∙_}
 use mathlib.Core.Bool.{Bool, true, false, _||_}
@@ -13,28 +13,30 @@ use Rattle.book.specs.Refusals.{BookAccepted}
 use Rattle.book.specs.declared.Refusal.{Refusal}
 use Rattle.book.proofs.Lists.{keep-in, keep-out}
 use Rattle.lineage.specs.Accesses.{accessWords}
+use Rattle.lineage.proofs.Steps.{getD-zeros}
 use Rattle.verdicts.specs.Accesses.{Access, accessesOf, union}
 use Rattle.verdicts.specs.Breaking.{brokenMask}
 use Rattle.verdicts.proofs.Held.{held-operations, held-zero}
 use Rattle.verdicts.proofs.DemandLaws.{query-demand}
 use Rattle.verdicts.proofs.Verdict.{broken-none, mask-same, nothing-broken}
 use Rattle.ledger.specs.Ledger.{heldFor, wordsOf}
+use Rattle.ledger.specs.Counts.{Pair, pairOf}
 use Rattle.ledger.specs.Answers.{joinedAccesses, unionMask, ledgerAfter, submitLedger}
 use Rattle.ledger.specs.Answers.{tallyAfter, submitTally}
 use Rattle.ledger.specs.Histories.{Submission, Records, fresh, replyTo, next, Entry, recordsAfter, log}
 use Rattle.ledger.specs.Histories.{isAdmitted, isDeclined, notRefused, entriesOf, admittedPlans}
-use Rattle.ledger.specs.Demand.{SubmitAccepted, inSome, Holds, Promise, EveryList}
+use Rattle.ledger.specs.Demand.{SubmitAccepted, inSome, Holds, Counted, Promise, EveryList}
 use Rattle.ledger.specs.declared.Submitted.{Submitted}
 use Rattle.ledger.specs.declared.Submitted.the-variants.{Admitted, Declined, Refused}
 use Rattle.ledger.proofs.WordLaws.{words-zero, held-other, joined-length}
-use Rattle.ledger.proofs.SubmitLaws.{admitted-holds, by-reply}
+use Rattle.ledger.proofs.CountLaws.{Pairs, pairAfter, pairs-after, own-pair, other-pair}
+use Rattle.ledger.proofs.SubmitLaws.{admitted-holds, by-reply, user-low}
 
 -- the records agree with the replies, and nobody breaks a rule
 record Kept (book : List ℕ) (s : Records) (entries : List Entry) : Type 0 where
   pub long : length (s .ledger) ≡ 1024
-  pub admitted-count : s .tally .admitted ≡ length (keep (λ e. isAdmitted (e .reply)) entries)
-  pub declined-count : s .tally .declined ≡ length (keep (λ e. isDeclined (e .reply)) entries)
-  pub sum : s .tally .admitted + s .tally .declined ≡ length (keep (λ e. notRefused (e .reply)) entries)
+  pub pairs : Pairs (s .tally)
+  pub counted : (u : ℕ) → Counted (pairOf (s .tally) u) (entriesOf u entries)
   pub held :
       (u : ℕ) (x : Access)
       → heldFor (s .ledger) u x ≡ inSome (headOf book) (admittedPlans (entriesOf u entries)) x
@@ -43,11 +45,11 @@ record Kept (book : List ℕ) (s : Records) (entries : List Entry) : Type 0 wher
 -- One entry more
 
 module _ (e : Entry) (entries : List Entry) where
-  own-entry : (u : ℕ) → e .submission .user ≡ u → entriesOf u (e ∷ entries) ≡ e ∷ entriesOf u entries
+  pub own-entry : (u : ℕ) → e .submission .user ≡ u → entriesOf u (e ∷ entries) ≡ e ∷ entriesOf u entries
   unfolding entriesOf
   own-entry u z = keep-in (λ e. eqb (e .submission .user) u) e entries (eq-eqb (e .submission .user) u z)
 
-  other-entry : (u : ℕ) → (e .submission .user ≡ u → ⊥) → entriesOf u (e ∷ entries) ≡ entriesOf u entries
+  pub other-entry : (u : ℕ) → (e .submission .user ≡ u → ⊥) → entriesOf u (e ∷ entries) ≡ entriesOf u entries
   unfolding entriesOf
   other-entry u n = keep-out (λ e. eqb (e .submission .user) u) e entries (ne-eqb (e .submission .user) u n)
 
@@ -70,6 +72,33 @@ module _ (e : Entry) (entries : List Entry) where
           )
       go false z = rw (other-entry u (eqb-false (e .submission .user) u z))
 
+  -- a reply more, and a pair after it
+  counted-more : (pair : Pair) → Counted pair entries → Counted (pairAfter (e .reply) pair) (e ∷ entries)
+  unfolding pairAfter isAdmitted isDeclined notRefused
+  counted-more pair k = go (e .reply) refl
+    where
+      go : (reply : Submitted) → e .reply ≡ reply → Counted (pairAfter reply pair) (e ∷ entries)
+      go Admitted z =
+          record {
+            admitted-count =
+                rw (keep-in (λ e. isAdmitted (e .reply)) e entries (rw z)) (omega (arith, k .admitted-count));
+            declined-count = rw (keep-out (λ e. isDeclined (e .reply)) e entries (rw z)) (k .declined-count);
+            sum = rw (keep-in (λ e. notRefused (e .reply)) e entries (rw z)) (omega (arith, k .sum));
+          }
+      go (Declined mask) z =
+          record {
+            admitted-count = rw (keep-out (λ e. isAdmitted (e .reply)) e entries (rw z)) (k .admitted-count);
+            declined-count =
+                rw (keep-in (λ e. isDeclined (e .reply)) e entries (rw z)) (omega (arith, k .declined-count));
+            sum = rw (keep-in (λ e. notRefused (e .reply)) e entries (rw z)) (omega (arith, k .sum));
+          }
+      go (Refused refusal) z =
+          record {
+            admitted-count = rw (keep-out (λ e. isAdmitted (e .reply)) e entries (rw z)) (k .admitted-count);
+            declined-count = rw (keep-out (λ e. isDeclined (e .reply)) e entries (rw z)) (k .declined-count);
+            sum = rw (keep-out (λ e. notRefused (e .reply)) e entries (rw z)) (k .sum);
+          }
+
 -- One submission
 
 module _ (book : List ℕ) (s : Records) (entries : List Entry) (kept : Kept book s entries) (x : Submission) where
@@ -80,32 +109,55 @@ module _ (book : List ℕ) (s : Records) (entries : List Entry) (kept : Kept boo
   after reply =
       record {
         ledger = ledgerAfter book (x .user) (x .plan) (s .ledger) reply;
-        tally = tallyAfter reply (s .tally);
+        tally = tallyAfter (x .user) reply (s .tally);
       }
 
+  -- each pair counts the replies to its user, where this one's is his pair after the reply
+  counted-after :
+      (reply : Submitted)
+      → pairOf (after reply .tally) (x .user) ≡ pairAfter reply (pairOf (s .tally) (x .user))
+      → (u : ℕ)
+      → Counted (pairOf (after reply .tally) u) (entriesOf u (entry reply ∷ entries))
+  unfolding after entry
+  counted-after reply own u = go (eqb (x .user) u) refl
+    where
+      go :
+          (b : Bool)
+          → eqb (x .user) u ≡ b
+          → Counted (pairOf (tallyAfter (x .user) reply (s .tally)) u) (entriesOf u (entry reply ∷ entries))
+      go true z =
+          let same : x .user ≡ u = eqb-true (x .user) u z in
+          rw (← same, own, own-entry (entry reply) entries (x .user) refl)
+          (counted-more (entry reply) (entriesOf (x .user) entries) (pairOf (s .tally) (x .user))
+          (kept .counted (x .user)))
+      go false z =
+          let apart = eqb-false (x .user) u z in
+          rw (
+            other-pair (x .user) (s .tally) reply u (λ e. apart (sym e)),
+            other-entry (entry reply) entries u apart,
+          )
+          (kept .counted u)
+
   refused-kept : (r : Refusal) → Kept book (after (Refused r)) (entry (Refused r) ∷ entries)
-  unfolding after entry ledgerAfter tallyAfter notRefused isAdmitted isDeclined
+  unfolding after entry ledgerAfter tallyAfter pairAfter isAdmitted
   refused-kept r =
-      let e = entry (Refused r) in
       record {
         long = kept .long;
-        admitted-count = rw (keep-out (λ e. isAdmitted (e .reply)) e entries refl) (kept .admitted-count);
-        declined-count = rw (keep-out (λ e. isDeclined (e .reply)) e entries refl) (kept .declined-count);
-        sum = rw (keep-out (λ e. notRefused (e .reply)) e entries refl) (kept .sum);
+        pairs = kept .pairs;
+        counted = counted-after (Refused r) refl;
         held = λ u y. rw (plans-same (entry (Refused r)) entries refl u) (kept .held u y);
         lawful = kept .lawful;
       }
 
-  declined-kept : (mask : ℕ) → Kept book (after (Declined mask)) (entry (Declined mask) ∷ entries)
-  unfolding after entry ledgerAfter tallyAfter notRefused isAdmitted isDeclined
-  declined-kept mask =
-      let e = entry (Declined mask) in
+  declined-kept :
+      x .user < 32 → (mask : ℕ) → Kept book (after (Declined mask)) (entry (Declined mask) ∷ entries)
+  unfolding after entry ledgerAfter isAdmitted
+  declined-kept low mask =
       record {
         long = kept .long;
-        admitted-count = rw (keep-out (λ e. isAdmitted (e .reply)) e entries refl) (kept .admitted-count);
-        declined-count =
-            rw (keep-in (λ e. isDeclined (e .reply)) e entries refl) (omega (arith, kept .declined-count));
-        sum = rw (keep-in (λ e. notRefused (e .reply)) e entries refl) (omega (arith, kept .sum));
+        pairs = pairs-after (x .user) (s .tally) (Declined mask) (kept .pairs);
+        counted =
+            counted-after (Declined mask) (own-pair (x .user) (s .tally) (Declined mask) (kept .pairs) low);
         held = λ u y. rw (plans-same (entry (Declined mask)) entries refl u) (kept .held u y);
         lawful = kept .lawful;
       }
@@ -182,15 +234,13 @@ module _ (book : List ℕ) (s : Records) (entries : List Entry) (kept : Kept boo
           ∙ kept .lawful accepted u
 
       admitted-kept : Kept book (after Admitted) (entry Admitted ∷ entries)
-      unfolding after entry ledgerAfter tallyAfter notRefused isAdmitted isDeclined
+      unfolding after entry ledgerAfter
       admitted-kept =
-          let e = entry Admitted in
+          let low = user-low book (x .user) (x .plan) (s .ledger) (s .tally) given in
           record {
             long = joined-length (s .ledger) (x .user) (accessWords (headOf book) (x .plan)) ∙ kept .long;
-            admitted-count =
-                rw (keep-in (λ e. isAdmitted (e .reply)) e entries refl) (omega (arith, kept .admitted-count));
-            declined-count = rw (keep-out (λ e. isDeclined (e .reply)) e entries refl) (kept .declined-count);
-            sum = rw (keep-in (λ e. notRefused (e .reply)) e entries refl) (omega (arith, kept .sum));
+            pairs = pairs-after (x .user) (s .tally) Admitted (kept .pairs);
+            counted = counted-after Admitted (own-pair (x .user) (s .tally) Admitted (kept .pairs) low);
             held = λ u y. held-after u (eqb (x .user) u) refl y;
             lawful = λ accepted u. lawful-after accepted u (eqb (x .user) u) refl;
           }
@@ -201,7 +251,9 @@ module _ (book : List ℕ) (s : Records) (entries : List Entry) (kept : Kept boo
   kept-after =
       by-reply book (x .user) (x .plan) (s .ledger) (s .tally)
       (λ reply. Kept book (after reply) (entry reply ∷ entries)) (λ r e. refused-kept r) admitted-kept
-      (λ given some. declined-kept (unionMask book (x .user) (x .plan) (s .ledger)))
+      (λ given some.
+      declined-kept (user-low book (x .user) (x .plan) (s .ledger) (s .tally) given)
+      (unionMask book (x .user) (x .plan) (s .ledger)))
 
 -- Fresh records, and every list
 
@@ -210,13 +262,15 @@ unfolding heldFor
 nothing-held u = held-zero (wordsOf (fresh .ledger) u) (words-zero 1024 u)
 
 kept-fresh : (book : List ℕ) → Kept book fresh []
-unfolding inSome any entriesOf admittedPlans keep
+unfolding inSome any entriesOf admittedPlans keep pairOf
 kept-fresh book =
     record {
       long = length-replicate {A = ℕ} 1024 0;
-      admitted-count = refl;
-      declined-count = refl;
-      sum = refl;
+      pairs = (length-replicate {A = ℕ} 32 0, length-replicate {A = ℕ} 32 0);
+      counted =
+          λ u.
+          let zero = getD-zeros 32 u in
+          record { admitted-count = zero; declined-count = zero; sum = rw zero };
       held = nothing-held;
       lawful = λ accepted u. nothing-broken (heldFor (fresh .ledger) u) (nothing-held u) book u accepted;
     }
@@ -233,10 +287,9 @@ unfolding heldFor
 promised book s entries k =
     record {
       whole = k .long;
+      pairs = k .pairs;
       each = holds;
-      admitted-count = k .admitted-count;
-      declined-count = k .declined-count;
-      sum = k .sum;
+      counted = k .counted;
     }
   where
     holds : (user : ℕ) → Holds book user (heldFor (s .ledger) user) (entriesOf user entries)

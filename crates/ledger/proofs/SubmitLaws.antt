@@ -28,6 +28,7 @@ use Rattle.verdicts.proofs.Held.{held-accesses, held-operations, plan-operation
 use Rattle.verdicts.proofs.JudgeLaws.{judge-accepted, judge-passes}
 use Rattle.verdicts.proofs.Users.{user-below}
 use Rattle.ledger.specs.Ledger.{heldFor, joinedFor, wordsOf}
+use Rattle.ledger.specs.Counts.{Pair, pairOf}
 use Rattle.ledger.specs.Answers.{countsHold, ledgerTests, tallyTests, submitTests, joinedAccesses, unionMask}
 use Rattle.ledger.specs.Answers.{submitAnswer}
 use Rattle.ledger.specs.Demand.{SubmitAccepted, Submits}
@@ -39,17 +40,17 @@ use Rattle.ledger.proofs.WordLaws.{held-own}
 -- The tests
 
 -- each count is at most the sum
-pub counts-sum : (tally : Tally) → ltb (tally .admitted + tally .declined) 1000000 ≡ countsHold tally
+pub counts-sum : (pair : Pair) → ltb (pair .admitted + pair .declined) 1000000 ≡ countsHold pair
 unfolding countsHold
-counts-sum tally =
-    same-test (ltb (tally .admitted + tally .declined) 1000000) (countsHold tally)
+counts-sum pair =
+    same-test (ltb (pair .admitted + pair .declined) 1000000) (countsHold pair)
     (λ h.
-    let l : tally .admitted + tally .declined < 1000000 = ltb-true (tally .admitted + tally .declined) 1000000 h in
-    rw (lt-ltb (tally .admitted) 1000000 (omega arith), lt-ltb (tally .declined) 1000000 (omega arith), h))
+    let l : pair .admitted + pair .declined < 1000000 = ltb-true (pair .admitted + pair .declined) 1000000 h in
+    rw (lt-ltb (pair .admitted) 1000000 (omega arith), lt-ltb (pair .declined) 1000000 (omega arith), h))
     (λ h.
-    and-right (ltb (tally .declined) 1000000) (ltb (tally .admitted + tally .declined) 1000000)
-    (and-right (ltb (tally .admitted) 1000000)
-    (ltb (tally .declined) 1000000 && ltb (tally .admitted + tally .declined) 1000000) h))
+    and-right (ltb (pair .declined) 1000000) (ltb (pair .admitted + pair .declined) 1000000)
+    (and-right (ltb (pair .admitted) 1000000)
+    (ltb (pair .declined) 1000000 && ltb (pair .admitted + pair .declined) 1000000) h))
 
 module _ (book : List ℕ) (user : ℕ) (plan ledger : List ℕ) (tally : Tally) where
   -- the outcomes of the parts, joined in document 02's order
@@ -58,39 +59,47 @@ module _ (book : List ℕ) (user : ℕ) (plan ledger : List ℕ) (tally : Tally)
       → x ≡ firstFailing (judgeTests book user plan)
       → y ≡ firstFailing (ledgerTests ledger)
       → both ≡ orElse x y
-      → z ≡ firstFailing (tallyTests tally)
+      → z ≡ firstFailing (tallyTests user tally)
       → r ≡ orElse both z
       → r ≡ firstFailing (submitTests book user plan ledger tally)
   unfolding submitTests
   submit-joined x y both z r ex ey eb ez er =
-      joined (judgeTests book user plan ++ ledgerTests ledger) (tallyTests tally) both z r
+      joined (judgeTests book user plan ++ ledgerTests ledger) (tallyTests user tally) both z r
       (joined (judgeTests book user plan) (ledgerTests ledger) x y both ex ey eb) ez er
 
   -- what Submit has tested when it accepts, and the other way
   pub submit-accepted : Passes (submitTests book user plan ledger tally) → SubmitAccepted book user plan ledger tally
   unfolding submitTests ledgerTests tallyTests
   submit-accepted h =
-      let last = append-passed (judgeTests book user plan ++ ledgerTests ledger) (tallyTests tally) h in
+      let last = append-passed (judgeTests book user plan ++ ledgerTests ledger) (tallyTests user tally) h in
       let first = append-passed (judgeTests book user plan) (ledgerTests ledger) (last .0) in
       record {
         judge-accepted = judge-accepted book user plan (first .0);
         ledger-whole = eqb-true (length ledger) 1024 (last-passed 27 0 (eqb (length ledger) 1024) (first .1));
         counts-below =
-            ltb-true (tally .admitted + tally .declined) 1000000
-            (counts-sum tally ∙ last-passed 28 0 (countsHold tally) (last .1));
+            let pair = pairOf tally user in
+            ltb-true (pair .admitted + pair .declined) 1000000
+            (counts-sum pair ∙ last-passed 28 0 (countsHold pair) (last .1));
       }
 
   pub submit-passes : SubmitAccepted book user plan ledger tally → Passes (submitTests book user plan ledger tally)
   unfolding submitTests ledgerTests tallyTests firstFailing orElse
   submit-passes given =
       rw (
-        first-append (judgeTests book user plan ++ ledgerTests ledger) (tallyTests tally),
+        first-append (judgeTests book user plan ++ ledgerTests ledger) (tallyTests user tally),
         first-append (judgeTests book user plan) (ledgerTests ledger),
         judge-passes book user plan (given .judge-accepted),
         eq-eqb (length ledger) 1024 (given .ledger-whole),
-        ← (counts-sum tally),
-        lt-ltb (tally .admitted + tally .declined) 1000000 (given .counts-below),
+        ← (counts-sum (pairOf tally user)),
+        lt-ltb (pairOf tally user .admitted + pairOf tally user .declined) 1000000 (given .counts-below),
       )
+
+  -- the user's number is one of the ledger and of the tally
+  pub user-low : SubmitAccepted book user plan ledger tally → user < 32
+  user-low given =
+      let accepted = given .judge-accepted in
+      let head = accepted-head book (accepted .book-accepted) in
+      omega (arith, head .users-most, user-below (headOf book) user (accepted .a-user))
 
   -- The reply
 
@@ -180,8 +189,7 @@ module _ (book : List ℕ) (user : ℕ) (plan ledger : List ℕ) (tally : Tally)
   admitted-holds given x =
       let accepted = given .judge-accepted in
       let head = accepted-head book (accepted .book-accepted) in
-      let low = user-below (headOf book) user (accepted .a-user) in
-      let room : 32 * user + 32 ≤ length ledger = omega (arith, given .ledger-whole, head .users-most, low) in
+      let room : 32 * user + 32 ≤ length ledger = omega (arith, given .ledger-whole, user-low given) in
       held-own ledger user (accessWords (headOf book) plan) room x
       ∙ rw (held-accesses (headOf book) plan head (accepted-plan (headOf book) plan (accepted .plan-accepted)) x)
 

@@ -1,4 +1,5 @@
--- Theorems about the definitions, by computation: some days of submissions in the small shop. Assumes nothing.
+-- Theorems about the definitions, by computation: some days of submissions in the small shop, and a user at his million.
+-- Assumes nothing.
 use Prim.Native.Nat.{ℕ}
 use mathlib.Core.Path.{_≡_, refl}
 use mathlib.Core.List.{List, [], _∷_, _++_, map, reverse}
@@ -32,9 +33,11 @@ use Rattle.verdicts.specs.Breaking.{choicesFrom, operations, accepts, refusesAl
 use Rattle.verdicts.specs.Breaking.{brokenMask}
 use Rattle.verdicts.specs.Answers.{userTests, judgeTests}
 use Rattle.ledger.specs.Ledger.{wordsOf, heldFor, joinedFor}
+use Rattle.ledger.specs.Counts.{pairOf, raisedFor}
 use Rattle.ledger.specs.Answers.{ledgerTests, countsHold, tallyTests, submitTests, joinedAccesses, unionMask}
 use Rattle.ledger.specs.Answers.{submitAnswer, ledgerAfter, submitLedger, tallyAfter, submitTally}
-use Rattle.ledger.specs.Histories.{Submission, replyTo, next, recordsAfter, log}
+use Rattle.ledger.specs.Histories.{Submission, fresh, replyTo, next, recordsAfter, log}
+use Rattle.ledger.specs.declared.Tally.{Tally}
 use Rattle.ledger.specs.declared.Submitted.{Submitted}
 use Rattle.ledger.specs.declared.Submitted.the-variants.{Admitted, Declined, Refused}
 
@@ -61,28 +64,40 @@ days =
 unfoldable pub submissions : List Submission
 submissions = reverse (map (λ day. record { user = day .0; plan = plan (day .1) }) days)
 
--- the replies; then both counts, and the words of users 1 and 2: State (category 2) as it is in the first, Price
--- (category 4) under avg in the second
+-- user 1 at his million, nobody else with a plan counted
+unfoldable pub million : Tally
+million = record { admitted = 0 ∷ 1000000 ∷ replicate 30 0; declined = replicate 32 0 }
+
+-- the replies; then the counts of every user, admitted and declined; then the words of users 1 and 2: State (category
+-- 2) as it is in the first, Price (category 4) under avg in the second; then State of users 1 and 2 at that million
 pub shop-days :
-    _≡_ {A = List Submitted × List ℕ} (
+    _≡_ {A = List Submitted × List ℕ × List Submitted} (
       map (λ e. e .reply) (log shop submissions),
       recordsAfter shop submissions .tally .admitted
-          ∷ recordsAfter shop submissions .tally .declined
-          ∷ (wordsOf (recordsAfter shop submissions .ledger) 1 ++ wordsOf (recordsAfter shop submissions .ledger) 2),
+          ++ recordsAfter shop submissions .tally .declined
+          ++ wordsOf (recordsAfter shop submissions .ledger) 1
+          ++ wordsOf (recordsAfter shop submissions .ledger) 2,
+      map (λ user. submitAnswer shop user (plan (state ∷ output 0 ∷ [])) (fresh .ledger) million) (1 ∷ 2 ∷ []),
+    ) (
+      reverse (map (λ day. day .2) days),
+      (0 ∷ 3 ∷ 1 ∷ replicate 29 0)
+          ++ (0 ∷ 1 ∷ 2 ∷ replicate 29 0)
+          ++ (4 ∷ 16 ∷ replicate 30 0)
+          ++ (4 ∷ 16 ∷ replicate 30 0),
+      Refused (record { number = 28; place = 0 }) ∷ Admitted ∷ [],
     )
-    (reverse (map (λ day. day .2) days), 4 ∷ 3 ∷ 4 ∷ 16 ∷ (replicate 30 0 ++ (4 ∷ 16 ∷ replicate 30 0)))
-unfolding days submissions plan all any upTo from has upwardIn upward under leaf covers properDescendant ownedBy
-    support parentHolds isUser isDataLeaf supportOf supports coversUser inLeafSet weighted checkSum checkHolds
+unfolding days submissions million plan all any upTo from has upwardIn upward under leaf covers properDescendant
+    ownedBy support parentHolds isUser isDataLeaf supportOf supports coversUser inLeafSet weighted checkSum checkHolds
     between zeros lengthHolds kindHolds usersCounted dataCounted columnsCounted functionsCounted ruleCounts
     referenceEnd ruleZeros ruleCounted usersOrdered dataOrdered labelHolds labelsHold functionsHold userNumbersHold
     namesAction referenceHolds numbersHold leafSetsApart referencesApart maskAllows maskHolds masksHold
     usersBlockTests dataBlockTests columnsBlockTests functionsBlockTests ruleBlockTests blockTests checkTests
     kindTests contentTests lengthTests blockByBlock bookTests sealTests firstFailing refusedOr answered withCheck
-    sealBytes padded block users categories columns functions rule rule0 rule1 rule2 shop kindOf kindAt isValue
-    names soundAs rowHolds planLengthHolds rowTests planTests appliedAs through pathsBy pathsIn paths labels takes
-    counting firstOperation operationOf carries reaches gives isAccess wordOf accessesOf flat keep everyAccess
-    actionOf actionFits channelFits fits fitting choicesFrom operations accepts refusesAll someChoiceRefused breaks
-    brokenMask userTests judgeTests accessWords heldBy union wordsOf heldFor joinedFor ledgerTests countsHold
+    sealBytes padded block users categories columns functions rule rule0 rule1 rule2 shop kindOf kindAt isValue names
+    soundAs rowHolds planLengthHolds rowTests planTests appliedAs through pathsBy pathsIn paths labels takes counting
+    firstOperation operationOf carries reaches gives isAccess wordOf accessesOf flat keep everyAccess actionOf
+    actionFits channelFits fits fitting choicesFrom operations accepts refusesAll someChoiceRefused breaks brokenMask
+    userTests judgeTests accessWords heldBy union wordsOf heldFor joinedFor pairOf raisedFor ledgerTests countsHold
     tallyTests submitTests joinedAccesses unionMask submitAnswer ledgerAfter submitLedger tallyAfter submitTally
     replyTo next recordsAfter log
 shop-days = refl

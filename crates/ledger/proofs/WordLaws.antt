@@ -15,7 +15,7 @@ use Rattle.book.proofs.Loops.{Filled}
 use Rattle.lineage.proofs.Steps.{getD-zeros}
 use Rattle.lineage.proofs.Words.{getD-from, length-from}
 use Rattle.verdicts.specs.Accesses.{Access, heldBy, union}
-use Rattle.verdicts.proofs.Held.{held-same, held-union}
+use Rattle.verdicts.proofs.Held.{held-union}
 use Rattle.ledger.specs.Ledger.{heldFor, joinedFor, wordsOf}
 use Rattle.ledger.specs.Inner.Steps.{joinedWords}
 
@@ -40,6 +40,10 @@ module _ (g : ℕ → ℕ) (n : ℕ) where
 pub joined-at : (a b : List ℕ) (w : ℕ) → w < 32 → getD (joinedWords a b) w 0 ≡ bitOr (getD a w 0) (getD b w 0)
 unfolding joinedWords
 joined-at a b w l = mapped-at (λ v. bitOr (getD a v 0) (getD b v 0)) 32 w l
+
+joined-words-length : (a b : List ℕ) → length (joinedWords a b) ≡ 32
+unfolding joinedWords
+joined-words-length a b = mapped-length (λ v. bitOr (getD a v 0) (getD b v 0)) 32
 
 -- Words joined to those of a user, one a turn
 
@@ -158,6 +162,19 @@ words-at : (ledger : List ℕ) (user w : ℕ) → w < 32 → getD (wordsOf ledge
 unfolding wordsOf
 words-at ledger user w l = mapped-at (λ v. getD ledger (32 * user + v) 0) 32 w l
 
+words-length : (ledger : List ℕ) (user : ℕ) → length (wordsOf ledger user) ≡ 32
+unfolding wordsOf
+words-length ledger user = mapped-length (λ v. getD ledger (32 * user + v) 0) 32
+
+-- 32 words that agree one by one
+words-same :
+    (a b : List ℕ)
+    → length a ≡ 32
+    → length b ≡ 32
+    → ((w : ℕ) → w < 32 → getD a w 0 ≡ getD b w 0)
+    → a ≡ b
+words-same a b size size′ at = ext-getD 0 a b (size ∙ sym size′) (λ w l. at w (omega (arith, size, l)))
+
 pub words-zero : (n user w : ℕ) → w < 32 → _≡_ {A = ℕ} (getD (wordsOf (replicate n 0) user) w 0) 0
 words-zero n user w l = words-at (replicate n 0) user w l ∙ getD-zeros n (32 * user + w)
 
@@ -189,20 +206,42 @@ module _ (ledger : List ℕ) (user : ℕ) (words : List ℕ) where
           List·getD-eq-default (joinedFor ledger user words) 0 (rw joined-length past)
           ∙ sym (List·getD-eq-default ledger 0 past)
 
+  -- the user has the words joined
+  pub own-words :
+      32 * user + 32 ≤ length ledger
+      → wordsOf (joinedFor ledger user words) user ≡ joinedWords (wordsOf ledger user) words
+  own-words room =
+      words-same (wordsOf (joinedFor ledger user words) user) (joinedWords (wordsOf ledger user) words)
+      (words-length (joinedFor ledger user words) user) (joined-words-length (wordsOf ledger user) words)
+      (λ w l.
+      let q : (32 * user + w) / 32 ≡ user = omega arith in
+      let p : (32 * user + w) % 32 ≡ w = omega arith in
+      words-at (joinedFor ledger user words) user w l
+      ∙ joined-word (32 * user + w) (omega arith)
+      ∙ rw (p, eq-eqb ((32 * user + w) / 32) user q)
+      (sym (joined-at (wordsOf ledger user) words w l ∙ rw (words-at ledger user w l))))
+
+  -- any other user those he had
+  pub other-words :
+      (other : ℕ) → (other ≡ user → ⊥) → wordsOf (joinedFor ledger user words) other ≡ wordsOf ledger other
+  other-words other apart =
+      words-same (wordsOf (joinedFor ledger user words) other) (wordsOf ledger other)
+      (words-length (joinedFor ledger user words) other) (words-length ledger other)
+      (λ w l.
+      words-at (joinedFor ledger user words) other w l
+      ∙ other-word (32 * other + w) (λ z. apart (omega arith))
+      ∙ sym (words-at ledger other w l))
+
   -- the user holds the union
   pub held-own :
       32 * user + 32 ≤ length ledger
       → (x : Access)
       → heldFor (joinedFor ledger user words) user x ≡ union (heldFor ledger user) (heldBy words) x
   unfolding heldFor
-  held-own room =
-      held-union (wordsOf ledger user) words (wordsOf (joinedFor ledger user words) user)
-      (λ w l.
-      let q : (32 * user + w) / 32 ≡ user = omega arith in
-      let p : (32 * user + w) % 32 ≡ w = omega arith in
-      words-at (joinedFor ledger user words) user w l
-      ∙ joined-word (32 * user + w) (omega arith)
-      ∙ rw (p, eq-eqb ((32 * user + w) / 32) user q, words-at ledger user w l))
+  held-own room x =
+      rw (own-words room)
+      (held-union (wordsOf ledger user) words (joinedWords (wordsOf ledger user) words)
+      (joined-at (wordsOf ledger user) words) x)
 
   -- any other user what he held
   pub held-other :
@@ -211,9 +250,4 @@ module _ (ledger : List ℕ) (user : ℕ) (words : List ℕ) where
       → (x : Access)
       → heldFor (joinedFor ledger user words) other x ≡ heldFor ledger other x
   unfolding heldFor
-  held-other other apart =
-      held-same (wordsOf (joinedFor ledger user words) other) (wordsOf ledger other)
-      (λ w l.
-      words-at (joinedFor ledger user words) other w l
-      ∙ other-word (32 * other + w) (λ z. apart (omega arith))
-      ∙ sym (words-at ledger other w l))
+  held-other other apart x = rw (other-words other apart)

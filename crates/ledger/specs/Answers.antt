@@ -1,5 +1,5 @@
 -- The tests of Submit in document 02's order, and what it replies, whole, with the ledger and the tally on leaving.
--- Document 02, N3. Assumes nothing.
+-- Document 02, N3 and N8. Assumes nothing.
 use Prim.Native.Nat.{ℕ, _+_}
 use mathlib.Core.Bool.{Bool, _&&_, cond}
 use mathlib.Core.List.{List, [], _∷_, _++_}
@@ -13,6 +13,7 @@ use Rattle.verdicts.specs.Accesses.{Accesses, accessesOf, union}
 use Rattle.verdicts.specs.Breaking.{brokenMask}
 use Rattle.verdicts.specs.Answers.{judgeTests}
 use Rattle.ledger.specs.Ledger.{Ledger, heldFor, joinedFor}
+use Rattle.ledger.specs.Counts.{Pair, pairOf, raisedFor}
 use Rattle.ledger.specs.declared.Tally.{Tally}
 use Rattle.ledger.specs.declared.Submitted.{Submitted}
 use Rattle.ledger.specs.declared.Submitted.the-variants.{Admitted, Declined, Refused}
@@ -29,18 +30,19 @@ unfoldable pub ledgerTests : Ledger → List Test
 ledgerTests ledger = (ledgerLength, 0, eqb (length ledger) 1024) ∷ []
 
 -- 28: "when either count or their sum is already 1,000,000 or more"
-unfoldable pub countsHold : Tally → Bool
-countsHold tally =
-    ltb (tally .admitted) 1000000
-    && (ltb (tally .declined) 1000000 && ltb (tally .admitted + tally .declined) 1000000)
+unfoldable pub countsHold : Pair → Bool
+countsHold pair =
+    ltb (pair .admitted) 1000000
+    && (ltb (pair .declined) 1000000 && ltb (pair .admitted + pair .declined) 1000000)
 
-unfoldable pub tallyTests : Tally → List Test
-tallyTests tally = (countsFull, 0, countsHold tally) ∷ []
+-- "28 looks at that user's pair alone"
+unfoldable pub tallyTests : (user : ℕ) → Tally → List Test
+tallyTests user tally = (countsFull, 0, countsHold (pairOf tally user)) ∷ []
 
 module _ (book : Book) (user : ℕ) (plan : Plan) (ledger : Ledger) where
   -- "Judge's refusals, then 27 [..], then 28"
   unfoldable pub submitTests : Tally → List Test
-  submitTests tally = judgeTests book user plan ++ ledgerTests ledger ++ tallyTests tally
+  submitTests tally = judgeTests book user plan ++ ledgerTests ledger ++ tallyTests user tally
 
   -- "its accesses joined with those held for its user"
   unfoldable pub joinedAccesses : Accesses
@@ -64,11 +66,13 @@ module _ (book : Book) (user : ℕ) (plan : Plan) (ledger : Ledger) where
   unfoldable pub submitLedger : Tally → Ledger
   submitLedger tally = ledgerAfter (submitAnswer tally)
 
--- the tally on leaving: it "counts admitted and declined plans"; "a refusal leaves it unchanged"
-unfoldable pub tallyAfter : (reply : Submitted) → Tally → Tally
-tallyAfter Admitted tally = record { admitted = tally .admitted + 1; declined = tally .declined }
-tallyAfter (Declined mask) tally = record { admitted = tally .admitted; declined = tally .declined + 1 }
-tallyAfter (Refused refusal) tally = tally
+-- the tally on leaving: it "counts admitted and declined plans", each for its user; "a refusal leaves it unchanged"
+unfoldable pub tallyAfter : (user : ℕ) (reply : Submitted) → Tally → Tally
+tallyAfter user Admitted tally =
+    record { admitted = raisedFor (tally .admitted) user; declined = tally .declined }
+tallyAfter user (Declined mask) tally =
+    record { admitted = tally .admitted; declined = raisedFor (tally .declined) user }
+tallyAfter user (Refused refusal) tally = tally
 
 unfoldable pub submitTally : (book : Book) (user : ℕ) (plan : Plan) (ledger : Ledger) → Tally → Tally
-submitTally book user plan ledger tally = tallyAfter (submitAnswer book user plan ledger tally) tally
+submitTally book user plan ledger tally = tallyAfter user (submitAnswer book user plan ledger tally) tally

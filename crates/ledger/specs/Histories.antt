@@ -1,5 +1,5 @@
 -- Lists of submissions from a fresh ledger and tally with one book, the replies to them, and what the replies say of a
--- user. Document 02, N3. Assumes nothing.
+-- user. Document 02, N3 and N8. Assumes nothing.
 use Prim.Native.Nat.{ℕ}
 use mathlib.Core.Bool.{Bool, true, false}
 use mathlib.Core.List.{List, [], _∷_, map}
@@ -26,7 +26,7 @@ pub record Records : Type 0 where
 
 -- "Fresh means all zero, for both."
 abbrev pub fresh : Records
-fresh = record { ledger = replicate 1024 0; tally = record { admitted = 0; declined = 0 } }
+fresh = record { ledger = replicate 1024 0; tally = record { admitted = replicate 32 0; declined = replicate 32 0 } }
 
 -- One submission
 
@@ -72,7 +72,10 @@ notRefused Admitted = true
 notRefused (Declined mask) = true
 notRefused (Refused refusal) = false
 
--- a user's own entries
+-- a user's own submissions, and his own entries
+unfoldable pub submissionsOf : (user : ℕ) → List Submission → List Submission
+submissionsOf user list = keep (λ x. eqb (x .user) user) list
+
 unfoldable pub entriesOf : (user : ℕ) → List Entry → List Entry
 entriesOf user entries = keep (λ e. eqb (e .submission .user) user) entries
 

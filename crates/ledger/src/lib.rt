@@ -3,18 +3,19 @@
 //
 // No function has a `requires`. What Submit replies, and what it leaves in the ledger and the tally,
 // are equations with definitions of specs/Answers.antt; what holds after every list of submissions is
-// specs/Demand.antt.
+// specs/Demand.antt, and what two lists that are alike for a user give him is specs/Alike.antt.
+pub mod counts; // the counts of a user
 pub mod submitting; // Submit, with the tally by value
 pub mod words; // the words of a user
 
 use book::Refusal;
 pub use submitting::submit;
 
-// How many plans were admitted and how many declined, of all users together.
+// How many plans were admitted and how many declined, for each user number.
 #[repr(C)]
 pub struct Tally {
-    pub admitted: u32,
-    pub declined: u32,
+    pub admitted: [u32; 32],
+    pub declined: [u32; 32],
 }
 
 // What Submit replies: for a declined plan the mask of the rules that it breaks together with what its

@@ -4,6 +4,8 @@ use crate::LEDGER_LENGTH;
 use crate::Outcome;
 use crate::Submitted;
 use crate::Tally;
+use crate::counts::count_of;
+use crate::counts::raised;
 use crate::words::join_words;
 use crate::words::joined;
 use crate::words::words_of;
@@ -21,11 +23,13 @@ ghost use Rattle.ledger.specs.Answers.{joinedAccesses, submitAnswer, sub
 ghost use Rattle.ledger.specs.Demand.{Continues, SubmitAccepted, Submits};
 ghost use Rattle.ledger.specs.Inner.Steps.{MaskWith, Raised, SubmitTested};
 
-// Each count is at most the sum, which 64 bits hold.
-fn test_counts(tally: Tally) -> Tested
-    ensures { λ r. ⌜ r ≡ firstFailing (tallyTests tally) ⌝ }
+// The pair of the user alone. Each count is at most the sum, which 64 bits hold.
+fn test_counts(user: u32, tally: Tally) -> Tested
+    ensures { λ r. ⌜ r ≡ firstFailing (tallyTests user tally) ⌝ }
 {
-    let sum = (tally.admitted as u64) + (tally.declined as u64);
+    let admitted = tally.admitted;
+    let declined = tally.declined;
+    let sum = (count_of(admitted, user) as u64) + (count_of(declined, user) as u64);
     test(COUNTS_FULL, 0, sum < 1000000)
 }
 
@@ -43,7 +47,7 @@ fn test_submit(
 {
     let judged = test_judge(book, t, user, plan);
     let both = or_else(judged, test(LEDGER_LENGTH, 0, ledger.len() == 1024));
-    or_else(both, test_counts(tally))
+    or_else(both, test_counts(user, tally))
 }
 
 // The mask of the rules that a user breaks with these words and all that he holds.
@@ -53,39 +57,29 @@ fn mask_with(book: &[u8], t: &[u64], user: u32, ledger: &[u64], words: [u64; 32]
     broken_by(book, t, user, joined(words_of(ledger, user), words))
 }
 
-// A count raised by one; it stays at its top value.
-fn raised(n: u32) -> u32
-    ensures { λ r. ⌜ Raised n r ⌝ }
-{
-    if n < 4294967295 {
-        return n + 1;
-    }
-    n
-}
-
-fn admitted(tally: Tally) -> Outcome
-    ensures { λ r. ⌜ (r .reply ≡ Submitted.Admitted) × Raised (tally .admitted) (r .tally .admitted)
+fn admitted(user: u32, tally: Tally) -> Outcome
+    ensures { λ r. ⌜ (r .reply ≡ Submitted.Admitted) × Raised (tally .admitted) user (r .tally .admitted)
         × (r .tally .declined ≡ tally .declined) ⌝ }
 {
+    let before = tally.admitted;
+    let declined = tally.declined;
+    let admitted = raised(before, user);
     Outcome {
         reply: Submitted::Admitted,
-        tally: Tally {
-            admitted: raised(tally.admitted),
-            declined: tally.declined,
-        },
+        tally: Tally { admitted, declined },
     }
 }
 
-fn declined(mask: u32, tally: Tally) -> Outcome
+fn declined(user: u32, mask: u32, tally: Tally) -> Outcome
     ensures { λ r. ⌜ (r .reply ≡ Submitted.Declined mask) × (r .tally .admitted ≡ tally .admitted)
-        × Raised (tally .declined) (r .tally .declined) ⌝ }
+        × Raised (tally .declined) user (r .tally .declined) ⌝ }
 {
+    let admitted = tally.admitted;
+    let before = tally.declined;
+    let declined = raised(before, user);
     Outcome {
         reply: Submitted::Declined(mask),
-        tally: Tally {
-            admitted: tally.admitted,
-            declined: raised(tally.declined),
-        },
+        tally: Tally { admitted, declined },
     }
 }
 
@@ -113,9 +107,9 @@ pub fn submit(book: &[u8], user: u32, plan: &[u8], ledger: &mut [u64], tally: Ta
             let mask = mask_with(book, &t, user, ledger, words);
             if mask == 0 {
                 join_words(ledger, user, words);
-                return admitted(tally);
+                return admitted(user, tally);
             }
-            declined(mask, tally)
+            declined(user, mask, tally)
         }
     }
 }

@@ -182,7 +182,7 @@ fn count_of(call: Call, file: &[u8]) -> Count {
         right: 0,
         common: file.len(),
     };
-    let mut records = [0u64; 2114];
+    let mut records = [0u64; 2176];
     for i in 0..file.len() {
         let next = line_at(count, call, file, i, &mut records);
         count = next;

@@ -1,8 +1,10 @@
-// Records to submit to: 2112 words, of which the first are the ledger, then the two counts.
+// Records to submit to: 2112 words, of which the first are the ledger, then the counts of admitted plans
+// of 32 users, and those of declined ones.
 //
-// They are set by text: the counts where they are not 0, then, after a bar, the bits that are set, with
-// commas between them. Each is a word, a bit in it, how many bits from there on where that is not one,
-// and in how many words from there on where that is not one.
+// They are set by text: the counts that are not 0, then, after a bar, the bits that are set, with commas
+// between them. Counts are a user, how many plans are admitted, how many declined where that is not 0,
+// and for how many users from there on where that is not one. Bits are a word, a bit in it, how many
+// bits from there on where that is not one, and in how many words from there on where that is not one.
 use crate::numbers;
 use crate::numbers::Numbers;
 use crate::text::after;
@@ -14,26 +16,44 @@ use book::sets::word_at;
 use ledger::Tally;
 use std::num::wrapping_add_usize;
 
-const ADMITTED: usize = 2112;
+// Where the counts of admitted plans start, and those of declined ones.
+pub const ADMITTED: usize = 2112;
 
-const DECLINED: usize = 2113;
+pub const DECLINED: usize = 2144;
 
-pub fn tally_in(records: &[u64]) -> Tally {
-    Tally {
-        admitted: (word_at(records, ADMITTED) % 4294967296) as u32,
-        declined: (word_at(records, DECLINED) % 4294967296) as u32,
+// The 32 counts from start on.
+fn counts_in(records: &[u64], start: usize) -> [u32; 32] {
+    let mut counts = [0u32; 32];
+    for i in 0..32usize {
+        let word = word_at(records, wrapping_add_usize(start, i));
+        counts[i] = (word % 4294967296) as u32;
+    }
+    counts
+}
+
+fn put_counts(records: &mut [u64], start: usize, counts: [u32; 32]) {
+    for i in 0..32usize {
+        put_word(records, wrapping_add_usize(start, i), counts[i] as u64);
     }
 }
 
+pub fn tally_in(records: &[u64]) -> Tally {
+    let admitted = counts_in(records, ADMITTED);
+    let declined = counts_in(records, DECLINED);
+    Tally { admitted, declined }
+}
+
 pub fn put_tally(records: &mut [u64], tally: Tally) {
-    put_word(records, ADMITTED, tally.admitted as u64);
-    put_word(records, DECLINED, tally.declined as u64);
+    let admitted = tally.admitted;
+    let declined = tally.declined;
+    put_counts(records, ADMITTED, admitted);
+    put_counts(records, DECLINED, declined);
 }
 
 // A copy, to compare with after a call.
-pub fn copied(records: &[u64]) -> [u64; 2114] {
-    let mut copy = [0u64; 2114];
-    for i in 0..2114usize {
+pub fn copied(records: &[u64]) -> [u64; 2176] {
+    let mut copy = [0u64; 2176];
+    for i in 0..2176usize {
         copy[i] = word_at(records, i);
     }
     copy
@@ -93,16 +113,50 @@ fn set_bits(records: &mut [u64], text: &[u8]) -> bool {
     sound
 }
 
+// Puts a count at so many places from start on.
+fn put_times(records: &mut [u64], start: usize, times: u32, count: u32) {
+    let mut at = start;
+    for _ in 0..times {
+        put_word(records, at, count as u64);
+        at = wrapping_add_usize(at, 1);
+    }
+}
+
+// Whether these are counts of users, and of none beyond them.
+fn names_counts(named: Numbers) -> bool {
+    let users_end = named.number(0) as u64 + named.or(3, 1) as u64;
+    named.within(2, 4) & (users_end <= 32)
+}
+
+// Where nothing is written no count is set.
+fn set_counts_at(records: &mut [u64], text: &[u8], i: usize) -> bool {
+    if !starts(text, i, b',') {
+        return true;
+    }
+    let named = numbers::read(piece(text, i, b','));
+    if named.within(0, 0) {
+        return true;
+    }
+    if !names_counts(named) {
+        return false;
+    }
+    let user = named.number(0) as usize;
+    put_times(records, ADMITTED + user, named.or(3, 1), named.number(1));
+    put_times(records, DECLINED + user, named.or(3, 1), named.number(2));
+    true
+}
+
+fn set_counts(records: &mut [u64], text: &[u8]) -> bool {
+    let mut sound = true;
+    for i in 0..text.len() {
+        sound = sound & set_counts_at(records, text, i);
+    }
+    sound
+}
+
 // Sets all the records; false where the text is malformed.
 pub fn set(records: &mut [u64], text: &[u8]) -> bool {
-    let counts = numbers::read(before(text, b'|'));
     clear(records);
-    put_tally(
-        records,
-        Tally {
-            admitted: counts.number(0),
-            declined: counts.number(1),
-        },
-    );
-    counts.within(0, 2) & set_bits(records, after(text, b'|'))
+    let counts = set_counts(records, before(text, b'|'));
+    counts & set_bits(records, after(text, b'|'))
 }

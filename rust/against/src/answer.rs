@@ -38,7 +38,8 @@ pub enum Answer {
     NotIdle,
     /// No engine's answer: what Blocked may say of a rule whose data some plan opens.
     NotClosed,
-    /// No engine's answer: what the documents state of every list of submissions, or of every answer.
+    /// No engine's answer: what the documents state of every list of submissions, of two lists that are
+    /// alike for a user, or of every answer.
     Stated(&'static str),
     /// The engine gave up; nothing can be compared.
     GaveUp,

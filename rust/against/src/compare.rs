@@ -4,7 +4,7 @@ use crate::answer::{self, Answer};
 use crate::engine::Engine;
 use crate::reached::Reached;
 use crate::text;
-use books::submissions::Submit;
+use books::submissions::{Submit, USERS};
 use books::Case;
 use std::fmt;
 
@@ -30,7 +30,7 @@ impl fmt::Display for Difference {
     }
 }
 
-/// What a call changed: the words of a ledger one by one, else the whole buffer.
+/// What a call changed: the words of a ledger and the counts of users one by one, else the whole buffer.
 fn left(before: &Case, after: &Case) -> Vec<String> {
     if let (Case::Submit(before), Case::Submit(after)) = (before, after) {
         return left_of_submit(before, after);
@@ -46,11 +46,12 @@ fn left_of_submit(before: &Submit, after: &Submit) -> Vec<String> {
     let mut lines: Vec<String> = changed
         .map(|(i, (_, left))| format!("word {i} {left:016x}"))
         .collect();
-    let counts = |of: &Submit| (of.admitted, of.declined);
-    if counts(before) != counts(after) {
-        let (admitted, declined) = counts(after);
-        lines.push(format!("admitted {admitted} declined {declined}"));
-    }
+    let counts = |of: &Submit, user: usize| [of.admitted[user], of.declined[user]];
+    let counted = (0..USERS).filter(|&user| counts(before, user) != counts(after, user));
+    lines.extend(counted.map(|user| {
+        let [admitted, declined] = counts(after, user);
+        format!("user {user} admitted {admitted} declined {declined}")
+    }));
     lines
 }
 
@@ -101,18 +102,19 @@ pub fn wrong(
 mod tests {
     use super::*;
 
-    /// Of a ledger the words that differ are said, not all of them.
+    /// Of a ledger the words that differ are said, of a tally the users' counts, not all of them.
     #[test]
     fn what_a_submission_leaves() {
         let before = Submit::fresh(&[]);
         let mut after = before.clone();
         assert!(left_of_submit(&before, &after).is_empty());
         (after.ledger[33], after.ledger[1_023]) = (16, 1 << 63);
-        after.declined = 1;
+        (after.declined[1], after.admitted[31]) = (1, 5);
         let lines = [
             "word 33 0000000000000010",
             "word 1023 8000000000000000",
-            "admitted 0 declined 1",
+            "user 1 admitted 0 declined 1",
+            "user 31 admitted 5 declined 0",
         ];
         assert_eq!(left_of_submit(&before, &after), lines);
     }

@@ -6,7 +6,7 @@ use books::trees::Tree;
 use pspec::raw;
 use second::access::Action;
 use second::blocked::Datum;
-use second::{idle, reading, Refusal, Tally};
+use second::{idle, reading, Counts, Refusal, Tally};
 
 /// What Idle answers: nothing where the engine gave up, else idle (`None`) or a user and rows.
 pub type Idleness = Option<Result<Option<(u32, u32)>, Refusal>>;
@@ -104,19 +104,28 @@ impl Engine for Second {
         Some(answer.map(|others| others.map_or(0, |mask| with_asking(mask, rule))))
     }
     fn submit(&self, given: &mut Submit) -> Result<u32, Refusal> {
-        let mut tally = Tally {
-            admitted: given.admitted,
-            declined: given.declined,
-        };
+        let mut tally = tally(given);
         let ledger = &mut given.ledger;
         let answer = second::submit(&given.book, given.user, &given.plan, ledger, &mut tally);
-        (given.admitted, given.declined) = (tally.admitted, tally.declined);
+        given.admitted = tally.pairs.map(|pair| pair.admitted);
+        given.declined = tally.pairs.map(|pair| pair.declined);
         answer
     }
     fn tree(&self, given: &mut Tree) -> Result<u32, Refusal> {
         let buffer = &mut given.memory[..given.lent];
         let answer = second::tree(&given.book, &given.plan, given.row, buffer);
         answer.map(|(nodes, length)| with_length(nodes, length))
+    }
+}
+
+/// The tally of a submission, pair by pair.
+pub fn tally(given: &Submit) -> Tally {
+    let pair = |user: usize| Counts {
+        admitted: given.admitted[user],
+        declined: given.declined[user],
+    };
+    Tally {
+        pairs: std::array::from_fn(pair),
     }
 }
 

@@ -3,6 +3,7 @@
 #![warn(missing_docs)]
 
 pub mod actions;
+pub mod alike;
 pub mod answer;
 pub mod closed;
 pub mod compare;
@@ -12,6 +13,7 @@ pub mod mixing;
 pub mod reached;
 pub mod run;
 pub mod submissions;
+pub mod submit_counts;
 pub mod text;
 pub mod tree;
 pub mod tree_counts;

@@ -4,6 +4,7 @@ use crate::actions::{self, PAIRS};
 use crate::answer::Answer;
 use crate::engine::unpacked;
 use crate::mixing::{self, MISREADINGS};
+use crate::submit_counts::SubmitCounts;
 use crate::tree_counts::TreeCounts;
 use books::draft::BLOCK;
 use books::Case;
@@ -72,16 +73,8 @@ pub struct Reached {
     pub verdicts_misread: [u64; 6],
     /// Submitted plans whose reply, or what their users then hold, depends on each of them.
     pub submissions_misread: [u64; 6],
-    /// Submitted plans that are admitted.
-    pub admitted: u64,
-    /// Submitted plans that are declined.
-    pub declined: u64,
-    /// Of the declined ones, those that break no rule by themselves.
-    pub declined_for_held: u64,
-    /// Histories of submissions.
-    pub histories: u64,
-    /// Of these, those in which plans are admitted, declined and refused.
-    pub mixed_histories: u64,
+    /// What was reached of Submit.
+    pub submissions: SubmitCounts,
     /// What was reached of Tree.
     pub trees: TreeCounts,
     /// Searches that were given up.
@@ -101,8 +94,10 @@ impl Reached {
     pub fn count(&mut self, case: &Case, answer: Answer) {
         self.cases += 1;
         *self.calls.entry(call(case)).or_default() += 1;
-        if let Case::Tree(given) = case {
-            self.trees.count(given, answer);
+        match case {
+            Case::Submit(given) => self.submissions.count(given, answer),
+            Case::Tree(given) => self.trees.count(given, answer),
+            _ => {}
         }
         match answer {
             Answer::Refused(refusal) => {
@@ -117,7 +112,7 @@ impl Reached {
             Answer::Closed(value) => self.count_closed(case, value),
             Answer::Unblocked => self.unblocked += 1,
             Answer::Few(mask) => self.count_causes(case, mask),
-            Answer::Admitted | Answer::Declined(_) => self.count_submitted(case, answer),
+            Answer::Admitted | Answer::Declined(_) => self.count_submitted(case),
             Answer::Done => self.count_flows(case),
             Answer::Rules(_) | Answer::Written(_) => {}
             Answer::NotIdle | Answer::NotClosed | Answer::Stated(_) => {}
@@ -183,17 +178,11 @@ impl Reached {
         }
     }
 
-    fn count_submitted(&mut self, case: &Case, answer: Answer) {
-        let Case::Submit(given) = case else { return };
-        if answer == Answer::Admitted {
-            self.admitted += 1;
-        } else {
-            self.declined += 1;
-            let alone = second::judge(&given.book, given.user, &given.plan);
-            self.declined_for_held += u64::from(alone == Ok(0));
+    fn count_submitted(&mut self, case: &Case) {
+        if let Case::Submit(given) = case {
+            let by_misreading = mixing::submission_depends(given);
+            count_each(&mut self.submissions_misread, by_misreading);
         }
-        let by_misreading = mixing::submission_depends(given);
-        count_each(&mut self.submissions_misread, by_misreading);
     }
 
     /// The verdicts that depend on each pair, in words.
@@ -221,19 +210,6 @@ impl Reached {
             "blocks: {} none, {none} by the rule alone, {one} with one other, {two} with two, {more} \
              with more (of {} another set is left from the lowest up)",
             self.unblocked, self.causes_by_order
-        )
-    }
-
-    /// The submissions, in words.
-    fn by_reply(&self) -> String {
-        format!(
-            "submissions: {} admitted, {} declined ({} that break no rule by themselves), \
-             {} histories ({} with plans admitted, declined and refused)",
-            self.admitted,
-            self.declined,
-            self.declined_for_held,
-            self.histories,
-            self.mixed_histories
         )
     }
 
@@ -383,7 +359,7 @@ impl fmt::Display for Reached {
         )?;
         writeln!(f, "; {} searches given up", self.given_up)?;
         writeln!(f, "{}", self.by_others())?;
-        writeln!(f, "{}", self.by_reply())?;
+        writeln!(f, "{}", self.submissions)?;
         write!(f, "{}", self.trees)
     }
 }

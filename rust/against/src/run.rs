@@ -1,12 +1,13 @@
 //! Rounds of random cases, both engines' answers compared.
 
+use crate::alike::try_alike;
 use crate::answer::{self, Answer};
 use crate::closed::try_closed;
 use crate::compare::{try_one, wrong, Difference};
 use crate::culprits::try_causes;
 use crate::engine::Engine;
 use crate::reached::Reached;
-use crate::submissions::{try_history, try_submission};
+use crate::submissions::try_submission;
 use crate::tree::try_tree;
 use books::{case, submissions, Case, Random};
 use std::time::{Duration, Instant};
@@ -20,7 +21,7 @@ pub enum Limit {
     Time(Duration),
 }
 
-/// A history comes once in so many rounds, as it has as many cases as ten of them.
+/// Two histories come once in so many rounds, as they have as many cases as twenty of them.
 const HISTORIES: usize = 40;
 
 /// Runs random cases until the limit or the first difference. `progress` is told after each round.
@@ -43,8 +44,8 @@ pub fn run(
             try_case(engines, &case, &mut reached)?;
         }
         if random.chance(1, HISTORIES) {
-            let history = submissions::history(&mut random, size);
-            try_history(engines, &history, &mut reached)?;
+            let alike = submissions::histories(&mut random, size);
+            try_alike(engines, &alike, &mut reached)?;
         }
         progress(&reached);
     }

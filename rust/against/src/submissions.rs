@@ -1,19 +1,27 @@
 //! Submissions beyond the comparison: one by its sentences, and lists by what is stated of all lists
-//! (document 02, N3).
+//! (document 02, N3 and N8).
 
 use crate::answer::Answer;
 use crate::compare::{try_one, Difference};
-use crate::engine::Engine;
+use crate::engine::{tally, Engine};
 use crate::reached::Reached;
-use books::submissions::{History, Submit, LEDGER};
-use books::Case;
+use books::submissions::{History, Submit, LEDGER, USERS};
 use second::book::Book;
-use second::ledger::{accesses, WORDS_OF_A_USER};
-use second::{breaking, reading};
+use second::ledger::{accesses, Counts, WORDS_OF_A_USER};
+use second::refusal::COUNTS_FULL;
+use second::{breaking, reading, Refusal};
 
 const UNION: Answer = Answer::Stated("each user holds exactly the union of his admitted plans");
 const UNBROKEN: Answer = Answer::Stated("each user breaks no rule with what he holds");
-const COUNTED: Answer = Answer::Stated("admitted + declined is the number of those not refused");
+const COUNTED: Answer =
+    Answer::Stated("each user's admitted + declined is the number of his submissions not refused");
+const EACH: Answer =
+    Answer::Stated("each user's counts are those of his plans admitted and declined");
+
+const FULL: Answer = Answer::Refused(Refusal {
+    number: COUNTS_FULL,
+    place: 0,
+});
 
 /// The words of a plan's accesses, as the engine itself gives them.
 fn flows(engine: &dyn Engine, given: &Submit) -> [u64; 32] {
@@ -39,14 +47,15 @@ fn mask_held(book: &Book, user: u32, ledger: &[u64]) -> u32 {
     broken.into_iter().map(|rule| 1 << rule).sum()
 }
 
-fn differ(given: &Submit, sides: [(&'static str, Answer, Submit); 2]) -> Box<Difference> {
-    let case = Case::Submit(given.clone());
-    let sides = sides.map(|(name, answer, after)| (name, answer, Case::Submit(after)));
+/// A submission at which two sides differ, and what each answers and leaves.
+pub fn differ(given: &Submit, sides: [(&'static str, Answer, Submit); 2]) -> Box<Difference> {
+    let case = given.clone().into();
+    let sides = sides.map(|(name, answer, after)| (name, answer, after.into()));
     Box::new(Difference { case, sides })
 }
 
 /// What the engine leaves.
-fn left(engine: &dyn Engine, given: &Submit) -> Submit {
+pub fn left(engine: &dyn Engine, given: &Submit) -> Submit {
     let mut after = given.clone();
     // Its answer was compared before.
     let _ = engine.submit(&mut after);
@@ -70,21 +79,25 @@ pub fn try_submission(
 }
 
 /// What is to be answered and left, with the accesses that the engine itself gives by Flows. A refusal
-/// is not asked for here, but it changes nothing.
+/// before 28 is not asked for here, but it changes nothing.
 fn by_sentences(engine: &dyn Engine, given: &Submit, answer: Answer) -> (Answer, Submit) {
     let mut after = given.clone();
-    let (Ok(book), false) = (reading::read(&given.book), is_refused(answer)) else {
+    let refused = is_refused(answer) && answer != FULL;
+    let (Ok(book), false) = (reading::read(&given.book), refused) else {
         return (answer, after);
     };
+    if is_full(given) {
+        return (FULL, after);
+    }
     join(engine, given, &mut after.ledger);
     match mask_held(&book, given.user, &after.ledger) {
         0 => {
-            after.admitted += 1;
+            raise(&mut after.admitted, given.user);
             (Answer::Admitted, after)
         }
         mask => {
             after.ledger.clone_from(&given.ledger);
-            after.declined += 1;
+            raise(&mut after.declined, given.user);
             (Answer::Declined(mask), after)
         }
     }
@@ -94,12 +107,35 @@ fn is_refused(answer: Answer) -> bool {
     matches!(answer, Answer::Refused(_))
 }
 
+/// "28 looks at that user's pair alone."
+fn is_full(given: &Submit) -> bool {
+    let pairs = tally(given).pairs;
+    let own = pairs.get(given.user as usize);
+    own.is_some_and(Counts::is_full)
+}
+
+/// One more for a user; a number past the tally has no count.
+fn raise(counts: &mut [u32; USERS], user: u32) {
+    let own = counts.get_mut(user as usize);
+    own.into_iter().for_each(|count| *count += 1);
+}
+
 /// What the replies to a list say, and nothing else.
 struct Said {
     /// For each user the union of the plans with the reply that they are admitted.
-    admitted: Vec<u64>,
-    /// The submissions that were not refused.
-    answered: u64,
+    held: Vec<u64>,
+    /// For each user the replies that a plan is admitted.
+    admitted: [u32; USERS],
+    /// For each user the replies that a plan is declined.
+    declined: [u32; USERS],
+}
+
+/// What a history gave.
+pub struct Past {
+    /// The reply to each submission.
+    pub replies: Vec<Answer>,
+    /// The ledger and the tally at the end.
+    pub kept: Submit,
 }
 
 /// Compares a history call by call, and tries after each what is stated of the list so far.
@@ -107,16 +143,18 @@ pub fn try_history(
     engines: [&dyn Engine; 2],
     history: &History,
     reached: &mut Reached,
-) -> Result<(), Box<Difference>> {
+) -> Result<Past, Box<Difference>> {
     let book = reading::read(&history.book).expect("a history's book is sound");
     let mut said = Said {
-        admitted: vec![0; LEDGER],
-        answered: 0,
+        held: vec![0; LEDGER],
+        admitted: [0; USERS],
+        declined: [0; USERS],
     };
+    let mut replies = vec![];
     let mut kept = Submit::fresh(&history.book);
     for (user, plan) in &history.submissions {
         (kept.user, kept.plan) = (*user, plan.clone());
-        let answer = try_one(engines, &Case::Submit(kept.clone()), reached)?;
+        let answer = try_one(engines, &kept.clone().into(), reached)?;
         let after = left(engines[0], &kept);
         said.hear(engines[0], &kept, answer);
         if let Some(stated) = said.contradicted(&book, &after, answer) {
@@ -124,42 +162,53 @@ pub fn try_history(
             let engine = (engines[0].name(), answer, after);
             return Err(differ(&kept, [documents, engine]));
         }
+        replies.push(answer);
         kept = after;
     }
-    let all = history.submissions.len() as u64;
-    let mixed = kept.admitted > 0 && kept.declined > 0 && said.answered < all;
-    reached.histories += 1;
-    reached.mixed_histories += u64::from(mixed);
-    Ok(())
+    reached.submissions.count_history(&replies);
+    Ok(Past { replies, kept })
 }
 
 impl Said {
     fn hear(&mut self, engine: &dyn Engine, given: &Submit, answer: Answer) {
-        if answer == Answer::Admitted {
-            join(engine, given, &mut self.admitted);
+        match answer {
+            Answer::Admitted => {
+                join(engine, given, &mut self.held);
+                raise(&mut self.admitted, given.user);
+            }
+            Answer::Declined(_) => raise(&mut self.declined, given.user),
+            _ => {}
         }
-        self.answered += u64::from(!is_refused(answer));
     }
 
     /// The first statement of the list that does not hold after a call.
     fn contradicted(&self, book: &Book, after: &Submit, answer: Answer) -> Option<Answer> {
-        let counted = u64::from(after.admitted) + u64::from(after.declined);
-        if after.ledger != self.admitted {
+        if after.ledger != self.held {
             return Some(UNION);
         }
-        if counted != self.answered {
+        if sums(&after.admitted, &after.declined) != sums(&self.admitted, &self.declined) {
             return Some(COUNTED);
         }
+        if (after.admitted, after.declined) != (self.admitted, self.declined) {
+            return Some(EACH);
+        }
         let admitted = answer == Answer::Admitted;
-        let breaks = admitted && mask_held(book, after.user, &self.admitted) != 0;
+        let breaks = admitted && mask_held(book, after.user, &self.held) != 0;
         breaks.then_some(UNBROKEN)
     }
 
-    /// What is kept after a call, with the words as the list has them.
+    /// What is kept after a call, as the list has it.
     fn kept(&self, after: &Submit) -> Submit {
         Submit {
-            ledger: self.admitted.clone(),
+            ledger: self.held.clone(),
+            admitted: self.admitted,
+            declined: self.declined,
             ..after.clone()
         }
     }
+}
+
+/// Each user's admitted + declined.
+fn sums(admitted: &[u32; USERS], declined: &[u32; USERS]) -> [u64; USERS] {
+    std::array::from_fn(|user| u64::from(admitted[user]) + u64::from(declined[user]))
 }

@@ -1,6 +1,7 @@
-//! Cases as text, one word and its value a line, bytes in hexadecimal digits.
+//! Cases as text, one word and its value a line, bytes in hexadecimal digits. The counts of a tally are
+//! decimal numbers, one for each user.
 
-use books::submissions::Submit;
+use books::submissions::{Submit, USERS};
 use books::trees::Tree;
 use books::Case;
 use std::collections::BTreeMap;
@@ -47,9 +48,14 @@ fn submit_fields(given: &Submit) -> Vec<(&'static str, String)> {
         ("user", given.user.to_string()),
         ("plan", hex(&given.plan)),
         ("ledger", hex_words(&given.ledger)),
-        ("admitted", given.admitted.to_string()),
-        ("declined", given.declined.to_string()),
+        ("admitted", numbers(&given.admitted)),
+        ("declined", numbers(&given.declined)),
     ]
+}
+
+fn numbers(counts: &[u32]) -> String {
+    let each: Vec<String> = counts.iter().map(u32::to_string).collect();
+    each.join(" ")
 }
 
 fn tree_fields(given: &Tree) -> Vec<(&'static str, String)> {
@@ -72,6 +78,7 @@ pub fn read(text: &str) -> Result<Case, String> {
     let field = |name: &str| fields.get(name).copied().ok_or(format!("no {name}"));
     let bytes = |name: &str| unhex(field(name)?).ok_or(format!("{name} is not hexadecimal"));
     let number = |name: &str| field(name)?.parse().map_err(|e| format!("{name}: {e}"));
+    let counts = |name: &str| counts(field(name)?).map_err(|e| format!("{name}: {e}"));
     let of_rule = |case: fn(Vec<u8>, u32) -> Case| Ok(case(bytes("book")?, number("rule")?));
     match field("call")? {
         "check" => Ok(Case::Check {
@@ -97,25 +104,35 @@ pub fn read(text: &str) -> Result<Case, String> {
         }),
         "blocked" => of_rule(|book, rule| Case::Blocked { book, rule }),
         "culprits" => of_rule(|book, rule| Case::Culprits { book, rule }),
-        "submit" => Ok(Case::Submit(submit(bytes, number)?)),
+        "submit" => Ok(submit(bytes, number, counts)?.into()),
         "tree" => Ok(Case::Tree(tree(bytes, number)?)),
         other => Err(format!("no call {other}")),
     }
 }
 
-/// A submission, by its fields of bytes and of numbers.
+/// A submission, by its fields of bytes, of numbers and of counts.
 fn submit(
     bytes: impl Fn(&str) -> Result<Vec<u8>, String>,
     number: impl Fn(&str) -> Result<u32, String>,
+    counts: impl Fn(&str) -> Result<[u32; USERS], String>,
 ) -> Result<Submit, String> {
     Ok(Submit {
         book: bytes("book")?,
         user: number("user")?,
         plan: bytes("plan")?,
         ledger: words(&bytes("ledger")?)?,
-        admitted: number("admitted")?,
-        declined: number("declined")?,
+        admitted: counts("admitted")?,
+        declined: counts("declined")?,
     })
+}
+
+/// A number for each user.
+fn counts(text: &str) -> Result<[u32; USERS], String> {
+    let each = text.split_whitespace().map(str::parse);
+    let counts: Result<Vec<u32>, _> = each.collect();
+    let counts = counts.map_err(|e| e.to_string())?;
+    let fixed = counts.try_into();
+    fixed.map_err(|counts: Vec<u32>| format!("{} numbers for {USERS} users", counts.len()))
 }
 
 /// A call of Tree, by its fields. No more is lent than there is.
@@ -190,12 +207,16 @@ mod tests {
         assert!(read("call check\nbook 0").is_err());
         assert!(read("call check\nbook 0g").is_err());
         assert!(read("call flows\nbook\nplan\nwords 00").is_err());
-        let submit = |declined| {
-            let fields = "book\nuser 1\nplan\nledger\nadmitted 4294967295";
+        let submit = |declined: &str| {
+            let admitted = ["4294967295"; USERS].join(" ");
+            let fields = format!("book\nuser 1\nplan\nledger\nadmitted {admitted}");
             read(&format!("call submit\n{fields}\ndeclined {declined}"))
         };
-        assert!(submit("4294967295").is_ok());
-        assert!(submit("4294967296").is_err() && submit("-1").is_err());
+        let last = |last: &str| [&["7"; USERS - 1][..], &[last]].concat().join(" ");
+        assert!(submit(&last("4294967295")).is_ok());
+        assert!(submit(&last("4294967296")).is_err() && submit(&last("-1")).is_err());
+        assert!(submit(&last("")).is_err() && submit(&last("7 7")).is_err());
+        assert!(submit("").is_err());
         let tree = |lent| {
             read(&format!(
                 "call tree\nbook\nplan\nrow 0\nlent {lent}\nmemory 0a0b"

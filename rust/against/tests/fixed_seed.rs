@@ -24,10 +24,6 @@ fn often(reached: &Reached) -> Vec<u64> {
         reached.causes[2],
         reached.causes[3],
         reached.causes_by_order,
-        reached.admitted,
-        reached.declined,
-        reached.declined_for_held,
-        reached.mixed_histories,
     ];
     let for_each_part = [
         reached.pairs,
@@ -35,8 +31,8 @@ fn often(reached: &Reached) -> Vec<u64> {
         reached.verdicts_misread,
         reached.submissions_misread,
     ];
-    let trees = reached.trees.often();
-    [&singly, for_each_part.as_flattened(), &trees].concat()
+    let [submissions, trees] = [&reached.submissions.often()[..], &reached.trees.often()];
+    [&singly, for_each_part.as_flattened(), submissions, trees].concat()
 }
 
 #[test]

@@ -45,13 +45,13 @@ fn submissions(book: &[u8], user: u32, plan: &[u8]) -> [Case; 3] {
         (0..LEDGER).map(one_operation).collect(),
     ];
     ledgers.map(|ledger| {
-        Case::Submit(Submit {
+        Case::from(Submit {
             book: book.to_vec(),
             user,
             plan: plan.to_vec(),
             ledger,
-            admitted: 5,
-            declined: 7,
+            admitted: std::array::from_fn(|user| 5 * user as u32),
+            declined: std::array::from_fn(|user| 7 * user as u32),
         })
     })
 }

@@ -280,7 +280,7 @@ fn judge(input: &Input) {
 
 /// To a fresh ledger, and to one in which the user holds every access, so that most is judged. A plan
 /// that is admitted stays in the ledger for the next call, which then judges the same accesses. The tally
-/// is fresh each time, as it would be full soon.
+/// is fresh each time, as the user's counts would be full soon.
 fn submit(input: &Input) {
     let (book, user, plan) = (&input.book, input.user, &input.plan);
     for (held, word) in [("fresh", 0), ("full", u64::MAX)] {

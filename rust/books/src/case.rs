@@ -63,10 +63,16 @@ pub enum Case {
         /// The rule's number.
         rule: u32,
     },
-    /// Submit.
-    Submit(Submit),
+    /// Submit, boxed as its counts take more room than other calls.
+    Submit(Box<Submit>),
     /// Tree.
     Tree(Tree),
+}
+
+impl From<Submit> for Case {
+    fn from(given: Submit) -> Case {
+        Case::Submit(Box::new(given))
+    }
 }
 
 /// The calls of one round: one book of the given size, sound or changed, and all nine calls.
@@ -83,7 +89,7 @@ pub fn round(random: &mut Random, size: Size) -> Vec<Case> {
         cases.push(flows(random, &draft, &book));
         cases.push(judge(random, &draft, &book));
         cases.push(judge(random, &draft, &book));
-        cases.push(Case::Submit(submissions::single(random, &draft, &book)));
+        cases.push(submissions::single(random, &draft, &book).into());
     }
     let rules = draft.rules.len().min(4);
     for _ in 0..rules.max(1) {

@@ -105,10 +105,12 @@ impl Book {
 
     /// Admits a user's plan, or declines it: exactly when it breaks a rule together with what the
     /// ledger holds for the user. An admitted plan's accesses are joined to what the user holds, and
-    /// either is counted in the tally; a refusal changes nothing.
+    /// either is counted in the tally for its user; a refusal changes nothing.
     ///
     /// From a fresh ledger and tally, and with one book throughout, each user holds exactly what his
-    /// admitted plans gave him and breaks no rule with it. The engine does not ask which book filled a
+    /// admitted plans gave him and breaks no rule with it, and his two counts add up to the number of
+    /// his submissions that were not refused. The replies to him depend on the book, his plans and his own
+    /// earlier submissions, whatever others submit between. The engine does not ask which book filled a
     /// ledger: keep a ledger and its tally with their book.
     ///
     /// ```
@@ -120,17 +122,19 @@ impl Book {
     /// let price = Plan::new([1, 2, 0, 0, 4, 0, 0, 0]);
     /// let average = Plan::new([1, 2, 0, 0, 2, 1, 0, 255, 4, 1, 0, 0]); // of prices
     /// let (mut ledger, mut tally) = (Ledger::new(), Tally::new());
-    /// let mut submit = |plan| book.submit(2, plan, &mut ledger, &mut tally);
+    /// let mut submit = |user, plan| book.submit(user, plan, &mut ledger, &mut tally);
     ///
-    /// assert_eq!(submit(&state), Reply::Admitted); // on Monday
-    /// match submit(&price) { // on Tuesday
+    /// assert_eq!(submit(2, &state), Reply::Admitted); // on Monday
+    /// match submit(2, &price) { // on Tuesday
     ///     // By itself a price breaks rule 1; beside the state of Monday rule 0 too.
     ///     Reply::Declined(broken) => assert!(broken.rules().eq([0, 1])),
     ///     other => panic!("{other:?}"),
     /// }
-    /// assert!(submit(&average).opens()); // on Wednesday
+    /// assert!(submit(1, &state).opens()); // on Wednesday, by another user
+    /// assert!(submit(2, &average).opens()); // on Thursday
     ///
-    /// assert_eq!((tally.admitted(), tally.declined()), (2, 1));
+    /// assert_eq!((tally.admitted(2), tally.declined(2)), (2, 1));
+    /// assert_eq!((tally.admitted(1), tally.declined(1)), (1, 0));
     /// assert_eq!(ledger.held(2).iter().count(), 2); // the state and the average
     /// # Ok::<(), Refusal>(())
     /// ```

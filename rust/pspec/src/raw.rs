@@ -16,14 +16,14 @@ pub const LEDGER: usize = 1_024;
 /// Bytes with room for every text that `tree` writes: 4,096 nodes of at most 136 bytes.
 pub const TREE: usize = 4_096 * 136;
 
-/// The tally of `submit` as C has it.
+/// The tally of `submit` as C has it: two counts for each user number.
 #[repr(C)]
 #[derive(Clone, Copy, Debug, Default, PartialEq, Eq, Hash)]
 pub struct Tally {
-    /// The plans admitted.
-    pub admitted: u32,
-    /// The plans declined.
-    pub declined: u32,
+    /// The plans admitted, by user number.
+    pub admitted: [u32; 32],
+    /// The plans declined, by user number.
+    pub declined: [u32; 32],
 }
 
 mod c {
@@ -213,6 +213,14 @@ pub fn drawn(value: u32) -> (u32, u32) {
 #[cfg(test)]
 mod tests {
     use super::*;
+    use std::mem::{align_of, offset_of, size_of};
+
+    #[test]
+    fn a_tally_is_laid_out_as_in_c() {
+        assert_eq!((size_of::<Tally>(), align_of::<Tally>()), (256, 4));
+        assert_eq!(offset_of!(Tally, admitted), 0);
+        assert_eq!(offset_of!(Tally, declined), 128);
+    }
 
     #[test]
     fn values() {

@@ -2,6 +2,7 @@
 
 use books::named::{opposed_shop, small_shop};
 use pspec::{raw, seal, Book, Causes, Ledger, Node, Plan, Refusal, Reply, Tally, Verdict};
+use std::array::from_fn;
 
 fn refusal(answer: u64) -> Refusal {
     raw::value(answer).expect_err("it is refused")
@@ -47,24 +48,6 @@ fn nothing_outside_a_buffer_is_written() {
     assert_eq!(buffer[5..13], plan);
     assert_eq!((&buffer[..5], &buffer[13..]), (&[7; 5][..], &[7; 37][..]));
 
-    let state = [1, 0, 0, 0, 4, 0, 0, 0];
-    let mut ledger = vec![1 << 63; 1_030];
-    let mut tallies = [raw::Tally {
-        admitted: 7,
-        declined: 7,
-    }; 3];
-    let around = tallies[0];
-    let answer = raw::submit(&book, 2, &state, &mut ledger[4..1_028], &mut tallies[1]);
-    assert_eq!(answer, 0);
-    let mut wanted = vec![1 << 63; 1_030];
-    wanted[4 + 64] |= 1 << 2;
-    assert_eq!(ledger, wanted);
-    let raised = raw::Tally {
-        admitted: 8,
-        declined: 7,
-    };
-    assert_eq!(tallies, [around, raised, around]);
-
     let mut buffer = [7; 30];
     let average = [1, 2, 0, 0, 2, 1, 0, 255];
     let answer = raw::tree(&book, &average, 1, &mut buffer[4..23]);
@@ -76,6 +59,31 @@ fn nothing_outside_a_buffer_is_written() {
     bytes[3] = 4;
     assert_eq!(seal(&mut bytes[3..515]), Ok(()));
     assert_eq!(bytes[513..], [0, 4, 0, 0, 0, 0, 0]);
+}
+
+/// Neither around the ledger and the tally nor at other users in them.
+#[test]
+fn nothing_but_the_users_own_is_written() {
+    let book = small_shop().bytes();
+    let [state, price] = [0, 2].map(|column| [1, column, 0, 0, 4, 0, 0, 0]);
+    let mut ledger = vec![1 << 63; 1_030];
+    let around = raw::Tally {
+        admitted: from_fn(|user| 100 + user as u32),
+        declined: from_fn(|user| 200 + user as u32),
+    };
+    let mut tallies = [around; 3];
+    let mut submit = |plan: &[u8]| {
+        let answer = raw::submit(&book, 2, plan, &mut ledger[4..1_028], &mut tallies[1]);
+        (answer, ledger.clone(), tallies)
+    };
+    let mut held = vec![1 << 63; 1_030];
+    held[4 + 64] |= 1 << 2;
+    let mut raised = around;
+    raised.admitted[2] = 103;
+    let kept = (0, held.clone(), [around, raised, around]);
+    assert_eq!(submit(&state), kept);
+    raised.declined[2] = 203;
+    assert_eq!(submit(&price), (0b11, held, [around, raised, around]));
 }
 
 #[test]
@@ -231,7 +239,7 @@ fn what_is_not_admitted_opens_nothing() {
     let (mut ledger, mut tally) = (Ledger::new(), Tally::new());
     let mut submit = |user, plan| {
         let reply = book.submit(user, plan, &mut ledger, &mut tally);
-        (reply, tally.admitted(), tally.declined())
+        (reply, tally.admitted(user), tally.declined(user))
     };
     assert!(book.judge(1, &price).opens());
     assert_eq!(submit(1, &state), (Reply::Admitted, 1, 0));
@@ -240,7 +248,7 @@ fn what_is_not_admitted_opens_nothing() {
         panic!("{declined:?}");
     };
     assert_eq!(broken.mask(), 0b11);
-    assert_eq!(submit(2, &price), (Reply::Admitted, 2, 1));
+    assert_eq!(submit(2, &price), (Reply::Admitted, 1, 0));
     for (user, plan, refusal) in [
         (0, &price, Refusal::NoUser),
         (1, &Plan::new([1, 2, 0]), Refusal::PlanLength),
@@ -249,14 +257,25 @@ fn what_is_not_admitted_opens_nothing() {
         let (reply, ..) = submit(user, plan);
         assert_eq!((reply, reply.opens()), (Reply::Refused(refusal), false));
     }
-    assert_eq!((tally.admitted(), tally.declined()), (2, 1));
+    let counts = |user| (tally.admitted(user), tally.declined(user));
+    assert_eq!([0, 1, 2].map(counts), [(0, 0), (1, 1), (1, 0)]);
+    assert!((3..40).all(|user| counts(user) == (0, 0)));
     let leaves = |user| ledger.held(user).iter().map(|access| access.leaf).collect();
     let held: Vec<Vec<u8>> = (0..32).map(leaves).collect();
     assert_eq!((&held[1][..], &held[2][..]), (&[2][..], &[4][..]));
     assert_eq!(held.concat().len(), 2);
 }
 
-/// Counts at the limit, their sum past 32 bits, and the limit itself.
+/// The tally with these counts for one user, admitted first, and these for every other number.
+fn counted(user: usize, own: [u32; 2], others: u32) -> Tally {
+    let counts = own.map(|count| from_fn(|i| if i == user { count } else { others }));
+    let counts: [[u32; 32]; 2] = counts;
+    let bytes = counts.concat().into_iter().flat_map(u32::to_le_bytes);
+    let bytes: Vec<u8> = bytes.collect();
+    Tally::from_bytes(&bytes).expect("it is 256 bytes")
+}
+
+/// Counts at the limit, their sum past 32 bits, and the limit itself, whatever others have.
 #[test]
 fn full_counts() {
     let book = Book::new(small_shop().bytes()).expect("it is sound");
@@ -270,20 +289,66 @@ fn full_counts() {
         (u32::MAX, 1, full),
         (u32::MAX, u32::MAX, full),
     ] {
-        let bytes = [admitted, declined].map(u32::to_le_bytes).concat();
-        let mut tally = Tally::from_bytes(&bytes).expect("it is 8 bytes");
-        let mut ledger = Ledger::new();
-        assert_eq!(book.submit(1, &empty, &mut ledger, &mut tally), reply);
-        let raised = u32::from(reply.opens());
-        assert_eq!(tally.admitted(), admitted + raised);
-        assert_eq!(tally.declined(), declined);
-        assert_eq!(ledger, Ledger::new());
+        for others in [0, 999_999, 1_000_000, u32::MAX] {
+            let mut tally = counted(1, [admitted, declined], others);
+            let mut ledger = Ledger::new();
+            assert_eq!(book.submit(1, &empty, &mut ledger, &mut tally), reply);
+            let raised = u32::from(reply.opens());
+            assert_eq!(tally, counted(1, [admitted + raised, declined], others));
+            assert_eq!(ledger, Ledger::new());
+        }
     }
+}
+
+/// One user comes to his million, and another goes on.
+#[test]
+fn full_for_one_user() {
+    let book = Book::new(small_shop().bytes()).expect("it is sound");
+    let [state, price] = [0, 2].map(|column| Plan::new([1, column, 0, 0, 4, 0, 0, 0]));
+    let declined = book.submit(1, &price, &mut Ledger::new(), &mut Tally::new());
+    let full = Reply::Refused(Refusal::CountsFull);
+    let (mut ledger, mut tally) = (Ledger::new(), counted(1, [400_000, 599_999], 0));
+    for (user, plan, reply, counts) in [
+        (1, &price, declined, (400_000, 600_000)),
+        (2, &price, declined, (0, 1)),
+        (1, &price, full, (400_000, 600_000)),
+        (2, &state, Reply::Admitted, (1, 1)),
+        (1, &state, full, (400_000, 600_000)),
+        (2, &state, Reply::Admitted, (2, 1)),
+    ] {
+        assert_eq!(book.submit(user, plan, &mut ledger, &mut tally), reply);
+        assert_eq!((tally.admitted(user), tally.declined(user)), counts);
+    }
+    assert_eq!(ledger.held(1), Ledger::new().held(1));
+}
+
+/// The same submissions of a user, alone and with those of others between.
+#[test]
+fn others_change_nothing_for_a_user() {
+    let book = Book::new(small_shop().bytes()).expect("it is sound");
+    let [state, price] = [0, 2].map(|column| Plan::new([1, column, 0, 0, 4, 0, 0, 0]));
+    let average = Plan::new([1, 2, 0, 0, 2, 1, 0, 255, 4, 1, 0, 0]);
+    let given = |between: &[(u32, &Plan)]| {
+        let (mut ledger, mut tally) = (Ledger::new(), Tally::new());
+        let replies = [&state, &price, &average].map(|plan| {
+            for (user, plan) in between {
+                let _ = book.submit(*user, plan, &mut ledger, &mut tally);
+            }
+            book.submit(1, plan, &mut ledger, &mut tally)
+        });
+        let counts = (tally.admitted(1), tally.declined(1));
+        (replies, ledger.held(1), counts, tally.admitted(2))
+    };
+    let (replies, held, counts, others) = given(&[]);
+    let opened = replies.map(Reply::opens);
+    assert_eq!((opened, others), ([true, false, true], 0));
+    let between = [(2, &price), (2, &state), (0, &price)];
+    assert_eq!(given(&between), (replies, held, counts, 3));
 }
 
 /// What is stored comes back, and the low byte comes first.
 #[test]
-fn stored_and_read_again() {
+fn a_ledger_is_stored_and_read_again() {
     let book = Book::new(small_shop().bytes()).expect("it is sound");
     let state = Plan::new([1, 0, 0, 0, 4, 0, 0, 0]);
     let (mut ledger, mut tally) = (Ledger::default(), Tally::default());
@@ -292,7 +357,6 @@ fn stored_and_read_again() {
     let set: Vec<usize> = (0..stored.len()).filter(|&i| stored[i] != 0).collect();
     assert_eq!((set, stored[8 * 64]), (vec![8 * 64], 1 << 2));
     assert_eq!(Ledger::from_bytes(&stored), Ok(ledger));
-    assert_eq!(tally.to_bytes(), [1, 0, 0, 0, 0, 0, 0, 0]);
 
     let bytes: Vec<u8> = (0..Ledger::BYTES).map(|i| (i % 251) as u8).collect();
     let any = Ledger::from_bytes(&bytes).expect("it is as long");
@@ -301,13 +365,42 @@ fn stored_and_read_again() {
     assert_eq!(any.held(31).words()[31].to_le_bytes(), bytes[8_184..]);
     assert!((32..40).all(|user| any.held(user).iter().next().is_none()));
     assert!(any.held(u32::MAX).iter().next().is_none());
-    let counts = Tally::from_bytes(&bytes[..8]).expect("it is as long");
-    assert_eq!(counts.to_bytes(), bytes[..8]);
     for length in [0, 1, Ledger::BYTES - 8, Ledger::BYTES - 1] {
         assert!(Ledger::from_bytes(&bytes[..length]).is_err());
     }
     assert!(Ledger::from_bytes(&[&bytes[..], &[0]].concat()).is_err());
-    assert!(Tally::from_bytes(&bytes[..9]).is_err());
+}
+
+/// The admitted counts come before the declined ones, by user number; the last user has the last of
+/// both.
+#[test]
+fn a_tally_is_stored_and_read_again() {
+    let mut shop = small_shop();
+    shop.users = vec![0; 32];
+    let book = Book::new(shop.bytes()).expect("it is sound");
+    let [state, price] = [0, 2].map(|column| Plan::new([1, column, 0, 0, 4, 0, 0, 0]));
+    let (mut ledger, mut tally) = (Ledger::new(), Tally::new());
+    let mut submit = |user, plan| book.submit(user, plan, &mut ledger, &mut tally).opens();
+    assert!(submit(31, &state) && submit(31, &state) && !submit(31, &price));
+    assert!(submit(2, &state));
+    let mut stored = [0; 256];
+    (stored[4 * 31], stored[128 + 4 * 31], stored[4 * 2]) = (2, 1, 1);
+    assert_eq!(tally.to_bytes(), stored);
+    assert_eq!(Tally::from_bytes(&stored), Ok(tally));
+
+    let bytes: Vec<u8> = (0..=255).collect();
+    let any = Tally::from_bytes(&bytes).expect("it is as long");
+    assert_eq!(any.to_bytes(), bytes[..]);
+    let counts = |user| (any.admitted(user), any.declined(user));
+    assert_eq!(counts(0), (0x0302_0100, 0x8382_8180));
+    assert_eq!(counts(31), (0x7F7E_7D7C, 0xFFFE_FDFC));
+    for past in [32, 33, 63, 64, u32::MAX] {
+        assert_eq!(counts(past), (0, 0));
+    }
+    for length in [0, 8, 128, 255] {
+        assert!(Tally::from_bytes(&bytes[..length]).is_err());
+    }
+    assert!(Tally::from_bytes(&[&bytes[..], &[0]].concat()).is_err());
 }
 
 /// Every access that `iter` gives is contained, and no other.

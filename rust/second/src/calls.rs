@@ -204,8 +204,9 @@ fn masked(others: Others) -> Causes {
     others.map(|rules| mask(&rules))
 }
 
-/// **Submit** (document 02, N3). "A plan is declined exactly when its accesses joined with those held
-/// for its user break a rule; the mask of that union is the reply."
+/// **Submit** (document 02, N3 and N8). "A plan is declined exactly when its accesses joined with those
+/// held for its user break a rule; the mask of that union is the reply." It is counted in its user's
+/// pair.
 pub fn submit(
     book: &[u8],
     user: u32,
@@ -217,17 +218,18 @@ pub fn submit(
     if ledger.len() != ledger::WORDS {
         return Err(Refusal::of(LEDGER_LENGTH));
     }
-    if tally.is_full() {
+    if tally.is_full(judged.user) {
         return Err(Refusal::of(COUNTS_FULL));
     }
     let held = ledger::of_user(ledger, judged.user);
     let union = &judged.accesses | &ledger::accesses(held);
     let mask = judged.mask(&union);
+    let counts = &mut tally.pairs[judged.user];
     if mask == 0 {
         ledger::write(&union, held);
-        tally.admitted += 1;
+        counts.admitted += 1;
     } else {
-        tally.declined += 1;
+        counts.declined += 1;
     }
     Ok(mask)
 }

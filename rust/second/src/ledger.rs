@@ -1,4 +1,4 @@
-//! What users already hold, and the counts beside it (document 02, N3).
+//! What users already hold, and the counts beside it (document 02, N3 and N8).
 
 use crate::access::{Access, Action, ACTIONS};
 use std::collections::BTreeSet;
@@ -8,9 +8,19 @@ pub const WORDS: usize = 1_024;
 /// "holds 32 words for each user number, laid out as in Flows"
 pub const WORDS_OF_A_USER: usize = 32;
 
-/// "A small tally beside it counts admitted and declined plans for all users." The default is fresh.
+/// The user numbers, by the words that a ledger holds for each.
+pub const USERS: usize = WORDS / WORDS_OF_A_USER;
+
+/// "The tally becomes one pair of counts for each user number". The default is fresh.
 #[derive(Clone, Copy, Debug, Default, PartialEq, Eq)]
 pub struct Tally {
+    /// The pair of each user number.
+    pub pairs: [Counts; USERS],
+}
+
+/// How many plans of a user were admitted, and how many declined.
+#[derive(Clone, Copy, Debug, Default, PartialEq, Eq)]
+pub struct Counts {
     /// The plans admitted.
     pub admitted: u32,
     /// The plans declined.
@@ -18,6 +28,13 @@ pub struct Tally {
 }
 
 impl Tally {
+    /// "28 looks at that user's pair alone."
+    pub fn is_full(&self, user: usize) -> bool {
+        self.pairs[user].is_full()
+    }
+}
+
+impl Counts {
     /// "28 when either count or their sum is already 1,000,000 or more"
     pub fn is_full(&self) -> bool {
         let [admitted, declined] = [u64::from(self.admitted), u64::from(self.declined)];
@@ -109,10 +126,27 @@ mod tests {
 
     #[test]
     fn full_counts() {
-        let full = |admitted, declined| Tally { admitted, declined }.is_full();
+        let full = |admitted, declined| Counts { admitted, declined }.is_full();
         assert!(!full(0, 0) && !full(999_999, 0) && !full(0, 999_999) && !full(499_999, 500_000));
         assert!(full(1_000_000, 0) && full(0, 1_000_000) && full(500_000, 500_000));
         assert!(full(999_999, 1) && full(1, 999_999) && full(u32::MAX, 1));
         assert!(full(u32::MAX, u32::MAX) && full(1 << 31, 1 << 31));
+    }
+
+    /// Each pair is full by itself, whatever the others.
+    #[test]
+    fn full_pairs() {
+        let full = Counts {
+            admitted: 0,
+            declined: 1_000_000,
+        };
+        for user in 0..USERS {
+            let mut tally = Tally::default();
+            tally.pairs[user] = full;
+            assert!((0..USERS).all(|any| tally.is_full(any) == (any == user)));
+            tally.pairs = [full; USERS];
+            tally.pairs[user] = Counts::default();
+            assert!((0..USERS).all(|any| tally.is_full(any) == (any != user)));
+        }
     }
 }

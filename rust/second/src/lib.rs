@@ -37,5 +37,5 @@ pub use calls::{
     blocked, blocked_naive, blocked_within, check, culprits, culprits_naive, culprits_within,
     flows, idle, idle_naive, idle_within, judge, seal, submit, tree,
 };
-pub use ledger::Tally;
+pub use ledger::{Counts, Tally};
 pub use refusal::Refusal;

@@ -1,8 +1,13 @@
-//! Submissions to document 01's small shop, worked out by hand (document 02, N3).
+//! Submissions to document 01's small shop, worked out by hand, and a user's replies beside those of
+//! others (document 02, N3 and N8).
 
 use books::draft::Draft;
 use books::named::small_shop;
-use second::{Refusal, Tally};
+use books::submissions::{history, History};
+use books::valid::Size;
+use books::Random;
+use second::ledger::{of_user, USERS};
+use second::{Counts, Refusal, Tally};
 
 const REPORT: u32 = 1;
 const MARKETING: u32 = 2;
@@ -27,8 +32,12 @@ struct Kept {
 
 impl Kept {
     fn fresh(draft: &Draft) -> Kept {
+        Kept::with_book(&draft.bytes())
+    }
+
+    fn with_book(book: &[u8]) -> Kept {
         Kept {
-            book: draft.bytes(),
+            book: book.to_vec(),
             ledger: vec![0; 1_024],
             tally: Tally::default(),
         }
@@ -50,13 +59,20 @@ impl Kept {
         all.filter(|&(_, word)| word != 0).collect()
     }
 
-    fn counts(&self) -> (u32, u32) {
-        (self.tally.admitted, self.tally.declined)
+    /// The pair of a user.
+    fn counts(&mut self, user: u32) -> &mut Counts {
+        &mut self.tally.pairs[user as usize]
+    }
+
+    /// The pairs that are not fresh, by user.
+    fn pairs(&self) -> Vec<(u32, Counts)> {
+        let all = (0..).zip(self.tally.pairs);
+        all.filter(|(_, pair)| *pair != Counts::default()).collect()
     }
 }
 
-fn counts(admitted: u32, declined: u32) -> Tally {
-    Tally { admitted, declined }
+fn counts(admitted: u32, declined: u32) -> Counts {
+    Counts { admitted, declined }
 }
 
 /// Marketing's price breaks rule 1 by itself; after the state it breaks rule 0 too.
@@ -66,7 +82,7 @@ fn state_on_monday_and_price_on_tuesday() {
     assert_eq!(kept.submit(MARKETING, &PRICE), Ok(0b010));
     assert_eq!(kept.submit(MARKETING, &STATE), Ok(0));
     assert_eq!(kept.submit(MARKETING, &PRICE), Ok(0b011));
-    assert_eq!(kept.counts(), (1, 2));
+    assert_eq!(kept.pairs(), [(MARKETING, counts(1, 2))]);
     assert_eq!(kept.words(), [(32 * 2, 1 << 2)]);
 }
 
@@ -83,7 +99,8 @@ fn one_association() {
         assert_eq!(kept.submit(MARKETING, &tuesday), Ok(0));
         assert_eq!(kept.submit(REPORT, &monday), Ok(0));
         assert_eq!(kept.words()[..1], after_monday);
-        assert_eq!(kept.counts(), (3, 2));
+        let pairs = [(REPORT, counts(2, 2)), (MARKETING, counts(1, 0))];
+        assert_eq!(kept.pairs(), pairs);
     }
 }
 
@@ -101,7 +118,7 @@ fn what_is_held() {
     assert_eq!(kept.words(), words);
     assert_eq!(kept.submit(REPORT, &PRICE), Ok(1));
     assert_eq!(kept.words(), words);
-    assert_eq!(kept.counts(), (6, 1));
+    assert_eq!(kept.pairs(), [(REPORT, counts(6, 1))]);
 }
 
 /// Document 02, N5: of avg(concat(State, Price)) both are held raw, where no rule stops it; of
@@ -126,7 +143,7 @@ fn what_is_held_of_a_mix() {
 #[test]
 fn refusals_in_order() {
     let mut kept = Kept::fresh(&small_shop());
-    kept.tally = counts(1_000_000, 0);
+    kept.tally.pairs = [counts(1_000_000, 0); USERS];
     kept.assert_refused(REPORT, &STATE, 28, 0);
     for length in [0, 1, 32, 1_023, 1_025, 2_048] {
         kept.ledger = vec![3; length];
@@ -156,19 +173,135 @@ fn full_counts() {
         (most, most),
     ] {
         let mut kept = Kept::fresh(&small_shop());
-        kept.tally = counts(admitted, declined);
+        *kept.counts(REPORT) = counts(admitted, declined);
         kept.assert_refused(REPORT, &STATE, 28, 0);
         kept.assert_refused(REPORT, &PRICE, 28, 0);
     }
     for (admitted, declined) in [(999_999, 0), (0, 999_999), (499_999, 500_000)] {
         let mut kept = Kept::fresh(&small_shop());
-        kept.tally = counts(admitted, declined);
+        *kept.counts(REPORT) = counts(admitted, declined);
         assert_eq!(kept.submit(REPORT, &STATE), Ok(0));
-        assert_eq!(kept.counts(), (admitted + 1, declined));
+        assert_eq!(kept.pairs(), [(REPORT, counts(admitted + 1, declined))]);
         kept.assert_refused(REPORT, &STATE, 28, 0);
-        kept.tally = counts(admitted, declined);
+        *kept.counts(REPORT) = counts(admitted, declined);
         assert_eq!(kept.submit(REPORT, &PRICE), Ok(0b111));
-        assert_eq!(kept.counts(), (admitted, declined + 1));
+        assert_eq!(kept.pairs(), [(REPORT, counts(admitted, declined + 1))]);
+    }
+}
+
+/// "28 looks at that user's pair alone": of two users who reach their million, each is refused by his own.
+#[test]
+fn one_at_his_million() {
+    let mut kept = Kept::fresh(&small_shop());
+    *kept.counts(REPORT) = counts(600_000, 399_999);
+    *kept.counts(MARKETING) = counts(1, 999_996);
+    assert_eq!(kept.submit(REPORT, &STATE), Ok(0));
+    kept.assert_refused(REPORT, &STATE, 28, 0);
+    assert_eq!(kept.submit(MARKETING, &STATE), Ok(0));
+    assert_eq!(kept.submit(MARKETING, &PRICE), Ok(0b011));
+    kept.assert_refused(REPORT, &[], 28, 0);
+    assert_eq!(kept.submit(MARKETING, &[]), Ok(0));
+    kept.assert_refused(MARKETING, &[], 28, 0);
+    let pairs = [
+        (REPORT, counts(600_001, 399_999)),
+        (MARKETING, counts(3, 999_997)),
+    ];
+    assert_eq!(kept.pairs(), pairs);
+}
+
+/// Whatever the counts of all others, and the user's alone is raised.
+#[test]
+fn the_counts_of_others() {
+    let most = u32::MAX;
+    for others in [
+        counts(0, 0),
+        counts(40_000, 40_000),
+        counts(1_000_000, 0),
+        counts(0, most),
+        counts(most, most),
+    ] {
+        let mut kept = Kept::fresh(&small_shop());
+        kept.tally.pairs = [others; USERS];
+        *kept.counts(REPORT) = counts(7, 999_991);
+        let mut wanted = kept.tally;
+        assert_eq!(kept.submit(REPORT, &STATE), Ok(0));
+        wanted.pairs[REPORT as usize] = counts(8, 999_991);
+        assert_eq!(kept.tally, wanted);
+        assert_eq!(kept.submit(REPORT, &PRICE), Ok(0b111));
+        wanted.pairs[REPORT as usize] = counts(8, 999_992);
+        assert_eq!(kept.tally, wanted);
+        kept.assert_refused(REPORT, &STATE, 28, 0);
+    }
+}
+
+/// What a history from fresh gives a user: his replies, and at the end his words and his pair.
+#[derive(Debug, PartialEq, Eq)]
+struct Given {
+    replies: Vec<Result<u32, Refusal>>,
+    words: Vec<u64>,
+    pair: Counts,
+}
+
+/// What it gives each user.
+fn given(book: &[u8], submissions: &[(u32, Vec<u8>)]) -> Vec<Given> {
+    let mut kept = Kept::with_book(book);
+    let replies: Vec<_> = submissions
+        .iter()
+        .map(|(user, plan)| (*user, kept.submit(*user, plan)))
+        .collect();
+    let to = |user: u32| Given {
+        replies: replies
+            .iter()
+            .filter(|(of, _)| *of == user)
+            .map(|(_, reply)| *reply)
+            .collect(),
+        words: of_user(&mut kept.ledger, user as usize).to_vec(),
+        pair: kept.tally.pairs[user as usize],
+    };
+    (0..USERS as u32).map(to).collect()
+}
+
+/// "A user's replies then depend on the book, his plans and his own earlier submissions"
+fn assert_as_alone(History { book, submissions }: &History) -> Vec<Given> {
+    let all = given(book, submissions);
+    for (user, together) in (0..).zip(&all) {
+        let own = submissions.iter().filter(|(of, _)| *of == user);
+        let own: Vec<_> = own.cloned().collect();
+        assert_eq!(given(book, &own)[user as usize], *together);
+    }
+    all
+}
+
+/// Report's and Marketing's submissions in turn, one of each refused.
+#[test]
+fn in_turn_and_alone() {
+    let plans = [&STATE[..], &PRICE, &[9], &AVERAGE, &BY_PRICE, &SUM, &[]];
+    let both = |plan: &&[u8]| [(REPORT, plan.to_vec()), (MARKETING, plan.to_vec())];
+    let all = assert_as_alone(&History {
+        book: small_shop().bytes(),
+        submissions: plans.iter().flat_map(both).collect(),
+    });
+    let refused = Err(Refusal::of(21));
+    for (user, price, sum) in [(REPORT, 0b111, 0b110), (MARKETING, 0b011, 0b010)] {
+        let given = &all[user as usize];
+        let [price, sum] = [Ok(price), Ok(sum)];
+        let replies = [Ok(0), price, refused, Ok(0), Ok(0b010), sum, Ok(0)];
+        assert_eq!(given.replies, replies);
+        assert_eq!(given.pair, counts(3, 3));
+    }
+}
+
+/// Random histories. "The sum in N3 holds for each user."
+#[test]
+fn each_user_as_alone() {
+    let mut random = Random::new(11);
+    for size in [Size::Tiny, Size::Small, Size::Middle].repeat(10) {
+        for given in assert_as_alone(&history(&mut random, size)) {
+            let answered: Vec<u32> = given.replies.into_iter().flatten().collect();
+            let admitted = answered.iter().filter(|mask| **mask == 0).count();
+            let declined = answered.len() - admitted;
+            assert_eq!(given.pair, counts(admitted as u32, declined as u32));
+        }
     }
 }
 
@@ -192,5 +325,5 @@ fn any_ledger() {
     let mut kept = Kept::fresh(&small_shop());
     (kept.ledger[32], kept.ledger[34]) = (1 << 3, 1 << 4);
     assert_eq!(kept.submit(REPORT, &AVERAGE), Ok(0b110));
-    assert_eq!(kept.counts(), (0, 1));
+    assert_eq!(kept.pairs(), [(REPORT, counts(0, 1))]);
 }

@@ -1,5 +1,5 @@
 -- What the steps of Submit promise to each other. No call's promise leans on this file. Assumes nothing.
-use Prim.Native.Nat.{ℕ, _+_, _<_}
+use Prim.Native.Nat.{ℕ, _<_}
 use mathlib.Core.Path.{_≡_}
 use mathlib.Core.List.{List, map}
 use lib.ListN.{getD}
@@ -14,6 +14,7 @@ use Rattle.lineage.specs.Rows.{Plan}
 use Rattle.verdicts.specs.Accesses.{heldBy, union}
 use Rattle.verdicts.specs.Breaking.{brokenMask}
 use Rattle.ledger.specs.Ledger.{Ledger, heldFor}
+use Rattle.ledger.specs.Counts.{raisedFor}
 use Rattle.ledger.specs.Answers.{submitTests}
 use Rattle.ledger.specs.declared.Tally.{Tally}
 
@@ -34,6 +35,6 @@ MaskWith book t user ledger words mask =
     → BookAccepted book
     → mask ≡ brokenMask book user (union (heldFor ledger user) (heldBy words))
 
--- a count that is raised where it has room
-abbrev pub Raised : (before after : ℕ) → Type 0
-Raised before after = before < 4294967295 → after ≡ before + 1
+-- one more for a user, where his count has room
+abbrev pub Raised : (before : List ℕ) (user : ℕ) (after : List ℕ) → Type 0
+Raised before user after = getD before user 0 < 4294967295 → after ≡ raisedFor before user

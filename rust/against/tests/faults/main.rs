@@ -8,6 +8,7 @@ mod culprits;
 mod mixing;
 mod order;
 mod submit;
+mod tally;
 mod tree;
 
 use against::actions::PAIRS;
@@ -189,15 +190,35 @@ fn each_fault_of_the_order_is_found_and_shown_again() {
 
 #[test]
 fn each_fault_of_submit_is_found_and_shown_again() {
-    let faults = submit::AGAINST_LISTS.into_iter().chain(submit::OTHERS);
+    let faults = submit::AGAINST_LISTS.into_iter();
+    let faults = faults.chain(submit::OF_THE_LIMIT).chain(submit::OTHERS);
     faults.for_each(is_found_and_shown_again);
 }
 
 #[test]
+fn each_fault_of_the_tally_is_found_and_shown_again() {
+    tally::faults().for_each(is_found_and_shown_again);
+}
+
+#[test]
 fn what_is_stated_of_lists_finds_faults_alone() {
-    submit::AGAINST_LISTS
-        .into_iter()
-        .for_each(submit::is_found_by_the_lists);
+    let faults = submit::AGAINST_LISTS.into_iter();
+    faults.for_each(submit::is_found_by_the_lists);
+    let faults = tally::AGAINST_LISTS.into_iter();
+    faults.for_each(submit::is_found_by_the_lists);
+}
+
+#[test]
+fn what_is_stated_of_a_submission_finds_faults_alone() {
+    let faults = submit::OF_THE_LIMIT.into_iter();
+    faults.for_each(tally::is_found_by_the_sentences);
+    tally::faults().for_each(tally::is_found_by_the_sentences);
+}
+
+#[test]
+fn what_is_stated_of_alike_histories_finds_faults_alone() {
+    let faults = tally::AGAINST_ALIKE.into_iter();
+    faults.for_each(tally::is_found_by_alike_histories);
 }
 
 #[test]

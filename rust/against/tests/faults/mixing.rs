@@ -61,9 +61,9 @@ impl Faulty for InSubmit {
         let mask = mask(&book, given.user, &union);
         if mask == 0 {
             ledger::write(&union, held);
-            given.admitted += 1;
+            given.admitted[given.user as usize] += 1;
         } else {
-            given.declined += 1;
+            given.declined[given.user as usize] += 1;
         }
         Ok(mask)
     }

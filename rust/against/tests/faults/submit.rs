@@ -1,12 +1,14 @@
 //! Faults of Submit (document 02, N3).
 
 use crate::{assert_shown_again, Faulty, FaultyEngine, GOOD};
+use against::engine::tally;
 use against::submissions::try_history;
-use against::{Engine, Reached};
-use books::submissions::{history, Submit, LEDGER};
+use against::{Difference, Engine, Reached};
+use books::submissions::{history, Submit, LEDGER, USERS};
 use books::{case, Random};
-use second::ledger::{accesses, of_user, write, WORDS_OF_A_USER};
-use second::{reading, Refusal, Tally};
+use second::ledger::{accesses, of_user, write, Counts, WORDS_OF_A_USER};
+use second::{reading, Refusal};
+use std::fmt::Debug;
 
 #[derive(Clone, Copy, Debug, PartialEq, Eq)]
 pub enum Fault {
@@ -53,16 +55,20 @@ pub const AGAINST_LISTS: [Fault; 12] = [
     Fault::CountsRefusalsAsDeclined,
 ];
 
-/// The others: on ledgers and tallies of no list, in refusals, or in the mask of a declined plan.
-pub const OTHERS: [Fault; 13] = [
-    Fault::DropsWhatCanNotBeHad,
-    Fault::GivesThePlansMask,
-    Fault::JudgesConditionsAsProjections,
-    Fault::JudgesWhatCanBeHadAlone,
+/// Those of the limit of a user's counts, which no list is long enough to reach.
+pub const OF_THE_LIMIT: [Fault; 4] = [
     Fault::TestsCountsAfterJudging,
     Fault::SumWraps,
     Fault::NoSum,
     Fault::LimitIsOneHigher,
+];
+
+/// The others: on ledgers and tallies of no list, in refusals, or in the mask of a declined plan.
+pub const OTHERS: [Fault; 9] = [
+    Fault::DropsWhatCanNotBeHad,
+    Fault::GivesThePlansMask,
+    Fault::JudgesConditionsAsProjections,
+    Fault::JudgesWhatCanBeHadAlone,
     Fault::CountsBeforeLength,
     Fault::LengthBeforePlan,
     Fault::TakesALongerLedger,
@@ -98,14 +104,17 @@ impl Fault {
                 return answer;
             }
             (Fault::LengthBeforePlan, 21 | 22) if length != LEDGER => return Err(Refusal::of(27)),
-            (Fault::CountsBeforeLength, 27) if counts(given).is_full() => {
+            (Fault::CountsBeforeLength, 27) if own(given).is_full() => {
                 return Err(Refusal::of(28));
             }
             (_, 28) if self.passes(given) => return Ok(past_the_limit(given)),
             (Fault::CountsRefusalsAsDeclined, _) => {
-                given.declined = given.declined.saturating_add(1);
+                let count = &mut given.declined[given.user as usize % USERS];
+                *count = count.saturating_add(1);
             }
-            (Fault::RefusalClearsTheTally, _) => (given.admitted, given.declined) = (0, 0),
+            (Fault::RefusalClearsTheTally, _) => {
+                (given.admitted, given.declined) = ([0; USERS], [0; USERS]);
+            }
             _ => {}
         }
         Err(refusal)
@@ -113,7 +122,7 @@ impl Fault {
 
     /// Does the fault take counts that the good one refuses?
     fn passes(&self, given: &Submit) -> bool {
-        let Tally { admitted, declined } = counts(given);
+        let Counts { admitted, declined } = own(given);
         match self {
             Fault::TestsCountsAfterJudging => mask(given, &given.ledger) != 0,
             Fault::SumWraps => admitted.wrapping_add(declined) < 1_000_000,
@@ -175,38 +184,37 @@ impl Fault {
         if *self == Fault::DropsWhatCanNotBeHad {
             drop_others(given);
         }
-        given.admitted += u32::from(*self != Fault::AdmittedIsNotRaised);
-        given.declined += u32::from(*self == Fault::BothCountsAreRaised);
+        given.admitted[user] += u32::from(*self != Fault::AdmittedIsNotRaised);
+        given.declined[user] += u32::from(*self == Fault::BothCountsAreRaised);
     }
 
     fn decline(&self, given: &mut Submit) {
+        let user = given.user as usize;
         if *self == Fault::JoinsDeclinedPlans {
-            join(given, given.user as usize);
+            join(given, user);
         }
-        given.declined += u32::from(*self != Fault::DeclinedIsNotRaised);
-        given.admitted += u32::from(*self == Fault::BothCountsAreRaised);
+        given.declined[user] += u32::from(*self != Fault::DeclinedIsNotRaised);
+        given.admitted[user] += u32::from(*self == Fault::BothCountsAreRaised);
     }
 }
 
-fn counts(given: &Submit) -> Tally {
-    Tally {
-        admitted: given.admitted,
-        declined: given.declined,
-    }
+/// The counts of the user.
+fn own(given: &Submit) -> Counts {
+    tally(given).pairs[given.user as usize]
 }
 
 /// The same submission to another ledger, with a fresh tally.
-fn with_ledger(given: &Submit, ledger: &[u64]) -> Submit {
+pub fn with_ledger(given: &Submit, ledger: &[u64]) -> Submit {
     Submit {
         ledger: ledger.to_vec(),
-        admitted: 0,
-        declined: 0,
+        admitted: [0; USERS],
+        declined: [0; USERS],
         ..given.clone()
     }
 }
 
 /// The mask of the plan joined with what a ledger holds.
-fn mask(given: &Submit, ledger: &[u64]) -> u32 {
+pub fn mask(given: &Submit, ledger: &[u64]) -> u32 {
     let answer = GOOD.submit(&mut with_ledger(given, ledger));
     answer.expect("it is not refused")
 }
@@ -231,8 +239,9 @@ fn drop_others(given: &mut Submit) {
 fn past_the_limit(given: &mut Submit) -> u32 {
     let mut fresh = with_ledger(given, &given.ledger);
     let answer = GOOD.submit(&mut fresh);
-    given.admitted = given.admitted.wrapping_add(fresh.admitted);
-    given.declined = given.declined.wrapping_add(fresh.declined);
+    let user = given.user as usize;
+    given.admitted[user] = given.admitted[user].wrapping_add(fresh.admitted[user]);
+    given.declined[user] = given.declined[user].wrapping_add(fresh.declined[user]);
     given.ledger = fresh.ledger;
     answer.expect("it is not refused")
 }
@@ -249,17 +258,26 @@ fn as_projections(ledger: &[u64]) -> Vec<u64> {
     changed
 }
 
-/// Both engines have the fault, so that they never differ.
-pub fn is_found_by_the_lists(fault: Fault) {
-    let faulty = FaultyEngine(fault);
-    let engines: [&dyn Engine; 2] = [&faulty, &faulty];
+/// What is stated of every list goes against the engines in one of so many histories.
+pub fn by_the_lists(
+    engines: [&dyn Engine; 2],
+    histories: u32,
+    reached: &mut Reached,
+) -> Option<Box<Difference>> {
     let mut random = Random::new(6);
-    let mut reached = Reached::default();
-    let difference = (0..200).find_map(|_| {
+    (0..histories).find_map(|_| {
         let size = case::next_size(&mut random);
         let history = history(&mut random, size);
-        try_history(engines, &history, &mut reached).err()
-    });
+        try_history(engines, &history, reached).err()
+    })
+}
+
+/// Both engines have the fault, so that they never differ.
+pub fn is_found_by_the_lists(fault: impl Faulty + Copy + Debug) {
+    let faulty = FaultyEngine(fault);
+    let engines: [&dyn Engine; 2] = [&faulty, &faulty];
+    let mut reached = Reached::default();
+    let difference = by_the_lists(engines, 200, &mut reached);
     let difference = difference.unwrap_or_else(|| panic!("{fault:?} not found"));
     let (name, stated, _) = &difference.sides[0];
     println!("{fault:?} against '{stated}', {} cases", reached.cases);

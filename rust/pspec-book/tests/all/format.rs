@@ -99,7 +99,7 @@ fn the_days_are_replied_to_so() {
     let (mut ledger, mut tally) = (Ledger::new(), Tally::new());
     let rows: Vec<Vec<String>> = cells(days).collect();
     for row in &rows {
-        let user = row[1].parse().expect("it is a number");
+        let user: u32 = row[1].parse().expect("it is a number");
         let plan = Plan::new(hexadecimal(&row[3]));
         let reply = match book.submit(user, &plan, &mut ledger, &mut tally) {
             Reply::Admitted => "admitted".to_string(),
@@ -107,10 +107,11 @@ fn the_days_are_replied_to_so() {
             Reply::Refused(refusal) => format!("refused {}", refusal.number()),
         };
         assert_eq!(row[4], reply, "{}", row[0]);
-        let counts = [tally.admitted(), tally.declined()].map(|count| count.to_string());
+        let counts = [tally.admitted(user), tally.declined(user)];
+        let counts = counts.map(|count| count.to_string());
         assert_eq!(row[5..], counts, "{}", row[0]);
     }
-    assert_eq!(rows.len(), 5);
+    assert_eq!(rows.len(), 6);
 }
 
 #[test]

@@ -3,12 +3,14 @@
 use native.Mathlib.Omega.{arith}
 use mathlib.Core.Path.{sym, _∙_}
 use borrow.Author.Needs.{needs}
+use Rattle.ledger.specs.Counts.{pairOf}
 use Rattle.ledger.proofs.SubmitLaws.{submit-accepted}
 use Rattle.ledger.proofs.CallLaws.{submit-refused, submit-admitted, submit-declined}
 use Rattle.ledger.proofs.submitting.submit.Statement.{statement}
 use Rattle.ledger.proofs.submitting.submit.Tie as tie
 
 returns : tie.Need-returns
+unfolding pairOf
 returns c =
     let joined = c .before .before .before in
     let m = joined .before .before .before in
@@ -37,6 +39,7 @@ returns-2 c =
     (sym (tested .test-submit .ensures held) ∙ c .before .outcome .given .1)
 
 returns-3 : tie.Need-returns-3
+unfolding pairOf
 returns-3 c =
     let m = c .before .before in
     let words = m .before .before .before in

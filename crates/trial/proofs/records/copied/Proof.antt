@@ -7,10 +7,10 @@ use Rattle.trial.proofs.records.copied.Statement.{statement}
 use Rattle.trial.proofs.records.copied.Tie as tie
 
 abbrev Inv-loop : tie.InvT-loop
-Inv-loop records copy₀ i₀ copy i = (length copy ≡ 2114) × (i ≤ 2114)
+Inv-loop records copy₀ i₀ copy i = (length copy ≡ 2176) × (i ≤ 2176)
 
 abbrev μ-loop : tie.MeasureT-loop
-μ-loop records copy₀ i₀ copy i = 2114 - i
+μ-loop records copy₀ i₀ copy i = 2176 - i
 
 pub copied-spec : {M : Type 1} → statement M
 copied-spec =
