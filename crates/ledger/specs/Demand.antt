@@ -80,14 +80,14 @@ pub record Promise (book : Book) (s : Records) (entries : List Entry) : Type 0 w
 abbrev pub EveryList : Book → Type 0
 EveryList book = (list : List Submission) → Promise book (recordsAfter book list) (log book list)
 
--- a submission to what a list has left is the next of that list, keeps the promise, and gives each user what every list
--- that is alike for him gives him
+-- a list leaves these records, the promise holds of them, and each user has what every list alike for him gives him
+abbrev pub Leaves : Book → List Submission → Records → Type 0
+Leaves book list left = (recordsAfter book list ≡ left) × Promise book left (log book list) × EqualHistories book list
+
+-- a submission to what a list has left is the next of that list
 abbrev pub Continues :
     (book : Book) (user : ℕ) (plan : Plan) (before after : Ledger) (tally counted : Tally) → Type 0
 Continues book user plan before after tally counted =
     (list : List Submission)
     → recordsAfter book list ≡ record { ledger = before; tally = tally }
-    → (recordsAfter book (record { user = user; plan = plan } ∷ list) ≡ record { ledger = after; tally = counted })
-    × Promise book (record { ledger = after; tally = counted })
-    (log book (record { user = user; plan = plan } ∷ list))
-    × EqualHistories book (record { user = user; plan = plan } ∷ list)
+    → Leaves book (record { user = user; plan = plan } ∷ list) (record { ledger = after; tally = counted })
