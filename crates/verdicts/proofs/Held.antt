@@ -1,4 +1,4 @@
--- What words hold: the accesses of a plan, of words that agree, of words that are joined. Assumes nothing.
+-- What words hold: the accesses of a plan, of words that are joined. Assumes nothing.
 use Prim.Native.Nat.{ℕ, _+_, _*_, _/_, _%_, _≤_, _<_}
 use native.Mathlib.Omega.{arith}
 use mathlib.Core.Path.{_≡_, refl, _∙_}
@@ -46,14 +46,6 @@ by-bounds x p q same = go (ltb (x .channel) 2) refl (ltb (x .operation) 16) refl
 none-held : (b c : Bool) → (b && (c && false)) ≡ false
 none-held true c = and-false c
 none-held false c = refl
-
-pub held-same :
-    (a b : List ℕ) → ((w : ℕ) → w < 32 → getD a w 0 ≡ getD b w 0) → (x : Access) → heldBy a x ≡ heldBy b x
-unfolding heldBy
-held-same a b same x =
-    by-bounds x (has (getD a (16 * x .channel + x .operation) 0) (x .leaf))
-    (has (getD b (16 * x .channel + x .operation) 0) (x .leaf))
-    (λ c o. rw (same (16 * x .channel + x .operation) (omega arith)))
 
 pub held-zero : (a : List ℕ) → ((w : ℕ) → w < 32 → getD a w 0 ≡ 0) → (x : Access) → heldBy a x ≡ false
 unfolding heldBy
