@@ -23,11 +23,12 @@ use Rattle.verdicts.proofs.Sound.{mask-fits}
 use Rattle.ledger.specs.Answers.{submitTests, joinedAccesses, unionMask, submitAnswer, ledgerAfter, submitLedger}
 use Rattle.ledger.specs.Answers.{tallyAfter, submitTally}
 use Rattle.ledger.specs.Demand.{Continues, SubmitAccepted}
+use Rattle.ledger.specs.Counts.{Pairs}
 use Rattle.ledger.specs.declared.Tally.{Tally}
 use Rattle.ledger.specs.declared.Submitted.{Submitted}
 use Rattle.ledger.specs.declared.Submitted.the-variants as submitted
 use Rattle.ledger.proofs.WordLaws.{other-word}
-use Rattle.ledger.proofs.CountLaws.{Pairs, pairAfter, own-pair, other-pair}
+use Rattle.ledger.proofs.CountLaws.{pairAfter, own-pair, other-pair}
 use Rattle.ledger.proofs.SubmitLaws.{admitted-holds, by-reply, refused-answer, submit-passes, union-demand}
 use Rattle.ledger.proofs.SubmitLaws.{user-low}
 use Rattle.ledger.proofs.CallLaws.{continues}

@@ -13,7 +13,7 @@ use Rattle.book.specs.Blocks.{headOf}
 use Rattle.book.proofs.Lists.{keep-in, keep-out}
 use Rattle.lineage.specs.Accesses.{accessWords}
 use Rattle.ledger.specs.Ledger.{heldFor, wordsOf}
-use Rattle.ledger.specs.Counts.{pairOf}
+use Rattle.ledger.specs.Counts.{Pairs, pairOf}
 use Rattle.ledger.specs.Answers.{ledgerTests, tallyTests, submitTests, joinedAccesses, unionMask}
 use Rattle.ledger.specs.Answers.{submitAnswer, ledgerAfter, submitLedger, tallyAfter, submitTally}
 use Rattle.ledger.specs.Histories.{Submission, Records, replyTo, next, recordsAfter, log, submissionsOf}
@@ -22,7 +22,7 @@ use Rattle.ledger.specs.Inner.Steps.{joinedWords}
 use Rattle.ledger.specs.declared.Submitted.{Submitted}
 use Rattle.ledger.specs.declared.Submitted.the-variants.{Admitted, Declined, Refused}
 use Rattle.ledger.proofs.WordLaws.{own-words, other-words}
-use Rattle.ledger.proofs.CountLaws.{Pairs, pairAfter, own-pair, other-pair}
+use Rattle.ledger.proofs.CountLaws.{pairAfter, own-pair, other-pair}
 use Rattle.ledger.proofs.SubmitLaws.{by-reply, user-low}
 use Rattle.ledger.proofs.Kept.{own-entry, other-entry, promise}
 

@@ -6,7 +6,7 @@ use mathlib.Core.Path.{_≡_, refl, sym}
 use mathlib.Core.List.{List}
 use lib.ListN.{length, getD, length-set}
 use lib.Seq.{ext-getD, getD-set-same, getD-set-other}
-use Rattle.ledger.specs.Counts.{Pair, pairOf, raisedFor}
+use Rattle.ledger.specs.Counts.{Pair, Pairs, pairOf, raisedFor}
 use Rattle.ledger.specs.Answers.{tallyAfter}
 use Rattle.ledger.specs.declared.Tally.{Tally}
 use Rattle.ledger.specs.declared.Submitted.{Submitted}
@@ -35,10 +35,6 @@ module _ (counts : List ℕ) (user : ℕ) where
       (λ j low. sym (raised-other j (λ e. omega arith)))
 
 -- A reply
-
--- 32 pairs
-abbrev pub Pairs : Tally → Type 0
-Pairs tally = (length (tally .admitted) ≡ 32) × (length (tally .declined) ≡ 32)
 
 -- a pair after a reply to its user
 unfoldable pub pairAfter : (reply : Submitted) → Pair → Pair

@@ -20,7 +20,7 @@ use Rattle.verdicts.proofs.Held.{held-operations, held-zero}
 use Rattle.verdicts.proofs.DemandLaws.{query-demand}
 use Rattle.verdicts.proofs.Verdict.{broken-none, mask-same, nothing-broken}
 use Rattle.ledger.specs.Ledger.{heldFor, wordsOf}
-use Rattle.ledger.specs.Counts.{Pair, pairOf}
+use Rattle.ledger.specs.Counts.{Pair, Pairs, pairOf}
 use Rattle.ledger.specs.Answers.{joinedAccesses, unionMask, ledgerAfter, submitLedger}
 use Rattle.ledger.specs.Answers.{tallyAfter, submitTally}
 use Rattle.ledger.specs.Histories.{Submission, Records, fresh, replyTo, next, Entry, recordsAfter, log}
@@ -29,7 +29,7 @@ use Rattle.ledger.specs.Demand.{SubmitAccepted, inSome, Holds, Counted, 
 use Rattle.ledger.specs.declared.Submitted.{Submitted}
 use Rattle.ledger.specs.declared.Submitted.the-variants.{Admitted, Declined, Refused}
 use Rattle.ledger.proofs.WordLaws.{words-zero, held-other, joined-length}
-use Rattle.ledger.proofs.CountLaws.{Pairs, pairAfter, pairs-after, own-pair, other-pair}
+use Rattle.ledger.proofs.CountLaws.{pairAfter, pairs-after, own-pair, other-pair}
 use Rattle.ledger.proofs.SubmitLaws.{admitted-holds, by-reply, user-low}
 
 -- the records agree with the replies, and nobody breaks a rule

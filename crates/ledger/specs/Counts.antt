@@ -1,13 +1,18 @@
 -- The tally: one pair of counts for each user number. Document 02, N3 and N8. Assumes nothing.
 use Prim.Native.Nat.{ℕ, _+_}
+use mathlib.Core.Path.{_≡_}
 use mathlib.Core.List.{List}
-use lib.ListN.{getD, set}
+use lib.ListN.{length, getD, set}
 use Rattle.ledger.specs.declared.Tally.{Tally}
 
 -- "one pair of counts": how many plans of a user were admitted, and how many were declined
 pub record Pair : Type 0 where
   pub admitted : ℕ
   pub declined : ℕ
+
+-- "for each user number": a tally of 32 pairs
+abbrev pub Pairs : Tally → Type 0
+Pairs tally = (length (tally .admitted) ≡ 32) × (length (tally .declined) ≡ 32)
 
 -- the pair of a user; zeros for a number past the tally's end
 unfoldable pub pairOf : Tally → (user : ℕ) → Pair

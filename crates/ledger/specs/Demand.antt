@@ -15,7 +15,7 @@ use Rattle.verdicts.specs.Breaking.{breaks}
 use Rattle.verdicts.specs.Semantics.{SatisfiesPolicy}
 use Rattle.verdicts.specs.Demand.{JudgeAccepted, Demand2}
 use Rattle.ledger.specs.Ledger.{Ledger, heldFor}
-use Rattle.ledger.specs.Counts.{Pair, pairOf}
+use Rattle.ledger.specs.Counts.{Pair, Pairs, pairOf}
 use Rattle.ledger.specs.Histories.{Submission, Records, Entry, recordsAfter, log, isAdmitted, isDeclined}
 use Rattle.ledger.specs.Histories.{notRefused, entriesOf, admittedPlans}
 use Rattle.ledger.specs.Alike.{EqualHistories}
@@ -72,7 +72,7 @@ pub record Counted (pair : Pair) (own : List Entry) : Type 0 where
 pub record Promise (book : Book) (s : Records) (entries : List Entry) : Type 0 where
   -- the ledger stays one of 1,024 words, the tally one of 32 pairs
   pub whole : length (s .ledger) ≡ 1024
-  pub pairs : (length (s .tally .admitted) ≡ 32) × (length (s .tally .declined) ≡ 32)
+  pub pairs : Pairs (s .tally)
   pub each : (user : ℕ) → Holds book user (heldFor (s .ledger) user) (entriesOf user entries)
   pub counted : (user : ℕ) → Counted (pairOf (s .tally) user) (entriesOf user entries)
 

@@ -6,10 +6,10 @@ use mir.Val.{Val}
 use borrow.Author.Needs.{needs, length-unmapped}
 use denote.Laws.{Is}
 use denote.Struct.Laws as LL
+use Rattle.ledger.specs.Counts.{Pairs}
 use Rattle.ledger.specs.declared.Tally.{Tally}
 use Rattle.ledger.proofs.Tally as T
 use Rattle.ledger.proofs.Tally.Laws as T′
-use Rattle.ledger.proofs.CountLaws.{Pairs}
 use Rattle.capi.proofs.PackedLaws.{submit-refused, submit-declined, submit-admitted}
 use Rattle.capi.proofs.Headline.{submit-promised}
 use Rattle.capi.proofs.submit_counted.Statement.{statement}
