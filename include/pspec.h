@@ -63,9 +63,9 @@ enum pspec_refusal {
     PSPEC_NOT_REFUSED = 0,
     PSPEC_BOOK_LENGTH = 1,        /* length of the book not 512 times 4 to 36 */
     PSPEC_BLOCK_CHECK = 2,        /* a block's check is wrong */
-    PSPEC_BLOCK_KIND = 3,         /* a block's kind is wrong */
+    PSPEC_BLOCK_KIND = 3,         /* a block's kind is wrong; block 1 may be of kind 2 or 6 */
     PSPEC_COUNT_OR_ZERO = 4,      /* a count outside its bounds, or a byte that should be zero */
-    PSPEC_PARENT_OR_OWN = 5,      /* a category's parent, or its own operations */
+    PSPEC_PARENT_OR_OWN = 5,      /* a category's parent, or its own or withdrawn operations */
     PSPEC_LABEL_OR_FUNCTION = 6,  /* a label that is no leaf and not 255, or a function above 15 */
     PSPEC_RULE_NUMBER = 7,        /* a rule's category number, action or exclusion */
     PSPEC_SHARED_LEAF = 8,        /* references of a rule share a leaf */

@@ -4,15 +4,15 @@ use Prim.Native.Nat.{ℕ}
 use mathlib.Core.Path.{_≡_, refl, _∙_}
 use mathlib.Core.List.{List, [], _∷_, _++_, map}
 use Rattle.book.specs.Lists.{all, any, flat, upTo, from, keep}
-use Rattle.book.specs.Sets.{has}
-use Rattle.book.specs.Hierarchies.{upwardIn, upward, under, leaf, covers, properDescendant, ownedBy, support}
+use Rattle.book.specs.Sets.{has, less}
+use Rattle.book.specs.Hierarchies.{upwardIn, upward, under, leaf, covers, properDescendant, supportAlong, support}
 use Rattle.book.specs.Hierarchies.{parentHolds}
-use Rattle.book.specs.Head.{isUser, isDataLeaf, supportOf, supports}
+use Rattle.book.specs.Head.{categoryStart, withdrawnOperations, isUser, isDataLeaf, supportOf, supports}
 use Rattle.book.specs.Rule.{actionOf, coversUser, inLeafSet}
 use Rattle.book.specs.Blocks.{Book, ruleAt, weighted, checkSum, checkHolds}
 use Rattle.book.specs.Refusals.{between, zeros, lengthHolds, kindHolds, usersCounted, dataCounted, columnsCounted}
 use Rattle.book.specs.Refusals.{functionsCounted, ruleCounts, referenceEnd, ruleZeros, ruleCounted, usersOrdered}
-use Rattle.book.specs.Refusals.{dataOrdered, labelHolds, labelsHold, functionsHold, userNumbersHold}
+use Rattle.book.specs.Refusals.{ownHolds, dataOrdered, labelHolds, labelsHold, functionsHold, userNumbersHold}
 use Rattle.book.specs.Refusals.{namesAction, referenceHolds, numbersHold, leafSetsApart, referencesApart}
 use Rattle.book.specs.Refusals.{maskAllows, maskHolds, masksHold, lengthTests, checkTests, kindTests}
 use Rattle.book.specs.Refusals.{usersBlockTests, dataBlockTests, columnsBlockTests, functionsBlockTests}
@@ -152,26 +152,26 @@ outcome book r =
 
 cases-outcomes :
     _≡_ {A = List (List Both)} (map (λ c. map (outcome (c .0)) (c .1)) cases) (map (λ c. c .2) cases)
-unfolding all any upTo from has upwardIn upward under leaf covers ownedBy support isUser isDataLeaf supportOf
-    supports coversUser inLeafSet weighted checkSum withCheck sealBytes answered refusedOr sealTests firstFailing
-    padded block users categories columns functions rule rule0 rule1 rule2 shop labels same flat keep everyAccess
-    actionOf actionFits channelFits fits fitting choicesFrom operations accepts refusesAll someChoiceRefused breaks
-    labelled operated canBeHad firstIn accessTo inScopeAt everyDatum associations scope operationChoices someBroken
-    isClosedUnder firstClosed wordOf withAsking others without afterTrials leavesClosed fewLeft fewRules ruleTests
-    forbidTests datumByte closedAnswer blockingOf causesOf told outcome sums three forbids prices near conditions
-    together states no-avg threes cases
+unfolding all any upTo from has upwardIn upward under leaf covers supportAlong support less categoryStart
+    withdrawnOperations isUser isDataLeaf supportOf supports coversUser inLeafSet weighted checkSum withCheck
+    sealBytes answered refusedOr sealTests firstFailing padded block users categories columns functions rule rule0
+    rule1 rule2 shop labels same flat keep everyAccess actionOf actionFits channelFits fits fitting choicesFrom
+    operations accepts refusesAll someChoiceRefused breaks labelled operated canBeHad firstIn accessTo inScopeAt
+    everyDatum associations scope operationChoices someBroken isClosedUnder firstClosed wordOf withAsking others
+    without afterTrials leavesClosed fewLeft fewRules ruleTests forbidTests datumByte closedAnswer blockingOf causesOf
+    told outcome sums three forbids prices near conditions together states no-avg threes cases
 cases-outcomes = refl
 
 cases-pass : _≡_ {A = List Tested} (map (λ c. firstFailing (bookTests (c .0))) cases) (map (λ c. Passed) cases)
-unfolding all any upTo from has upwardIn upward under leaf covers properDescendant ownedBy support parentHolds
-    isUser isDataLeaf supportOf supports inLeafSet weighted checkSum checkHolds between zeros lengthHolds kindHolds
-    usersCounted dataCounted columnsCounted functionsCounted ruleCounts referenceEnd ruleZeros ruleCounted
-    usersOrdered dataOrdered labelHolds labelsHold functionsHold userNumbersHold actionOf namesAction referenceHolds
-    numbersHold leafSetsApart referencesApart maskAllows maskHolds masksHold usersBlockTests dataBlockTests
-    columnsBlockTests functionsBlockTests ruleBlockTests blockTests checkTests kindTests contentTests lengthTests
-    blockByBlock bookTests sealTests flat firstFailing refusedOr answered withCheck sealBytes padded block users
-    categories columns functions rule rule0 rule1 rule2 shop sums three forbids near conditions together states
-    no-avg prices threes cases
+unfolding all any upTo from has upwardIn upward under leaf covers properDescendant supportAlong support less
+    categoryStart withdrawnOperations parentHolds isUser isDataLeaf supportOf supports inLeafSet weighted checkSum
+    checkHolds between zeros lengthHolds kindHolds usersCounted dataCounted columnsCounted functionsCounted ruleCounts
+    referenceEnd ruleZeros ruleCounted usersOrdered ownHolds dataOrdered labelHolds labelsHold functionsHold
+    userNumbersHold actionOf namesAction referenceHolds numbersHold leafSetsApart referencesApart maskAllows maskHolds
+    masksHold usersBlockTests dataBlockTests columnsBlockTests functionsBlockTests ruleBlockTests blockTests
+    checkTests kindTests contentTests lengthTests blockByBlock bookTests sealTests flat firstFailing refusedOr
+    answered withCheck sealBytes padded block users categories columns functions rule rule0 rule1 rule2 shop sums
+    three forbids near conditions together states no-avg prices threes cases
 cases-pass = refl
 
 -- The answers

@@ -5,20 +5,21 @@ use mathlib.Core.Path.{_≡_}
 use mathlib.Core.Bool.{Bool, true, false, _&&_, _||_, not}
 use mathlib.Core.List.{List, _++_}
 use lib.ListN.{length}
-use lib.Dec.{ltb, leb}
-use borrow.Author.Tests.{leb-true, ltb-true, not-true}
+use lib.Dec.{eqb, ltb, leb}
+use lib.Bits.{bitAnd}
+use borrow.Author.Tests.{leb-true, ltb-true, eqb-true, not-true}
 use Rattle.book.specs.Lists.{all, upTo}
 use Rattle.book.specs.Sets.{has}
 use Rattle.book.specs.Hierarchies.{parentHolds, properDescendant}
-use Rattle.book.specs.Head.{userCount, userParent, dataCount, dataParent, ownOperations, columnCount, label}
-use Rattle.book.specs.Head.{functionCount, operation}
+use Rattle.book.specs.Head.{userCount, userParent, dataCount, dataParent, ownOperations, withdrawnOperations}
+use Rattle.book.specs.Head.{columnCount, label, functionCount, operation}
 use Rattle.book.specs.Rule.{referenceCount, userCategory, excludedUserCount, excludedUsers, restrictionCount}
 use Rattle.book.specs.Rule.{dataCategory, action, exclusionCount, exclusions, restrictionMask, inLeafSet}
 use Rattle.book.specs.Blocks.{headOf, ruleAt, blockCount, ruleCount}
 use Rattle.book.specs.Tests.{Passes}
 use Rattle.book.specs.Refusals.{BookAccepted, bookTests, blockByBlock, blockTests, checkTests}
 use Rattle.book.specs.Refusals.{contentTests, kindTests, lengthHolds, lengthTests}
-use Rattle.book.specs.Refusals.{usersOrdered, namesAction}
+use Rattle.book.specs.Refusals.{usersOrdered, ownHolds, namesAction}
 use Rattle.book.specs.Refusals.{dataOrdered, labelHolds, labelsHold, functionsHold, ruleCounts, ruleZeros}
 use Rattle.book.specs.Refusals.{ruleCounted, userNumbersHold, referenceHolds, numbersHold, leafSetsApart}
 use Rattle.book.specs.Refusals.{referencesApart, maskAllows, maskHolds, masksHold}
@@ -40,6 +41,8 @@ pub record HeadHolds (head : List ℕ) : Type 0 where
   pub users-fall : (i : ℕ) → i < userCount head → userParent head i ≤ i - 1
   pub data-fall : (i : ℕ) → i < dataCount head → dataParent head i ≤ i - 1
   pub own-shows : (i : ℕ) → i < dataCount head → has (ownOperations head i) 0 ≡ false
+  pub withdrawn-shows : (i : ℕ) → i < dataCount head → has (withdrawnOperations head i) 0 ≡ false
+  pub masks-apart : (i : ℕ) → i < dataCount head → bitAnd (ownOperations head i) (withdrawnOperations head i) ≡ 0
   pub labels-hold : (i : ℕ) → i < columnCount head → labelHolds head (label head i) ≡ true
   pub operations-most : (i : ℕ) → i < functionCount head → operation head i ≤ 15
 
@@ -87,7 +90,7 @@ module _ (head : List ℕ) where
   parents = all (parentHolds (dataParent head)) (upTo (dataCount head))
 
   owns : Bool
-  owns = all (λ i. not (has (ownOperations head i) 0)) (upTo (dataCount head))
+  owns = all (ownHolds head) (upTo (dataCount head))
 
   data-fell : dataOrdered head ≡ true → (i : ℕ) → i < dataCount head → dataParent head i ≤ i - 1
   unfolding dataOrdered parents owns
@@ -95,11 +98,21 @@ module _ (head : List ℕ) where
       parent-falls (dataParent head) i
       (all-at (parentHolds (dataParent head)) (dataCount head) (and-left parents owns h) i l)
 
-  own-shown : dataOrdered head ≡ true → (i : ℕ) → i < dataCount head → has (ownOperations head i) 0 ≡ false
-  unfolding dataOrdered parents owns
-  own-shown h i l =
-      not-true (has (ownOperations head i) 0)
-      (all-at (λ j. not (has (ownOperations head j) 0)) (dataCount head) (and-right parents owns h) i l)
+  own-held :
+      dataOrdered head ≡ true
+      → (i : ℕ)
+      → i < dataCount head
+      → (has (ownOperations head i) 0 ≡ false)
+      × (has (withdrawnOperations head i) 0 ≡ false)
+      × (bitAnd (ownOperations head i) (withdrawnOperations head i) ≡ 0)
+  unfolding dataOrdered parents owns ownHolds
+  own-held h i l =
+      let own = ownOperations head i in
+      let withdrawn = withdrawnOperations head i in
+      let held : ownHolds head i ≡ true = all-at (ownHolds head) (dataCount head) (and-right parents owns h) i l in
+      let a = and-both (not (has own 0)) (not (has withdrawn 0) && eqb (bitAnd own withdrawn) 0) held in
+      let b = and-both (not (has withdrawn 0)) (eqb (bitAnd own withdrawn) 0) (a .1) in
+      (not-true (has own 0) (a .0), not-true (has withdrawn 0) (b .0), eqb-true (bitAnd own withdrawn) 0 (b .1))
 
   labels-held : labelsHold head ≡ true → (i : ℕ) → i < columnCount head → labelHolds head (label head i) ≡ true
   unfolding labelsHold
@@ -215,7 +228,9 @@ module _ (book : List ℕ) (accepted : BookAccepted book) where
         functions-most = functions-bound head (functions .0);
         users-fall = users-fell head (users .1);
         data-fall = data-fell head (categories .1);
-        own-shows = own-shown head (categories .1);
+        own-shows = λ i l. own-held head (categories .1) i l .0;
+        withdrawn-shows = λ i l. own-held head (categories .1) i l .1;
+        masks-apart = λ i l. own-held head (categories .1) i l .2;
         labels-hold = labels-held head (columns .1);
         operations-most = operations-bound head (functions .1);
       }

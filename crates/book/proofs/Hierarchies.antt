@@ -10,10 +10,10 @@ use lib.Pow.{pow-pos}
 use lib.Bits.{bitOr}
 use borrow.Author.Tests.{ltb-true, ltb-false, le-ltb, lt-ltb, eqb-true, eqb-false, eq-eqb, ne-eqb}
 use Rattle.book.specs.Lists.{any, all, upTo}
-use Rattle.book.specs.Sets.{has}
-use Rattle.book.specs.Hierarchies.{upwardIn, upward, under, ownedBy, support, leaf, parentHolds}
+use Rattle.book.specs.Sets.{has, less}
+use Rattle.book.specs.Hierarchies.{upwardIn, upward, under, supportAlong, support, leaf, parentHolds}
 use Rattle.book.proofs.Lists.{and-left, and-second, and-false, and-never, or-end, or-true, ltb-more, by-cases}
-use Rattle.book.proofs.Lists.{any-same, any-both, any-swap, any-here, any-with, any-where, any-nothing, all-more, all-none}
+use Rattle.book.proofs.Lists.{any-same, any-both, any-with, any-nothing, all-more, all-none}
 
 -- The way up
 
@@ -22,12 +22,13 @@ unfolding any
 any-step f c true l = refl
 any-step f c false l = refl
 
-owned-step :
-    (own : ℕ → ℕ) (c : ℕ) (b : Bool) (l : List ℕ)
-    → ownedBy own (c ∷ cond b l []) ≡ bitOr (own c) (cond b (ownedBy own l) 0)
-unfolding ownedBy
-owned-step own c true l = refl
-owned-step own c false l = refl
+along-step :
+    (own withdrawn : ℕ → ℕ) (c : ℕ) (b : Bool) (l : List ℕ)
+    → supportAlong own withdrawn (c ∷ cond b l [])
+    ≡ bitOr (less (cond b (supportAlong own withdrawn l) 0) (withdrawn c)) (own c)
+unfolding supportAlong
+along-step own withdrawn c true l = refl
+along-step own withdrawn c false l = refl
 
 module _ (parent : ℕ → ℕ) where
   upwardIn-up :
@@ -86,11 +87,14 @@ module _ (parent : ℕ → ℕ) where
       → any f (upward parent c) ≡ (f c || (ltb (parent c) c && any f (upward parent (parent c))))
   any-up f c = rw (upward-up c) (any-step f c (ltb (parent c) c) (upward parent (parent c)))
 
+  -- support by recursion to the parent
   pub support-up :
-      (own : ℕ → ℕ) (c : ℕ)
-      → support parent own c ≡ bitOr (own c) (cond (ltb (parent c) c) (support parent own (parent c)) 0)
+      (own withdrawn : ℕ → ℕ) (c : ℕ)
+      → support parent own withdrawn c
+      ≡ bitOr (less (cond (ltb (parent c) c) (support parent own withdrawn (parent c)) 0) (withdrawn c)) (own c)
   unfolding support
-  support-up own c = rw (upward-up c) (owned-step own c (ltb (parent c) c) (upward parent (parent c)))
+  support-up own withdrawn c =
+      rw (upward-up c) (along-step own withdrawn c (ltb (parent c) c) (upward parent (parent c)))
 
   any-in-none : (f : ℕ → Bool) (c : ℕ) → any f (upwardIn 0 parent c) ≡ f c
   unfolding upwardIn any
@@ -154,19 +158,6 @@ module _ (parent : ℕ → ℕ) where
   under-above c i l =
       upward-same parent (eqb c) (λ j. false) i (λ j m. ne-eqb c j (λ e. omega arith))
       ∙ any-nothing (upward parent i)
-
-  -- a test met on the way up is met by a category that the number is under
-  pub any-under :
-      (f : ℕ → Bool) (n d : ℕ)
-      → d < n
-      → any (λ c. f c && under parent c d) (upTo n) ≡ any f (upward parent d)
-  unfolding under
-  any-under f n d l =
-      sym
-      (upward-same parent f (λ x. any (λ c. f c && eqb c x) (upTo n)) d (λ x m. any-here f n x (omega arith))
-      ∙ any-swap (λ x c. f c && eqb c x) (upward parent d) (upTo n)
-      ∙ any-same (λ c. any (λ x. f c && eqb c x) (upward parent d)) (λ c. f c && any (eqb c) (upward parent d))
-      (λ c. any-where (eqb c) (f c) (upward parent d)) (upTo n))
 
   under-child-in :
       (m c j : ℕ) → j ≤ m → under parent c j ≡ (eqb c j || any (child parent c) (upward parent j))

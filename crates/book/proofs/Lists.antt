@@ -313,14 +313,6 @@ unfolding any
 any-nothing [] = refl
 any-nothing (x ∷ l) = any-nothing l
 
--- two quantifiers in either order
-pub any-swap :
-    {A B : Type 0} (f : A → B → Bool) (l : List A) (m : List B)
-    → any (λ a. any (f a) m) l ≡ any (λ b. any (λ a. f a b) l) m
-unfolding any
-any-swap f l [] = any-nothing l
-any-swap f l (y ∷ m) = any-both (λ a. f a y) (λ a. any (f a) m) l ∙ rw (any-swap f l m)
-
 -- Quantifiers over the numbers below n
 
 pub from-more : (i n : ℕ) → from i (suc n) ≡ from i n ++ ((i + n) ∷ [])
@@ -402,24 +394,6 @@ module _ (f : ℕ → Bool) (n : ℕ) where
   pub at-none : ((j : ℕ) → j < n → f j ≡ false) → any f (upTo n) ≡ false
   at-none h =
       not-true (any f (upTo n)) (not-any f (upTo n) ∙ at-all (λ x. not (f x)) n (λ j l. rw (h j l)))
-
--- a test of one number below n, as a search for it
-pub any-here : (f : ℕ → Bool) (n x : ℕ) → x < n → f x ≡ any (λ c. f c && eqb c x) (upTo n)
-any-here f n x l = go (f x) refl
-  where
-    other : (c : ℕ) (b : Bool) → eqb c x ≡ b → f x ≡ false → (f c && b) ≡ false
-    other c true e h = rw (eqb-true c x e, h)
-    other c false e h = and-false (f c)
-
-    found : f x ≡ true → (b : Bool) → any (λ c. f c && eqb c x) (upTo n) ≡ b → true ≡ b
-    found h true e = refl
-    found h false e =
-        let none : (f x && eqb x x) ≡ false = none-at (λ c. f c && eqb c x) n e x l in
-        rw (h, eq-eqb x x refl) at none
-
-    go : (b : Bool) → f x ≡ b → b ≡ any (λ c. f c && eqb c x) (upTo n)
-    go true h = found h (any (λ c. f c && eqb c x) (upTo n)) refl
-    go false h = sym (at-none (λ c. f c && eqb c x) n (λ c m. other c (eqb c x) refl h))
 
 pub all-three : (f : ℕ → Bool) → all f (upTo 3) ≡ (f 0 && (f 1 && f 2))
 unfolding all upTo from

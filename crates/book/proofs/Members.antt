@@ -2,6 +2,7 @@
 -- Assumes nothing.
 use Prim.Native.Nat.{ℕ, zero, suc, _+_, _*_, _-_, _/_, _%_, _^_, _≤_, _<_}
 use native.Mathlib.Nat.{pow-suc, pow-succ', div-one, sub-zero, div-div-eq-div-mul, div-eq-of-lt, zero-div, one-mul}
+use native.Mathlib.Nat.{zero-sub}
 use native.Mathlib.Nat.{lt-of-lt-of-le, lt-of-le-of-lt}
 use native.Mathlib.Omega.{arith}
 use mathlib.Core.Path.{_≡_, refl, sym, _∙_}
@@ -11,10 +12,10 @@ use lib.ListN.{length, getD, set}
 use lib.Seq.{getD-set-same, getD-set-other}
 use lib.Dec.{eqb, ltb, eqb·suc-suc, eqb·zero-suc, eqb·suc-zero, leb·suc-suc}
 use lib.Pow.{pow-mono, pow-pos, shl-exact}
-use lib.Bits.{bitAnd, bitOr, and-shr, or-shr, and-mod, or-mod, and-le-l, or-zero-r}
+use lib.Bits.{bitAnd, bitOr, and-shr, or-shr, and-mod, or-mod, and-le-l, or-zero-r, or-comm, and-comm}
 use borrow.Author.Tests.{ltb-true, ltb-false, eq-eqb, ne-eqb, eqb-true, eqb-false, lt-ltb, le-ltb, not-true}
 use Rattle.book.specs.Lists.{all, upTo}
-use Rattle.book.specs.Sets.{has}
+use Rattle.book.specs.Sets.{has, less}
 use Rattle.book.proofs.Lists.{same-test, and-first, and-second, and-never, and-end, and-false, ltb-more}
 use Rattle.book.proofs.Lists.{all-at, at-all}
 
@@ -107,6 +108,57 @@ has-minus n a b i p q = rw (has-and, has-not n b i q) (go (ltb i n) refl)
     go true e = rw e
     go false e = rw (has-above n a i p (ltb-false i n e))
 
+-- a set less another: what one bit and the bits above it are
+and-low : (a b : ℕ) → bitAnd a b % 2 ≡ bitAnd (a % 2) (b % 2)
+and-low a b = and-mod a b 1
+
+and-half : (a b : ℕ) → bitAnd a b / 2 ≡ bitAnd (a / 2) (b / 2)
+and-half a b = and-shr a b 1
+
+less-low : (a b : ℕ) → less a b % 2 ≡ less (a % 2) (b % 2)
+unfolding less
+less-low a b =
+    let whole = and-le-l a b in
+    let bit = and-le-l (a % 2) (b % 2) in
+    let same = and-low a b in
+    omega arith
+
+less-half : (a b : ℕ) → less a b / 2 ≡ less (a / 2) (b / 2)
+unfolding less
+less-half a b =
+    let whole = and-le-l a b in
+    let bit = and-le-l (a % 2) (b % 2) in
+    let same = and-low a b in
+    let half = and-half a b in
+    omega arith
+
+less-bit : (x y : ℕ) → x < 2 → y < 2 → eqb (less x y) 1 ≡ (eqb x 1 && not (eqb y 1))
+unfolding less
+less-bit zero y p q = refl
+less-bit (suc zero) zero p q = refl
+less-bit (suc zero) (suc zero) p q = refl
+less-bit (suc zero) (suc (suc y)) p q = absurd (omega arith)
+less-bit (suc (suc x)) y p q = absurd (omega arith)
+
+-- nothing less a set is nothing
+pub none-less : (b : ℕ) → less 0 b ≡ 0
+unfolding less
+none-less b = zero-sub (bitAnd 0 b)
+
+pub less-none : (a : ℕ) → less a 0 ≡ a
+unfolding less
+less-none a = rw (and-comm a 0) (sub-zero a)
+
+pub none-or : (a : ℕ) → bitOr 0 a ≡ a
+none-or a = or-comm 0 a ∙ or-zero-r a
+
+pub has-less : (a b i : ℕ) → has (less a b) i ≡ (has a i && not (has b i))
+has-less a b zero =
+    rw (has-low (less a b), has-low a, has-low b, less-low a b)
+    (less-bit (a % 2) (b % 2) (omega arith) (omega arith))
+has-less a b (suc i) =
+    rw (has-high (less a b) i, has-high a i, has-high b i, less-half a b) (has-less (a / 2) (b / 2) i)
+
 -- the numbers below n
 pub has-below : (n j : ℕ) → has (2 ^ n - 1) j ≡ ltb j n
 has-below n j = (rw (sub-zero (2 ^ n - 1)) at (has-not n 0 j (pow-pos n))) ∙ rw (has-zero, and-end)
@@ -167,6 +219,13 @@ same-members (suc n) a b p q h =
     same-members n (a / 2) (b / 2) (omega arith) (omega arith)
     (λ i l. rw (has-high, has-high) at (h (suc i) (omega arith))) in
     omega arith
+
+-- the code's `a & !b`
+pub minus-less : (n a b : ℕ) → a < 2 ^ n → b < 2 ^ n → bitAnd a ((2 ^ n - 1) - b) ≡ less a b
+unfolding less
+minus-less n a b p q =
+    same-members n (bitAnd a ((2 ^ n - 1) - b)) (less a b) (lt-of-le-of-lt (and-le-l a ((2 ^ n - 1) - b)) p)
+    (omega arith) (λ i l. has-minus n a b i p q ∙ sym (has-less a b i))
 
 pub empty-none : (n a : ℕ) → a < 2 ^ n → eqb a 0 ≡ all (λ i. not (has a i)) (upTo n)
 empty-none n a p =

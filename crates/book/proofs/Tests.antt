@@ -1,5 +1,5 @@
 -- The tests of the book check: what a test says where it is passed, the tests of each block, and those of a pass. Assumes nothing.
-use Prim.Native.Nat.{ℕ, zero, suc, _+_, _*_, _/_, _%_, _≤_, _<_}
+use Prim.Native.Nat.{ℕ, zero, suc, _+_, _/_, _%_, _≤_, _<_}
 use native.Mathlib.Omega.{arith}
 use mathlib.Core.Path.{_≡_, refl, sym, ap, _∙_}
 use mathlib.Core.Bool.{Bool, true, false, _&&_, _||_, not}
@@ -9,7 +9,7 @@ use lib.Dec.{eqb, ltb, leb}
 use borrow.Author.Tests.{leb-true, eqb-true, not-false}
 use Rattle.book.specs.Lists.{all, upTo}
 use Rattle.book.specs.Sets.{has}
-use Rattle.book.specs.Head.{userCount, dataCount, dataParent, columnCount, functionCount, isDataLeaf}
+use Rattle.book.specs.Head.{userCount, dataCount, categoryStart, dataParent, columnCount, functionCount, isDataLeaf}
 use Rattle.book.specs.Rule.{referenceCount, excludedUserCount, restrictionCount, exclusionCount}
 use Rattle.book.specs.Blocks.{blockAt, headOf, checkHolds}
 use Rattle.book.specs.Refusals.{between, zeros, lengthHolds, kindHolds, usersCounted, dataCounted}
@@ -42,15 +42,7 @@ length-true n h =
     let blocks = between-true 4 36 (n / 512) (and-right (eqb (n % 512) 0) (between 4 36 (n / 512)) h) in
     (whole, blocks .0, blocks .1)
 
--- the kind of a head block, and of a rule
-pub kind-head : (i kind : ℕ) → i < 4 → eqb kind (i + 1) ≡ kindHolds i kind
-unfolding kindHolds
-kind-head zero kind h = refl
-kind-head (suc zero) kind h = refl
-kind-head (suc (suc zero)) kind h = refl
-kind-head (suc (suc (suc zero))) kind h = refl
-kind-head (suc (suc (suc (suc i)))) kind h = absurd (omega arith)
-
+-- the kind of a rule
 pub kind-rule : (i kind : ℕ) → 4 ≤ i → eqb kind 5 ≡ kindHolds i kind
 unfolding kindHolds
 kind-rule zero kind h = absurd (omega arith)
@@ -79,7 +71,7 @@ module _ (head : List ℕ) where
   unfolding dataCounted
   data-bound h =
       between-true 1 64 (dataCount head)
-      (and-left (between 1 64 (dataCount head)) (zeros head (514 + 3 * dataCount head) 1022) h)
+      (and-left (between 1 64 (dataCount head)) (zeros head (categoryStart head (dataCount head)) 1022) h)
 
   pub columns-bound : columnsCounted head ≡ true → columnCount head ≤ 128
   unfolding columnsCounted

@@ -4,7 +4,7 @@ use Prim.Native.Nat.{ℕ, zero, suc, _+_, _*_, _-_, _/_, _≤_, _<_}
 use native.Mathlib.Nat.{zero-add}
 use native.Mathlib.Omega.{arith}
 use mathlib.Core.Path.{_≡_, refl, sym, _∙_}
-use mathlib.Core.Bool.{Bool, true, false, _&&_, _||_}
+use mathlib.Core.Bool.{Bool, true, false, _&&_, _||_, cond}
 use mathlib.Core.List.{List, [], _∷_}
 use lib.ListN.{getD, take, drop}
 use lib.Seq.{getD-take, getD-drop}
@@ -12,7 +12,7 @@ use lib.Dec.{eqb, ltb, leb}
 use borrow.Author.Tests.{ltb-true, ltb-false, leb-true, eqb-true, eqb-false}
 use borrow.Author.Tests.{lt-ltb, le-ltb, le-leb, eq-eqb, ne-eqb}
 use Rattle.book.specs.Lists.{all, any, upTo}
-use Rattle.book.specs.Head.{userCount, dataCount, columnCount, functionCount}
+use Rattle.book.specs.Head.{userCount, hasWithdrawn, dataCount, categoryStart, columnCount, functionCount}
 use Rattle.book.specs.Rule.{referenceCount, excludedUserCount, restrictionCount, exclusionCount}
 use Rattle.book.specs.Refusals.{zeros, ruleCounts, referenceEnd, ruleZeros}
 use Rattle.book.proofs.Lists.{and-true, and-left, and-right, and-both, or-rest, or-otherwise, or-neither}
@@ -100,6 +100,10 @@ head-unused-zero head base used =
     test : ℕ → Bool
     test j = ltb j used || eqb (getD head (base + j) 0) 0
 
+start-used : (b : Bool) (n : ℕ) → cond b (514 + 5 * n) (514 + 3 * n) ≡ 512 + cond b (2 + 5 * n) (2 + 3 * n)
+start-used true n = omega arith
+start-used false n = omega arith
+
 module _ (head : List ℕ) where
   pub users-unused-zero :
       zeros head (2 + userCount head) 510
@@ -107,11 +111,14 @@ module _ (head : List ℕ) where
   users-unused-zero = simp zero-add at (head-unused-zero head 0 (2 + userCount head))
 
   pub data-unused-zero :
-      zeros head (514 + 3 * dataCount head) 1022
-      ≡ all (λ j. ltb j (2 + 3 * dataCount head) || eqb (getD head (512 + j) 0) 0) (upTo 510)
+      zeros head (categoryStart head (dataCount head)) 1022
+      ≡ all
+      (λ j. ltb j (cond (hasWithdrawn head) (2 + 5 * dataCount head) (2 + 3 * dataCount head)) || eqb (getD head (512 + j) 0) 0)
+      (upTo 510)
+  unfolding categoryStart
   data-unused-zero =
-      let e : 512 + (2 + 3 * dataCount head) ≡ 514 + 3 * dataCount head = omega arith in
-      rw e at (head-unused-zero head 512 (2 + 3 * dataCount head))
+      rw (← (start-used (hasWithdrawn head) (dataCount head)))
+      at (head-unused-zero head 512 (cond (hasWithdrawn head) (2 + 5 * dataCount head) (2 + 3 * dataCount head)))
 
   pub columns-unused-zero :
       zeros head (1026 + columnCount head) 1534

@@ -1,11 +1,12 @@
 -- Hierarchies of categories, once for users and for data: a number of categories and the parent of each.
--- Document 01, "The book and its blocks", its last paragraph. Assumes nothing.
+-- Document 01, "The book and its blocks", its last paragraph; support is document 02's, N9. Assumes nothing.
 use Prim.Native.Nat.{ℕ, zero, suc}
 use mathlib.Core.Bool.{Bool, true, false, _&&_, _||_, not}
 use mathlib.Core.List.{List, [], _∷_}
 use lib.Dec.{eqb, ltb}
 use lib.Bits.{bitOr}
 use Rattle.book.specs.Lists.{all, any, upTo}
+use Rattle.book.specs.Sets.{less}
 
 -- `upward` with at most `steps` steps
 unfoldable pub upwardIn : ℕ → (ℕ → ℕ) → ℕ → List ℕ
@@ -34,14 +35,15 @@ covers parent c excluded i = under parent c i && not (any (λ e. under parent e 
 unfoldable pub properDescendant : ℕ → (ℕ → ℕ) → ℕ → ℕ → Bool
 properDescendant count parent c x = ltb x count && (not (eqb x c) && under parent c x)
 
--- the operations that some category of a list owns
-unfoldable pub ownedBy : (ℕ → ℕ) → List ℕ → ℕ
-ownedBy own [] = 0
-ownedBy own (c ∷ cs) = bitOr (own c) (ownedBy own cs)
+-- what the first category of a way up supports: the next is its parent, and above the root there is none
+unfoldable pub supportAlong : (own withdrawn : ℕ → ℕ) → List ℕ → ℕ
+supportAlong own withdrawn [] = 0
+supportAlong own withdrawn (c ∷ above) = bitOr (less (supportAlong own withdrawn above) (withdrawn c)) (own c)
 
--- "The operations a category supports are its own and those its parent supports; the root has only its own."
-unfoldable pub support : (ℕ → ℕ) → (ℕ → ℕ) → ℕ → ℕ
-support parent own c = ownedBy own (upward parent c)
+-- "A category supports what its parent supports, less the withdrawn ones, plus its own" (N9); "the root has only its
+-- own"
+unfoldable pub support : (parent own withdrawn : ℕ → ℕ) → ℕ → ℕ
+support parent own withdrawn c = supportAlong own withdrawn (upward parent c)
 
 -- "it is below i, and 0 for category 0, the root"
 unfoldable pub parentHolds : (ℕ → ℕ) → ℕ → Bool

@@ -8,4 +8,5 @@ pub mod Tests
 pub mod Refusals
 pub mod Answers
 pub mod Shop
+pub mod Streets
 pub mod Inner

@@ -4,11 +4,12 @@ use mathlib.Core.Bool.{Bool, true, false, _&&_, _||_, not, cond}
 use mathlib.Core.List.{List, [], _∷_, _++_}
 use lib.ListN.{length, getD, take, drop}
 use lib.Dec.{eqb, ltb, leb}
+use lib.Bits.{bitAnd}
 use Rattle.book.specs.Lists.{all, flat, upTo}
 use Rattle.book.specs.Sets.{has}
 use Rattle.book.specs.Hierarchies.{parentHolds, properDescendant}
-use Rattle.book.specs.Head.{userCount, userParent, dataCount, dataParent, ownOperations, columnCount, label}
-use Rattle.book.specs.Head.{functionCount, operation, isDataLeaf, supports}
+use Rattle.book.specs.Head.{userCount, userParent, dataCount, categoryStart, dataParent, ownOperations}
+use Rattle.book.specs.Head.{withdrawnOperations, columnCount, label, functionCount, operation, isDataLeaf, supports}
 use Rattle.book.specs.Rule.{referenceCount, userCategory, excludedUserCount, excludedUsers, restrictionCount}
 use Rattle.book.specs.Rule.{dataCategory, action, exclusionCount, exclusions, restrictionMask, inLeafSet}
 use Rattle.book.specs.Blocks.{Book, Head, Block, Rule, blockAt, headOf, blockCount, checkHolds}
@@ -58,10 +59,10 @@ zeros bytes start end = all (λ x. eqb x 0) (take (end - start) (drop start byte
 unfoldable pub lengthHolds : ℕ → Bool
 lengthHolds n = eqb (n % 512) 0 && between 4 36 (n / 512)
 
--- 3: blocks 0 to 3 have kinds 1 to 4, the rules kind 5
+-- 3: blocks 0 to 3 have kinds 1 to 4, block 1 also kind 6, the rules kind 5
 unfoldable pub kindHolds : ℕ → ℕ → Bool
 kindHolds zero kind = eqb kind 1
-kindHolds (suc zero) kind = eqb kind 2
+kindHolds (suc zero) kind = eqb kind 2 || eqb kind 6
 kindHolds (suc (suc zero)) kind = eqb kind 3
 kindHolds (suc (suc (suc zero))) kind = eqb kind 4
 kindHolds (suc (suc (suc (suc r)))) kind = eqb kind 5
@@ -71,7 +72,7 @@ unfoldable pub usersCounted : Head → Bool
 usersCounted head = between 1 32 (userCount head) && zeros head (2 + userCount head) 510
 
 unfoldable pub dataCounted : Head → Bool
-dataCounted head = between 1 64 (dataCount head) && zeros head (514 + 3 * dataCount head) 1022
+dataCounted head = between 1 64 (dataCount head) && zeros head (categoryStart head (dataCount head)) 1022
 
 unfoldable pub columnsCounted : Head → Bool
 columnsCounted head = between 0 128 (columnCount head) && zeros head (1026 + columnCount head) 1534
@@ -106,10 +107,16 @@ ruleCounted rule = ruleCounts rule && ruleZeros rule
 unfoldable pub usersOrdered : Head → Bool
 usersOrdered head = all (parentHolds (userParent head)) (upTo (userCount head))
 
+-- the own-operation law, as N9 has it: "An operation in both masks, or bit 0 in either, is refusal 5."
+unfoldable pub ownHolds : Head → ℕ → Bool
+ownHolds head i =
+    not (has (ownOperations head i) 0)
+    && (not (has (withdrawnOperations head i) 0)
+    && eqb (bitAnd (ownOperations head i) (withdrawnOperations head i)) 0)
+
 unfoldable pub dataOrdered : Head → Bool
 dataOrdered head =
-    all (parentHolds (dataParent head)) (upTo (dataCount head))
-    && all (λ i. not (has (ownOperations head i) 0)) (upTo (dataCount head))
+    all (parentHolds (dataParent head)) (upTo (dataCount head)) && all (ownHolds head) (upTo (dataCount head))
 
 -- 6: "a label that is no leaf and not 255, or a function above 15"
 unfoldable pub labelHolds : Head → ℕ → Bool

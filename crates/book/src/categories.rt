@@ -5,6 +5,7 @@ use crate::bytes::smaller;
 use crate::fields::count;
 use crate::fields::own_operations;
 use crate::fields::parent;
+use crate::fields::withdrawn_operations;
 use crate::sets::below;
 use crate::sets::single;
 ghost use mathlib.Core.Path.{_≡_};
@@ -58,14 +59,16 @@ pub fn leaves(head: &[u8], which: Hierarchy) -> u64
     below(n) & !parents
 }
 
-// The mask of the operations that data category d supports: its own and those its parent supports.
+// The mask of the operations that data category d supports: what its parent supports, less what d
+// withdraws, and its own.
 pub fn support(head: &[u8], d: u8) -> u64
     ensures { λ r. ⌜ (r ≡ supportOf (now (head .entry)) d) × (r < 65536) ⌝ }
 {
     let own = own_operations(head, d);
     let p = parent(head, Hierarchy::Data, d);
     if p < d as usize {
-        return own | support(head, p as u8);
+        let withdrawn = withdrawn_operations(head, d);
+        return support(head, p as u8) & !withdrawn | own;
     }
     own
 }

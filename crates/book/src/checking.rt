@@ -37,10 +37,13 @@ pub enum Pass {
 fn kind_holds(i: u8, kind: usize) -> bool
     ensures { λ r. ⌜ r ≡ kindHolds i kind ⌝ }
 {
-    if i < 4 {
-        return kind == i as usize + 1;
+    match i {
+        0 => kind == 1,
+        1 => (kind == 2) | (kind == 6),
+        2 => kind == 3,
+        3 => kind == 4,
+        _ => kind == 5,
     }
-    kind == 5
 }
 
 // The tests 4 to 9 of block i.

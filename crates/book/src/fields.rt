@@ -10,7 +10,8 @@ use crate::bytes::saturating_sub;
 ghost use mathlib.Core.Path.{_≡_};
 ghost use Prim.Native.Nat.{_≤_, _<_};
 ghost use Rattle.book.specs.Blocks.{blockAt, headOf, ruleAt, ruleCount};
-ghost use Rattle.book.specs.Head.{columnCount, functionCount, label, operation, ownOperations};
+ghost use Rattle.book.specs.Head.{categoryStart, columnCount, functionCount, hasWithdrawn, label, operation};
+ghost use Rattle.book.specs.Head.{ownOperations, withdrawnOperations};
 ghost use Rattle.book.specs.Rule.{action, dataCategory, excludedUserCount, excludedUsers, exclusionCount};
 ghost use Rattle.book.specs.Rule.{exclusions, referenceCount, restrictionCount, restrictionMask, userCategory};
 ghost use Rattle.book.specs.Inner.Reading.{countIn, parentIn};
@@ -57,13 +58,30 @@ pub fn count(head: &[u8], which: Hierarchy) -> usize
     }
 }
 
+// Whether the data block has a withdrawn mask for each category: whether its kind is 6.
+fn has_withdrawn(head: &[u8]) -> bool
+    ensures { λ r. ⌜ r ≡ hasWithdrawn (now (head .entry)) ⌝ }
+{
+    byte_at(head, 512) == 6
+}
+
+// The one place that knows how many bytes a data category has: the first byte of category i.
+pub fn category_start(head: &[u8], i: u8) -> usize
+    ensures { λ r. ⌜ (r ≡ categoryStart (now (head .entry)) i) × (r ≤ 1789) ⌝ }
+{
+    let at = i as usize;
+    if has_withdrawn(head) {
+        return 514 + 5 * at;
+    }
+    514 + 3 * at
+}
+
 pub fn parent(head: &[u8], which: Hierarchy, i: u8) -> usize
     ensures { λ r. ⌜ (r ≡ parentIn which (now (head .entry)) i) × (r ≤ 255) ⌝ }
 {
-    let at = i as usize;
     match which {
-        Hierarchy::Users => byte_at(head, 2 + at),
-        Hierarchy::Data => byte_at(head, 514 + 3 * at),
+        Hierarchy::Users => byte_at(head, 2 + i as usize),
+        Hierarchy::Data => byte_at(head, category_start(head, i)),
     }
 }
 
@@ -71,8 +89,19 @@ pub fn parent(head: &[u8], which: Hierarchy, i: u8) -> usize
 pub fn own_operations(head: &[u8], i: u8) -> u64
     ensures { λ r. ⌜ (r ≡ ownOperations (now (head .entry)) i) × (r < 65536) ⌝ }
 {
-    let at = i as usize;
-    (256 * byte_at(head, 515 + 3 * at) + byte_at(head, 516 + 3 * at)) as u64
+    let at = category_start(head, i);
+    (256 * byte_at(head, at + 1) + byte_at(head, at + 2)) as u64
+}
+
+// The mask of the operations that a data category withdraws: none in a block of kind 2.
+pub fn withdrawn_operations(head: &[u8], i: u8) -> u64
+    ensures { λ r. ⌜ (r ≡ withdrawnOperations (now (head .entry)) i) × (r < 65536) ⌝ }
+{
+    if has_withdrawn(head) {
+        let at = category_start(head, i);
+        return (256 * byte_at(head, at + 3) + byte_at(head, at + 4)) as u64;
+    }
+    0
 }
 
 pub fn column_count(head: &[u8]) -> usize

@@ -4,6 +4,7 @@ use crate::Hierarchy;
 use crate::LABEL_OR_FUNCTION;
 use crate::PARENT_OR_OWN;
 use crate::Tested;
+use crate::fields::category_start;
 use crate::fields::column_count;
 use crate::fields::count;
 use crate::fields::function_count;
@@ -11,6 +12,7 @@ use crate::fields::label;
 use crate::fields::operation;
 use crate::fields::own_operations;
 use crate::fields::parent;
+use crate::fields::withdrawn_operations;
 use crate::sets::contains;
 use crate::testing::refused;
 use crate::testing::within;
@@ -23,7 +25,7 @@ ghost use Rattle.book.specs.Sets.{has};
 ghost use Rattle.book.specs.Hierarchies.{parentHolds};
 ghost use Rattle.book.specs.Tests.{firstFailing};
 ghost use Rattle.book.specs.Refusals.{columnsBlockTests, dataBlockTests, functionsBlockTests, functionsHold};
-ghost use Rattle.book.specs.Refusals.{labelsHold, usersBlockTests};
+ghost use Rattle.book.specs.Refusals.{labelsHold, ownHolds, usersBlockTests};
 ghost use Rattle.book.specs.Inner.Reading.{parentIn};
 ghost use Rattle.book.specs.Inner.Testing.{CountedWords, ownsHold, parentsHold};
 
@@ -48,14 +50,22 @@ fn parents_hold(head: &[u8], which: Hierarchy) -> bool
     ok
 }
 
-// Whether no category owns operation 0.
+// Whether neither mask of a category has operation 0, and no operation is in both.
+fn own_holds(head: &[u8], i: u8) -> bool
+    ensures { λ r. ⌜ r ≡ ownHolds (now (head .entry)) i ⌝ }
+{
+    let own = own_operations(head, i);
+    let withdrawn = withdrawn_operations(head, i);
+    (own % 2 == 0) & ((withdrawn % 2 == 0) & (own & withdrawn == 0))
+}
+
 fn owns_hold(head: &[u8]) -> bool
     ensures { λ r. ⌜ r ≡ ownsHold (now (head .entry)) ⌝ }
 {
     let n = count(head, Hierarchy::Data);
     let mut ok = true;
     for i in 0..n {
-        ok = ok & (own_operations(head, i as u8) % 2 == 0);
+        ok = ok & own_holds(head, i as u8);
     }
     ok
 }
@@ -77,7 +87,7 @@ pub fn test_data_block(head: &[u8]) -> Tested
     ensures { λ r. ⌜ r ≡ firstFailing (dataBlockTests (now (head .entry))) ⌝ }
 {
     let n = count(head, Hierarchy::Data);
-    if !(within(1, 64, n) & zeros(head, 514 + 3 * n, 1022)) {
+    if !(within(1, 64, n) & zeros(head, category_start(head, n as u8), 1022)) {
         return refused(COUNT_OR_ZERO, 1);
     }
     if !(parents_hold(head, Hierarchy::Data) & owns_hold(head)) {

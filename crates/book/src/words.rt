@@ -9,11 +9,12 @@ use crate::categories::descendants;
 use crate::categories::leaves;
 use crate::categories::supports;
 use crate::fields::count;
-use crate::fields::own_operations;
 use crate::sets::contains;
+use crate::sets::single;
 use crate::sets::word_at;
-ghost use Rattle.book.specs.Inner.Reading.{SetAdded, Supporting};
-ghost use Rattle.book.specs.Inner.Words.{CountOf, HeadWords, LeafWord, SupportWord, UnderWord};
+use crate::sets::word_if;
+ghost use Rattle.book.specs.Inner.Reading.{SetAdded};
+ghost use Rattle.book.specs.Inner.Words.{CountOf, HeadWords, LeafWord, SupportWord, SupportingWords, UnderWord};
 
 pub fn head_words(head: &[u8]) -> [u64; 196]
     ensures { λ r. ⌜ HeadWords (now (head .entry)) r ⌝ }
@@ -120,16 +121,16 @@ fn with_set(words: [u64; 16], set: u64, mask: u64) -> [u64; 16]
     next
 }
 
-// For each operation the data leaves that support it: those under a category that owns it.
-pub fn supporters(t: &[u64], head: &[u8]) -> [u64; 16]
-    ensures { λ r. ⌜ (HeadWords (now (head .entry)) (now (t .entry)) → Supporting (now (head .entry)) r) ⌝ }
+// For each operation the data leaves that support it.
+pub fn supporters(t: &[u64]) -> [u64; 16]
+    ensures { λ r. ⌜ SupportingWords (now (t .entry)) r ⌝ }
 {
     let leaves = data_leaves(t);
     let n = smaller(count_of(t, Hierarchy::Data), 64);
     let mut words = [0u64; 16];
     for c in 0..n {
-        let set = leaves & under_data(t, c);
-        let next = with_set(words, set, own_operations(head, c as u8));
+        let mask = word_if(contains(leaves, c), support_of(t, c));
+        let next = with_set(words, single(c), mask);
         words = next;
     }
     words

@@ -5,15 +5,15 @@ use mathlib.Core.Path.{_≡_, refl}
 use mathlib.Core.List.{List, [], _∷_, _++_, map, reverse}
 use lib.ListN.{replicate}
 use Rattle.book.specs.Lists.{flat, all, any, upTo, from, keep}
-use Rattle.book.specs.Sets.{has}
-use Rattle.book.specs.Hierarchies.{upwardIn, upward, under, leaf, covers, properDescendant, ownedBy, support}
+use Rattle.book.specs.Sets.{has, less}
+use Rattle.book.specs.Hierarchies.{upwardIn, upward, under, leaf, covers, properDescendant, supportAlong, support}
 use Rattle.book.specs.Hierarchies.{parentHolds}
-use Rattle.book.specs.Head.{isUser, isDataLeaf, supportOf, supports}
+use Rattle.book.specs.Head.{categoryStart, withdrawnOperations, isUser, isDataLeaf, supportOf, supports}
 use Rattle.book.specs.Rule.{actionOf, coversUser, inLeafSet}
 use Rattle.book.specs.Blocks.{weighted, checkSum, checkHolds}
 use Rattle.book.specs.Refusals.{between, zeros, lengthHolds, kindHolds, usersCounted, dataCounted, columnsCounted}
 use Rattle.book.specs.Refusals.{functionsCounted, ruleCounts, referenceEnd, ruleZeros, ruleCounted, usersOrdered}
-use Rattle.book.specs.Refusals.{dataOrdered, labelHolds, labelsHold, functionsHold, userNumbersHold}
+use Rattle.book.specs.Refusals.{ownHolds, dataOrdered, labelHolds, labelsHold, functionsHold, userNumbersHold}
 use Rattle.book.specs.Refusals.{namesAction, referenceHolds, numbersHold, leafSetsApart, referencesApart}
 use Rattle.book.specs.Refusals.{maskAllows, maskHolds, masksHold, lengthTests, checkTests, kindTests}
 use Rattle.book.specs.Refusals.{usersBlockTests, dataBlockTests, columnsBlockTests, functionsBlockTests}
@@ -87,17 +87,17 @@ pub shop-days :
       Refused (record { number = 28; place = 0 }) ∷ Admitted ∷ [],
     )
 unfolding days submissions million plan all any upTo from has upwardIn upward under leaf covers properDescendant
-    ownedBy support parentHolds isUser isDataLeaf supportOf supports coversUser inLeafSet weighted checkSum checkHolds
-    between zeros lengthHolds kindHolds usersCounted dataCounted columnsCounted functionsCounted ruleCounts
-    referenceEnd ruleZeros ruleCounted usersOrdered dataOrdered labelHolds labelsHold functionsHold userNumbersHold
-    namesAction referenceHolds numbersHold leafSetsApart referencesApart maskAllows maskHolds masksHold
-    usersBlockTests dataBlockTests columnsBlockTests functionsBlockTests ruleBlockTests blockTests checkTests
-    kindTests contentTests lengthTests blockByBlock bookTests sealTests firstFailing refusedOr answered withCheck
-    sealBytes padded block users categories columns functions rule rule0 rule1 rule2 shop kindOf kindAt isValue names
-    soundAs rowHolds planLengthHolds rowTests planTests appliedAs through pathsBy pathsIn paths labels takes counting
-    firstOperation operationOf carries reaches gives isAccess wordOf accessesOf flat keep everyAccess actionOf
-    actionFits channelFits fits fitting choicesFrom operations accepts refusesAll someChoiceRefused breaks brokenMask
-    userTests judgeTests accessWords heldBy union wordsOf heldFor joinedFor pairOf raisedFor ledgerTests countsHold
-    tallyTests submitTests joinedAccesses unionMask submitAnswer ledgerAfter submitLedger tallyAfter submitTally
-    replyTo next recordsAfter log
+    supportAlong support less categoryStart withdrawnOperations parentHolds isUser isDataLeaf supportOf supports
+    coversUser inLeafSet weighted checkSum checkHolds between zeros lengthHolds kindHolds usersCounted dataCounted
+    columnsCounted functionsCounted ruleCounts referenceEnd ruleZeros ruleCounted usersOrdered ownHolds dataOrdered
+    labelHolds labelsHold functionsHold userNumbersHold namesAction referenceHolds numbersHold leafSetsApart
+    referencesApart maskAllows maskHolds masksHold usersBlockTests dataBlockTests columnsBlockTests
+    functionsBlockTests ruleBlockTests blockTests checkTests kindTests contentTests lengthTests blockByBlock bookTests
+    sealTests firstFailing refusedOr answered withCheck sealBytes padded block users categories columns functions rule
+    rule0 rule1 rule2 shop kindOf kindAt isValue names soundAs rowHolds planLengthHolds rowTests planTests appliedAs
+    through pathsBy pathsIn paths labels takes counting firstOperation operationOf carries reaches gives isAccess
+    wordOf accessesOf flat keep everyAccess actionOf actionFits channelFits fits fitting choicesFrom operations
+    accepts refusesAll someChoiceRefused breaks brokenMask userTests judgeTests accessWords heldBy union wordsOf
+    heldFor joinedFor pairOf raisedFor ledgerTests countsHold tallyTests submitTests joinedAccesses unionMask
+    submitAnswer ledgerAfter submitLedger tallyAfter submitTally replyTo next recordsAfter log
 shop-days = refl

@@ -5,9 +5,9 @@ use mathlib.Core.Path.{_≡_, refl}
 use mathlib.Core.List.{List, [], _∷_, _++_, map}
 use lib.ListN.{getD, take, replicate}
 use Rattle.book.specs.Lists.{flat, any, keep, upTo, from}
-use Rattle.book.specs.Sets.{has}
-use Rattle.book.specs.Hierarchies.{upwardIn, upward, ownedBy, support}
-use Rattle.book.specs.Head.{supportOf, supports}
+use Rattle.book.specs.Sets.{has, less}
+use Rattle.book.specs.Hierarchies.{upwardIn, upward, supportAlong, support}
+use Rattle.book.specs.Head.{categoryStart, withdrawnOperations, supportOf, supports}
 use Rattle.book.specs.Blocks.{headOf, weighted, checkSum}
 use Rattle.book.specs.Tests.{firstFailing, refusedOr, answered}
 use Rattle.book.specs.Refusals.{sealTests}
@@ -169,18 +169,18 @@ mixing =
 
 pub shop-accesses :
     _≡_ {A = List (List Access)} (map (λ c. accesses (headOf shop) (c .0)) cases) (map (λ c. c .1) cases)
-unfolding plan triples keep accesses cases any upTo from has upwardIn upward ownedBy support supportOf supports
-    weighted checkSum withCheck sealBytes answered refusedOr sealTests firstFailing padded block users
-    categories columns functions shop kindOf kindAt appliedAs through pathsBy pathsIn paths labels takes
-    counting firstOperation operationOf carries reaches gives isAccess
+unfolding plan triples keep accesses cases any upTo from has upwardIn upward supportAlong support less
+    categoryStart withdrawnOperations supportOf supports weighted checkSum withCheck sealBytes answered refusedOr
+    sealTests firstFailing padded block users categories columns functions shop kindOf kindAt appliedAs through
+    pathsBy pathsIn paths labels takes counting firstOperation operationOf carries reaches gives isAccess
 shop-accesses = refl
 
 pub mixing-accesses :
     _≡_ {A = List (List Access)} (map (λ c. accesses (headOf shop) (c .0)) mixing) (map (λ c. c .1) mixing)
-unfolding plan triples keep accesses mixing any upTo from has upwardIn upward ownedBy support supportOf supports
-    weighted checkSum withCheck sealBytes answered refusedOr sealTests firstFailing padded block users
-    categories columns functions shop kindOf kindAt appliedAs through pathsBy pathsIn paths labels takes
-    counting firstOperation operationOf carries reaches gives isAccess
+unfolding plan triples keep accesses mixing any upTo from has upwardIn upward supportAlong support less
+    categoryStart withdrawnOperations supportOf supports weighted checkSum withCheck sealBytes answered refusedOr
+    sealTests firstFailing padded block users categories columns functions shop kindOf kindAt appliedAs through
+    pathsBy pathsIn paths labels takes counting firstOperation operationOf carries reaches gives isAccess
 mixing-accesses = refl
 
 -- an unsupported operation does not stop the count either: a fourth function, of operation 3, below avg
@@ -188,10 +188,10 @@ pub passed-over :
     _≡_ {A = List Access}
     (accesses (take 1536 shop ++ (4 ∷ 4 ∷ 0 ∷ 1 ∷ 2 ∷ 3 ∷ [])) (price ∷ apply 3 0 ∷ avg 1 ∷ output 2 ∷ []))
     ((0, 4, 1) ∷ [])
-unfolding plan triples keep accesses any upTo from has upwardIn upward ownedBy support supportOf supports
-    weighted checkSum withCheck sealBytes answered refusedOr sealTests firstFailing padded block users
-    categories columns functions shop kindOf kindAt appliedAs through pathsBy pathsIn paths labels takes
-    counting firstOperation operationOf carries reaches gives isAccess
+unfolding plan triples keep accesses any upTo from has upwardIn upward supportAlong support less categoryStart
+    withdrawnOperations supportOf supports weighted checkSum withCheck sealBytes answered refusedOr sealTests
+    firstFailing padded block users categories columns functions shop kindOf kindAt appliedAs through pathsBy pathsIn
+    paths labels takes counting firstOperation operationOf carries reaches gives isAccess
 passed-over = refl
 
 -- each of the cases' plans is accepted
@@ -199,18 +199,18 @@ pub shop-plans :
     _≡_ {A = List Tested}
     (map (λ c. firstFailing (planTests (headOf shop) (plan (c .0)))) cases)
     (map (λ c. Passed) cases)
-unfolding plan cases upTo from weighted checkSum withCheck sealBytes answered refusedOr sealTests firstFailing
-    padded block users categories columns functions shop kindOf kindAt isValue names soundAs rowHolds flat
-    planLengthHolds rowTests planTests
+unfolding plan cases upTo from weighted checkSum withCheck sealBytes answered refusedOr sealTests firstFailing padded
+    block users categories columns functions shop kindOf kindAt isValue names soundAs rowHolds flat planLengthHolds
+    rowTests planTests
 shop-plans = refl
 
 pub mixing-plans :
     _≡_ {A = List Tested}
     (map (λ c. firstFailing (planTests (headOf shop) (plan (c .0)))) mixing)
     (map (λ c. Passed) mixing)
-unfolding plan mixing upTo from weighted checkSum withCheck sealBytes answered refusedOr sealTests firstFailing
-    padded block users categories columns functions shop kindOf kindAt isValue names soundAs rowHolds flat
-    planLengthHolds rowTests planTests
+unfolding plan mixing upTo from weighted checkSum withCheck sealBytes answered refusedOr sealTests firstFailing padded
+    block users categories columns functions shop kindOf kindAt isValue names soundAs rowHolds flat planLengthHolds
+    rowTests planTests
 mixing-plans = refl
 
 -- bit d of word 16 × s + k: avg(Price) output, and Choose on sum(Price) between State and City output
@@ -219,8 +219,8 @@ pub shop-words :
     (accessWords (headOf shop)
     (plan (price ∷ avg 0 ∷ sum 0 ∷ state ∷ city ∷ choose 2 3 4 ∷ output 1 ∷ output 5 ∷ [])))
     (12 ∷ 16 ∷ (replicate 16 0 ++ (16 ∷ replicate 13 0)))
-unfolding plan any upTo from has upwardIn upward ownedBy support supportOf supports weighted checkSum withCheck
-    sealBytes answered refusedOr sealTests firstFailing padded block users categories columns functions shop
-    kindOf kindAt appliedAs through pathsBy pathsIn paths labels takes counting firstOperation operationOf
-    carries reaches gives isAccess wordOf accessWords
+unfolding plan any upTo from has upwardIn upward supportAlong support less categoryStart withdrawnOperations
+    supportOf supports weighted checkSum withCheck sealBytes answered refusedOr sealTests firstFailing padded block
+    users categories columns functions shop kindOf kindAt appliedAs through pathsBy pathsIn paths labels takes
+    counting firstOperation operationOf carries reaches gives isAccess wordOf accessWords
 shop-words = refl

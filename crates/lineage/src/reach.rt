@@ -159,7 +159,7 @@ pub fn fill_reach(table: &mut [u64], head: &[u8], t: &[u64], plan: &[u8], n: u8)
         → n ≤ 64 → now (table .entry) ≡ replicate 1088 0
         → Reached (now (head .entry)) (now (plan .entry)) n (now (table .exit))) ⌝ }
 {
-    let supporting = supporters(t, head);
+    let supporting = supporters(t);
     for i in 0..n {
         let row = row_reach(head, plan, supporting, table, i);
         store_row(table, i, row);

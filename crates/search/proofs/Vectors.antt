@@ -5,9 +5,9 @@ use mathlib.Core.Path.{_≡_, refl, _∙_}
 use mathlib.Core.List.{List, [], _∷_, _++_, map}
 use lib.ListN.{length, replicate}
 use Rattle.book.specs.Lists.{flat, all, any, upTo, from, keep}
-use Rattle.book.specs.Sets.{has}
-use Rattle.book.specs.Hierarchies.{upwardIn, upward, under, leaf, covers, ownedBy, support}
-use Rattle.book.specs.Head.{isUser, isDataLeaf, supportOf, supports}
+use Rattle.book.specs.Sets.{has, less}
+use Rattle.book.specs.Hierarchies.{upwardIn, upward, under, leaf, covers, supportAlong, support}
+use Rattle.book.specs.Head.{categoryStart, withdrawnOperations, isUser, isDataLeaf, supportOf, supports}
 use Rattle.book.specs.Rule.{actionOf, coversUser, inLeafSet}
 use Rattle.book.specs.Blocks.{headOf, weighted, checkSum}
 use Rattle.book.specs.Tests.{firstFailing, refusedOr, answered}
@@ -75,14 +75,15 @@ pub firsts-shown :
     _≡_ {A = List (First Candidate × First Candidate)}
     (map (λ c. (firstAlone (c .0) (c .1), firstInTurn (c .0) (c .1))) firsts)
     (map (λ c. (c .2, c .3)) firsts)
-unfolding firsts two averages prices all any upTo from has upwardIn upward under leaf covers ownedBy support isUser
-    isDataLeaf supportOf supports coversUser inLeafSet weighted checkSum withCheck sealBytes answered refusedOr
-    sealTests firstFailing padded block users categories columns functions rule rule0 rule1 rule2 shop kindOf kindAt
-    appliedAs through pathsBy pathsIn paths labels takes counting firstOperation operationOf carries reaches gives
-    isAccess accessesOf flat keep everyAccess actionOf actionFits channelFits fits fitting choicesFrom operations
-    accepts refusesAll someChoiceRefused breaks labelled operated canBeHad choicesOf weight choicesByWeight forUsers
-    candidates lowest columnFor functionFor columnRow applyRow lastRow rowsOf accessRows shownFrom shownPlan
-    breaksAlone planBreaksAlone candidateAlone firstIn firstAlone firstInTurn
+unfolding firsts two averages prices all any upTo from has upwardIn upward under leaf covers supportAlong support
+    less categoryStart withdrawnOperations isUser isDataLeaf supportOf supports coversUser inLeafSet weighted
+    checkSum withCheck sealBytes answered refusedOr sealTests firstFailing padded block users categories columns
+    functions rule rule0 rule1 rule2 shop kindOf kindAt appliedAs through pathsBy pathsIn paths labels takes counting
+    firstOperation operationOf carries reaches gives isAccess accessesOf flat keep everyAccess actionOf actionFits
+    channelFits fits fitting choicesFrom operations accepts refusesAll someChoiceRefused breaks labelled operated
+    canBeHad choicesOf weight choicesByWeight forUsers candidates lowest columnFor functionFor columnRow applyRow
+    lastRow rowsOf accessRows shownFrom shownPlan breaksAlone planBreaksAlone candidateAlone firstIn firstAlone
+    firstInTurn
 firsts-shown = refl
 
 -- n bytes to be written over
@@ -133,14 +134,15 @@ shop-outcomes :
     _≡_ {A = List (Idleness × List ℕ)}
     (map (λ c. outcome shop (c .0) (ones (c .1))) cases)
     (map (λ c. (c .2, c .3 ++ ones (c .1 - length (c .3)))) cases)
-unfolding cases all any upTo from has upwardIn upward under leaf covers ownedBy support isUser isDataLeaf supportOf
-    supports coversUser inLeafSet weighted checkSum withCheck sealBytes answered refusedOr sealTests firstFailing
-    padded block users categories columns functions rule rule0 rule1 rule2 shop kindOf kindAt appliedAs through
-    pathsBy pathsIn paths labels takes counting firstOperation operationOf carries reaches gives isAccess accessesOf
-    flat keep everyAccess actionOf actionFits channelFits fits fitting choicesFrom operations accepts refusesAll
-    someChoiceRefused breaks labelled operated canBeHad choicesOf weight choicesByWeight forUsers candidates lowest
-    columnFor functionFor columnRow applyRow lastRow rowsOf accessRows shownFrom shownPlan breaksAlone
-    planBreaksAlone candidateAlone firstIn firstAlone ruleTests bufferTests idlenessOf written outcome
+unfolding cases all any upTo from has upwardIn upward under leaf covers supportAlong support less categoryStart
+    withdrawnOperations isUser isDataLeaf supportOf supports coversUser inLeafSet weighted checkSum withCheck
+    sealBytes answered refusedOr sealTests firstFailing padded block users categories columns functions rule rule0
+    rule1 rule2 shop kindOf kindAt appliedAs through pathsBy pathsIn paths labels takes counting firstOperation
+    operationOf carries reaches gives isAccess accessesOf flat keep everyAccess actionOf actionFits channelFits fits
+    fitting choicesFrom operations accepts refusesAll someChoiceRefused breaks labelled operated canBeHad choicesOf
+    weight choicesByWeight forUsers candidates lowest columnFor functionFor columnRow applyRow lastRow rowsOf
+    accessRows shownFrom shownPlan breaksAlone planBreaksAlone candidateAlone firstIn firstAlone ruleTests bufferTests
+    idlenessOf written outcome
 shop-outcomes = refl
 
 -- what Idle answers, and the buffer on leaving: the written bytes, then the rest unchanged

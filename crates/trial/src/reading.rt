@@ -24,7 +24,7 @@ fn value(reader: u32, asked: u32, head: &[u8], rule: &[u8]) -> u64 {
         1 => users(&words),
         2 => data_leaves(&words),
         3 => support(head, i),
-        4 => supporting(supporters(&words, head), asked),
+        4 => supporting(supporters(&words), asked),
         5 => covered_users(&words, rule),
         _ => leaf_set(&words, rule, i),
     }

@@ -5,10 +5,12 @@
 pub mod actions;
 pub mod alike;
 pub mod answer;
+pub mod categories;
 pub mod closed;
 pub mod compare;
 pub mod culprits;
 pub mod engine;
+pub mod kinds;
 pub mod mixing;
 pub mod reached;
 pub mod run;
@@ -17,6 +19,7 @@ pub mod submit_counts;
 pub mod text;
 pub mod tree;
 pub mod tree_counts;
+pub mod withdrawn_counts;
 
 pub use compare::Difference;
 pub use engine::Engine;

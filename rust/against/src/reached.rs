@@ -6,6 +6,7 @@ use crate::engine::unpacked;
 use crate::mixing::{self, MISREADINGS};
 use crate::submit_counts::SubmitCounts;
 use crate::tree_counts::TreeCounts;
+use crate::withdrawn_counts::WithdrawnCounts;
 use books::draft::BLOCK;
 use books::Case;
 use second::access::Access;
@@ -77,6 +78,8 @@ pub struct Reached {
     pub submissions: SubmitCounts,
     /// What was reached of Tree.
     pub trees: TreeCounts,
+    /// What was reached of withdrawn operations.
+    pub withdrawn: WithdrawnCounts,
     /// Searches that were given up.
     pub given_up: u64,
 }
@@ -93,7 +96,8 @@ impl Reached {
     /// Counts a case and the answer to it.
     pub fn count(&mut self, case: &Case, answer: Answer) {
         self.cases += 1;
-        *self.calls.entry(call(case)).or_default() += 1;
+        *self.calls.entry(case.call()).or_default() += 1;
+        self.withdrawn.count(case, answer);
         match case {
             Case::Submit(given) => self.submissions.count(given, answer),
             Case::Tree(given) => self.trees.count(given, answer),
@@ -101,7 +105,7 @@ impl Reached {
         }
         match answer {
             Answer::Refused(refusal) => {
-                let of = (call(case), refusal.number);
+                let of = (case.call(), refusal.number);
                 *self.refusals.entry(of).or_default() += 1;
             }
             Answer::Needed(user, rows) => self.count_needed(case, user, rows),
@@ -244,20 +248,6 @@ fn count_each(counts: &mut [u64; 6], holds: Option<[bool; 6]>) {
     each.for_each(|(n, holds)| *n += u64::from(holds));
 }
 
-fn call(case: &Case) -> &'static str {
-    match case {
-        Case::Check { .. } => "check",
-        Case::Seal { .. } => "seal",
-        Case::Flows { .. } => "flows",
-        Case::Judge { .. } => "judge",
-        Case::Idle { .. } => "idle",
-        Case::Blocked { .. } => "blocked",
-        Case::Culprits { .. } => "culprits",
-        Case::Submit(_) => "submit",
-        Case::Tree(_) => "tree",
-    }
-}
-
 /// Choices for a user above which document 01's order is not gone through.
 const TRIED: u128 = 20_000;
 
@@ -360,6 +350,7 @@ impl fmt::Display for Reached {
         writeln!(f, "; {} searches given up", self.given_up)?;
         writeln!(f, "{}", self.by_others())?;
         writeln!(f, "{}", self.submissions)?;
-        write!(f, "{}", self.trees)
+        writeln!(f, "{}", self.trees)?;
+        write!(f, "{}", self.withdrawn)
     }
 }

@@ -6,6 +6,7 @@ use crate::closed::try_closed;
 use crate::compare::{try_one, wrong, Difference};
 use crate::culprits::try_causes;
 use crate::engine::Engine;
+use crate::kinds::try_kinds;
 use crate::reached::Reached;
 use crate::submissions::try_submission;
 use crate::tree::try_tree;
@@ -54,13 +55,15 @@ pub fn run(
 
 /// Compares a case. Then what Idle shows is judged, and what Blocked says is closed; what Culprits says is
 /// held against both Blocked and Judge; a rule that a plan breaks alone is asked for; a submission is gone
-/// through by its sentences; and the text of a tree is read back.
+/// through by its sentences; and the text of a tree is read back. Books that say the same otherwise are
+/// answered alike.
 pub fn try_case(
     engines: [&dyn Engine; 2],
     case: &Case,
     reached: &mut Reached,
 ) -> Result<(), Box<Difference>> {
     let answer = try_one(engines, case, reached)?;
+    try_kinds(engines, case, reached)?;
     match (case, answer) {
         (Case::Idle { .. }, Answer::Needed(user, rows)) => {
             try_shown(engines, case, user, rows, reached)

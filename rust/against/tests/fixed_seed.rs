@@ -32,7 +32,9 @@ fn often(reached: &Reached) -> Vec<u64> {
         reached.submissions_misread,
     ];
     let [submissions, trees] = [&reached.submissions.often()[..], &reached.trees.often()];
-    [&singly, for_each_part.as_flattened(), submissions, trees].concat()
+    let withdrawn = &reached.withdrawn.often();
+    let parts = for_each_part.as_flattened();
+    [&singly, parts, submissions, trees, withdrawn].concat()
 }
 
 #[test]

@@ -125,14 +125,16 @@ fn named_books() {
     for (_, draft, _) in named::all() {
         cases(&draft).iter().for_each(assert_alike);
     }
-    let chain = named::chain();
-    cases(&chain).iter().for_each(assert_alike);
-    for draft in [
-        named::small_shop(),
-        named::middling(),
-        named::largest(),
-        chain,
-    ] {
+    let deep = [
+        named::chain(),
+        named::withdrawing_chain(),
+        named::withdrawing_flat(),
+    ];
+    deep.iter()
+        .flat_map(cases)
+        .for_each(|case| assert_alike(&case));
+    let others = [named::small_shop(), named::middling(), named::largest()];
+    for draft in others.into_iter().chain(deep) {
         for rule in 0..draft.rules.len() as u32 {
             assert_alike(&idle(&draft, rule));
             assert_alike(&blocked(&draft, rule));

@@ -1,6 +1,7 @@
 //! Calls with all that they are given, and rounds of them about one book.
 
 use crate::change;
+use crate::change_withdrawn;
 use crate::draft::{Draft, BLOCK};
 use crate::numbers;
 use crate::plans;
@@ -69,6 +70,56 @@ pub enum Case {
     Tree(Tree),
 }
 
+impl Case {
+    /// The name of the call.
+    pub fn call(&self) -> &'static str {
+        match self {
+            Case::Check { .. } => "check",
+            Case::Seal { .. } => "seal",
+            Case::Flows { .. } => "flows",
+            Case::Judge { .. } => "judge",
+            Case::Idle { .. } => "idle",
+            Case::Blocked { .. } => "blocked",
+            Case::Culprits { .. } => "culprits",
+            Case::Submit(_) => "submit",
+            Case::Tree(_) => "tree",
+        }
+    }
+
+    /// The book that the call is given; Seal has none.
+    pub fn book(&self) -> Option<&[u8]> {
+        match self {
+            Case::Seal { .. } => None,
+            Case::Check { book }
+            | Case::Flows { book, .. }
+            | Case::Judge { book, .. }
+            | Case::Idle { book, .. }
+            | Case::Blocked { book, .. }
+            | Case::Culprits { book, .. } => Some(book),
+            Case::Submit(given) => Some(&given.book),
+            Case::Tree(given) => Some(&given.book),
+        }
+    }
+
+    /// The same call with another book.
+    pub fn with_book(&self, other: Vec<u8>) -> Option<Case> {
+        let mut case = self.clone();
+        let book = match &mut case {
+            Case::Seal { .. } => return None,
+            Case::Check { book }
+            | Case::Flows { book, .. }
+            | Case::Judge { book, .. }
+            | Case::Idle { book, .. }
+            | Case::Blocked { book, .. }
+            | Case::Culprits { book, .. } => book,
+            Case::Submit(given) => &mut given.book,
+            Case::Tree(given) => &mut given.book,
+        };
+        *book = other;
+        Some(case)
+    }
+}
+
 impl From<Submit> for Case {
     fn from(given: Submit) -> Case {
         Case::Submit(Box::new(given))
@@ -97,6 +148,7 @@ pub fn round(random: &mut Random, size: Size) -> Vec<Case> {
     }
     cases.extend(closed(random, &draft, &book));
     cases.extend(trees(random, &draft, &book));
+    cases.extend(changed(random, &draft));
     cases
 }
 
@@ -211,6 +263,18 @@ fn trees(random: &Random, draft: &Draft, book: &[u8]) -> Vec<Case> {
     let count = if book == draft.bytes() { 4 } else { 1 };
     let tree = |_| Case::Tree(trees::any(&mut own, draft, book));
     (0..count).map(tree).collect()
+}
+
+/// Seal of block 1, and Check of the same book with changes that withdrawn operations brought: more of them
+/// than a round has, as there are many, and one call is enough. They have a generator of their own, so that
+/// the other calls of a seed don't depend on them.
+fn changed(random: &Random, draft: &Draft) -> Vec<Case> {
+    let mut own = Random::new(random.clone().bits());
+    let mut block = draft.bytes()[BLOCK..2 * BLOCK].to_vec();
+    block[510..].copy_from_slice(&own.bytes(2));
+    let books = (0..3).filter_map(|_| change_withdrawn::any(&mut own, draft));
+    let checks = books.map(|book| Case::Check { book });
+    [Case::Seal { block }].into_iter().chain(checks).collect()
 }
 
 /// The size of the next round's book: mostly small, as most faults show on small books.

@@ -1,11 +1,20 @@
 //! Sound books with one thing changed, aimed at a refusal.
 
+use crate::change_withdrawn;
 use crate::draft::{below, check_of, leaves, seal, seal_all, Draft, BLOCK};
 use crate::random::Random;
 
 /// A book with one change, aimed at refusal 1 to 9; it may be accepted all the same. Blocks are
-/// sealed again where the change is not the check itself.
+/// sealed again where the change is not the check itself. What withdrawn operations brought has a generator
+/// of its own, so that the other changes of a seed don't depend on it.
 pub fn aimed(random: &mut Random, draft: &Draft, refusal: u32) -> Vec<u8> {
+    let mut own = Random::new(random.clone().bits());
+    let book = usual(random, draft, refusal);
+    change_withdrawn::aimed(&mut own, draft, refusal).unwrap_or(book)
+}
+
+/// A book with one change of those that either kind of block 1 can have.
+fn usual(random: &mut Random, draft: &Draft, refusal: u32) -> Vec<u8> {
     let mut book = draft.bytes();
     match refusal {
         1 => length(random, &mut book),
@@ -130,7 +139,7 @@ fn count(random: &mut Random, draft: &Draft, block: usize) -> (usize, u8) {
 fn parent_or_own(random: &mut Random, book: &mut [u8], draft: &Draft) {
     let user = random.below(draft.users.len());
     let category = random.below(draft.data.len());
-    let own = BLOCK + 2 + 3 * category;
+    let own = BLOCK + 2 + draft.width() * category;
     match random.below(6) {
         0 => book[2] = random.between(1, 255) as u8,
         1 => book[BLOCK + 2] = random.between(1, 255) as u8,

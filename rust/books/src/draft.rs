@@ -19,6 +19,8 @@ pub struct Draft {
     pub users: Vec<u8>,
     /// The parent and the own operations of each data category.
     pub data: Vec<(u8, u16)>,
+    /// What each data category withdraws, for a block 1 of kind 6; none for kind 2.
+    pub withdrawn: Option<Vec<u16>>,
     /// The label of each column.
     pub columns: Vec<u8>,
     /// The operation of each function.
@@ -63,19 +65,44 @@ pub(crate) fn reference(category: u8, action: u8) -> Reference {
 impl Draft {
     /// The book as sealed bytes.
     pub fn bytes(&self) -> Vec<u8> {
-        let mut data = Vec::new();
-        for &(parent, own) in &self.data {
-            data.push(parent);
-            data.extend(own.to_be_bytes());
-        }
         let mut book = block(1, self.users.len(), &self.users);
-        book.extend(block(2, self.data.len(), &data));
+        book.extend(self.data_block());
         book.extend(block(3, self.columns.len(), &self.columns));
         book.extend(block(4, self.functions.len(), &self.functions));
         for rule in &self.rules {
             book.extend(rule.block());
         }
         book
+    }
+
+    /// Block 1, of kind 2 or 6.
+    fn data_block(&self) -> Vec<u8> {
+        let mut fields = Vec::new();
+        for (i, (parent, own)) in self.data.iter().enumerate() {
+            fields.push(*parent);
+            fields.extend(own.to_be_bytes());
+            let withdrawn = self
+                .withdrawn
+                .iter()
+                .flat_map(|masks| masks[i].to_be_bytes());
+            fields.extend(withdrawn);
+        }
+        let kind = if self.withdrawn.is_some() { 6 } else { 2 };
+        block(kind, self.data.len(), &fields)
+    }
+
+    /// The bytes that block 1 has for a category.
+    pub fn width(&self) -> usize {
+        match self.withdrawn {
+            Some(_) => 5,
+            None => 3,
+        }
+    }
+
+    /// The operations that a data category withdraws.
+    pub fn withdrawn_by(&self, category: u8) -> u16 {
+        let masks = self.withdrawn.as_ref();
+        masks.map_or(0, |masks| masks[usize::from(category)])
     }
 
     /// The parent of each data category.
@@ -88,7 +115,17 @@ impl Draft {
         let (parent, own) = self.data[usize::from(category)];
         match category {
             0 => own,
-            _ => own | self.supported(parent),
+            _ => own | self.supported(parent) & !self.withdrawn_by(category),
+        }
+    }
+
+    /// The operations that a data category would support if nothing were withdrawn: its own and those of the
+    /// categories above it.
+    pub fn owned_above(&self, category: u8) -> u16 {
+        let (parent, own) = self.data[usize::from(category)];
+        match category {
+            0 => own,
+            _ => own | self.owned_above(parent),
         }
     }
 
@@ -206,5 +243,27 @@ mod tests {
         assert_eq!(leaves(&[0]), [0]);
         assert_eq!(below(&parents, 1), [2, 3]);
         assert!(under(&parents, 3, 0) && !under(&parents, 4, 1));
+    }
+
+    /// A root that owns 1 and 8 and withdraws 2, a category that withdraws 8 and 3, which its parent does
+    /// not have, and one below it that owns 8 again.
+    #[test]
+    fn withdrawn_operations() {
+        let mut draft = Draft {
+            data: vec![(0, 0x0102), (0, 0), (1, 0x0100)],
+            withdrawn: Some(vec![0x0004, 0x0108, 0]),
+            ..Draft::default()
+        };
+        assert_eq!([0, 1, 2].map(|c| draft.supported(c)), [0x0102, 2, 0x0102]);
+        assert_eq!([0, 1, 2].map(|c| draft.owned_above(c)), [0x0102; 3]);
+        let block = &draft.bytes()[BLOCK..2 * BLOCK];
+        let categories = [0, 1, 2, 0, 4, 0, 0, 0, 1, 8, 1, 1, 0, 0, 0];
+        assert_eq!(block[..2], [6, 3]);
+        assert_eq!(block[2..17], categories);
+        assert!(block[17..510].iter().all(|&byte| byte == 0));
+        draft.withdrawn = None;
+        assert_eq!([0, 1, 2].map(|c| draft.supported(c)), [0x0102; 3]);
+        let block = &draft.bytes()[BLOCK..2 * BLOCK];
+        assert_eq!(block[..11], [2, 3, 0, 1, 2, 0, 0, 0, 1, 1, 0]);
     }
 }

@@ -11,9 +11,11 @@
 #![forbid(unsafe_code)]
 #![warn(missing_docs)]
 
+pub mod addresses;
 pub mod blocked;
 pub mod case;
 pub mod change;
+pub mod change_withdrawn;
 pub mod culprits;
 pub mod draft;
 pub mod named;
@@ -26,6 +28,7 @@ pub mod shop;
 pub mod submissions;
 pub mod trees;
 pub mod valid;
+pub mod withdrawn;
 
 pub use case::Case;
 pub use draft::Draft;

@@ -13,6 +13,7 @@ pub fn small_shop() -> Draft {
     Draft {
         users: vec![0, 0, 0],
         data: vec![(0, 0), (0, 0), (ADDRESS, 0), (ADDRESS, 0), (0, AVG | SUM)],
+        withdrawn: None,
         columns: vec![STATE, CITY, PRICE, 255],
         functions: vec![0, 1, 2],
         rules: vec![
@@ -37,6 +38,7 @@ pub fn middling() -> Draft {
     let mut draft = Draft {
         users: [0, 0, 0].into_iter().chain([1, 2].repeat(4)).collect(),
         data: grouped(5, 6, 0b11_1110),
+        withdrawn: None,
         columns: (6..36).chain(6..16).collect(),
         functions: vec![0, 1, 2, 3, 4, 5],
         rules: vec![],
@@ -60,6 +62,7 @@ pub fn largest() -> Draft {
     let mut draft = Draft {
         users: flat(32),
         data: grouped(3, 20, ALL),
+        withdrawn: None,
         columns: (4..64).chain([255; 8]).chain(4..64).collect(),
         functions: (0..64).map(|i| i % 16).collect(),
         rules: vec![],
@@ -85,9 +88,63 @@ pub fn chain() -> Draft {
         users: flat(32),
         rules: (0..32).map(rule).collect(),
         data: [(0, ALL)].into_iter().chain((0..63).map(child)).collect(),
+        withdrawn: None,
         columns: vec![63; 128],
         functions: (0..64).map(|i| i % 16).collect(),
     }
+}
+
+/// A chain of 64 data categories that withdraw and give back in turn: one half of the operations is owned by
+/// every second category and withdrawn by the others, and so is the other half the other way round.
+pub fn withdrawing_chain() -> Draft {
+    let halves = [0x5554, 0xAAAA];
+    let mut draft = chain();
+    for (i, (_, own)) in draft.data.iter_mut().enumerate() {
+        *own = halves[i % 2];
+    }
+    draft.withdrawn = Some([halves[1], halves[0]].repeat(32));
+    draft.rules = supported_masks(&draft);
+    draft
+}
+
+/// A root that owns all operations, and 63 leaves that each withdraw another one of them, in turn.
+pub fn withdrawing_flat() -> Draft {
+    let mut random = Random::new(65);
+    let leaf = |i: u8| 1 << (1 + i % 15);
+    let mut draft = Draft {
+        users: flat(32),
+        data: [(0, ALL)].into_iter().chain([(0, 0); 63]).collect(),
+        withdrawn: Some([0].into_iter().chain((1..64).map(leaf)).collect()),
+        columns: (1..64).collect(),
+        functions: (0..64).map(|i| i % 16).collect(),
+        rules: vec![],
+    };
+    for i in 0..32 {
+        let references = [0, 2 * i].map(|category| reference(category, ACCESS));
+        let of = usize::from(i % 2);
+        draft.rules.push(Rule {
+            user: 0,
+            excluded: vec![],
+            references: references[of..=of].to_vec(),
+            restrictions: restrictions(&mut random, 8, 1, ALL),
+        });
+    }
+    draft.rules = supported_masks(&draft);
+    draft
+}
+
+/// The rules of a draft, of one reference each, with masks that name supported operations alone.
+fn supported_masks(draft: &Draft) -> Vec<Rule> {
+    let supported = |rule: &Rule| draft.supported(rule.references[0].category);
+    let mut rules = draft.rules.clone();
+    for rule in &mut rules {
+        let supported = supported(rule);
+        rule.restrictions
+            .iter_mut()
+            .for_each(|masks| masks[0] &= supported);
+        rule.restrictions.retain(|masks| masks[0] != 0);
+    }
+    rules
 }
 
 /// Where a rule's twin stands.
@@ -178,6 +235,7 @@ pub(crate) fn hard_head() -> Draft {
     Draft {
         users: flat(32),
         data: grouped(3, 20, ALL),
+        withdrawn: None,
         columns: (4..64).collect(),
         functions: (1..16).collect(),
         rules: vec![],
@@ -258,6 +316,7 @@ pub fn accepting() -> Draft {
     Draft {
         users: vec![0],
         data: vec![(0, ten), (0, 0), (0, 0), (0, 0)],
+        withdrawn: None,
         columns: vec![1, 2, 3],
         functions: (1..=10).collect(),
         rules: vec![rule; 32],

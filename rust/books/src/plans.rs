@@ -187,14 +187,17 @@ impl Plan {
     }
 }
 
-/// A function of a book that has some, mostly one whose operation the label supports.
+/// A function of a book that has some, mostly one whose operation the label supports, or would support if
+/// nothing were withdrawn.
 fn function(random: &mut Random, draft: &Draft, label: u8) -> u8 {
     let any = random.below(draft.functions.len()) as u8;
+    let owned = match label {
+        255 => 0,
+        leaf => draft.owned_above(leaf),
+    };
     match random.below(4) {
         0 => any,
-        _ => random
-            .pick(&supported_functions(draft, label))
-            .unwrap_or(any),
+        _ => random.pick(&functions_of(draft, owned)).unwrap_or(any),
     }
 }
 
@@ -204,6 +207,11 @@ pub(crate) fn supported_functions(draft: &Draft, label: u8) -> Vec<u8> {
         255 => 0,
         leaf => draft.supported(leaf),
     };
+    functions_of(draft, supported)
+}
+
+/// The functions whose operation is in a mask.
+fn functions_of(draft: &Draft, supported: u16) -> Vec<u8> {
     (0..draft.functions.len() as u8)
         .filter(|&f| supported >> draft.functions[usize::from(f)] & 1 == 1)
         .collect()

@@ -73,7 +73,7 @@ fn looser(random: &mut Random, draft: &Draft, rule: &Rule) -> Rule {
     new
 }
 
-/// A reference goes down to a lower category, which supports no less.
+/// A reference goes down to a lower category.
 fn narrower(random: &mut Random, draft: &Draft, rule: &Rule) -> Rule {
     let place = random.below(rule.references.len());
     let lower = below(&draft.parents(), rule.references[place].category);
@@ -83,7 +83,8 @@ fn narrower(random: &mut Random, draft: &Draft, rule: &Rule) -> Rule {
     }
 }
 
-/// A reference goes to a category below, with those of its exclusions that are still below.
+/// A reference goes to a category below, with those of its exclusions that are still below, and its masks
+/// with those operations that are not withdrawn there.
 fn with_category(draft: &Draft, rule: &Rule, place: usize, category: u8) -> Rule {
     let mut new = rule.clone();
     let lower = below(&draft.parents(), category);
@@ -94,10 +95,22 @@ fn with_category(draft: &Draft, rule: &Rule, place: usize, category: u8) -> Rule
     // A category inside an exclusion would bring back leaves that the rule left out.
     let sound = draft.leaves_of(reference).is_subset(&leaves);
     if sound {
-        new
+        supported_alone(draft, new, place)
     } else {
         rule.clone()
     }
+}
+
+/// The rule whose masks for a reference name only operations that its category supports. Where none is
+/// left, the restriction goes, as an empty mask would accept everything.
+fn supported_alone(draft: &Draft, mut rule: Rule, place: usize) -> Rule {
+    let supported = draft.supported(rule.references[place].category);
+    rule.restrictions.retain_mut(|masks| {
+        let asked = masks[place] != 0;
+        masks[place] &= supported;
+        masks[place] != 0 || !asked
+    });
+    rule
 }
 
 fn fewer_references(random: &mut Random, rule: &Rule) -> Rule {
@@ -233,10 +246,11 @@ fn asking(rule: &Rule, place: usize, operations: u16) -> Rule {
     }
 }
 
-/// Up to four rules that close the rule's data together and not without one of them, and the rule made
-/// to take all that they take: what can be had of a reference is dealt out in shares, and each takes all
-/// but one share. Where nothing can be had of it, or it supports one operation only, there are none. There
-/// may be a twin, so that either would do, or rules for some users in place of one.
+/// Up to four rules that close the rule's data together and, where no leaf has an operation withdrawn, not
+/// without one of them, and the rule made to take all that they take: what can be had of a reference is
+/// dealt out in shares, and each takes all but one share. Where nothing can be had of it, or it supports one
+/// operation only, there are none. There may be a twin, so that either would do, or rules for some users in
+/// place of one.
 pub fn closed_together(random: &mut Random, draft: &Draft, rule: &Rule) -> Vec<Rule> {
     let supported = |place: &usize| draft.supported(rule.references[*place].category);
     let had = had(draft);

@@ -3,6 +3,7 @@
 use crate::draft::{below, leaves, under, Draft, Reference, Rule, ACCESS, CONDITION, PROJECTION};
 use crate::random::Random;
 use crate::relatives;
+use crate::withdrawn;
 
 /// How large a book may be.
 #[derive(Clone, Copy, Debug, PartialEq, Eq)]
@@ -53,6 +54,7 @@ pub fn draft(random: &mut Random, size: Size) -> Draft {
         data: data(random, bounds.data, &alphabet),
         ..Draft::default()
     };
+    draft.withdrawn = withdrawn::some(random, &draft.data, &alphabet);
     draft.columns = columns(random, &draft, bounds.columns);
     draft.functions = functions(random, &alphabet, bounds.functions);
     draft.rules = rules(random, &draft, bounds.rules);
@@ -132,7 +134,7 @@ fn functions(random: &mut Random, alphabet: &[u8], most: usize) -> Vec<u8> {
 
 /// Rules of their own, and relatives of rules before: so that many are idle, some only by two
 /// others together, many have data that stay closed, by one rule or by several together, and some are
-/// broken alone by raw data only late in the order.
+/// broken alone by raw data only late in the order. Where operations are withdrawn, some ask for these.
 fn rules(random: &mut Random, draft: &Draft, most: usize) -> Vec<Rule> {
     let mut n = up_to(random, 0, most);
     let mut rules: Vec<Rule> = Vec::new();
@@ -157,6 +159,18 @@ fn rules(random: &mut Random, draft: &Draft, most: usize) -> Vec<Rule> {
         // What belongs together stays together where there is room.
         n = n.max(rules.len()).min(most);
     }
+    if draft.withdrawn.is_some() && random.chance(1, 2) {
+        rules.extend(withdrawn::rules(random, draft));
+        n = n.max(rules.len()).min(most);
+    }
+    fill(random, draft, &mut rules, n);
+    random.shuffle(&mut rules);
+    rules.truncate(n);
+    rules
+}
+
+/// Adds rules of their own, and relatives of those before, until there are so many.
+fn fill(random: &mut Random, draft: &Draft, rules: &mut Vec<Rule>, n: usize) {
     while rules.len() < n {
         if rules.is_empty() || random.chance(1, 2) {
             rules.push(rule(random, draft));
@@ -165,9 +179,6 @@ fn rules(random: &mut Random, draft: &Draft, most: usize) -> Vec<Rule> {
             rules.extend(relatives::some(random, draft, &of));
         }
     }
-    random.shuffle(&mut rules);
-    rules.truncate(n);
-    rules
 }
 
 /// A rule of its own.
@@ -266,5 +277,80 @@ fn reference(random: &mut Random, draft: &Draft, earlier: &[Reference]) -> Refer
         category,
         action: random.one(&[PROJECTION, CONDITION, ACCESS, ACCESS]),
         excluded,
+    }
+}
+
+#[cfg(test)]
+mod tests {
+    use super::*;
+
+    /// How many books have a category of which something holds, by its number, its own mask and what it
+    /// withdraws.
+    fn count(of: &[&Draft], holds: impl Fn(usize, u16, u16) -> bool) -> usize {
+        let each = of.iter().filter(|draft| {
+            let own = draft.data.iter().map(|(_, own)| *own);
+            let mut all = own.zip(draft.withdrawn.iter().flatten()).enumerate();
+            all.any(|(i, (own, withdrawn))| holds(i, own, *withdrawn))
+        });
+        each.count()
+    }
+
+    #[test]
+    fn a_third_of_the_books() {
+        let mut random = Random::new(21);
+        let drafts: Vec<Draft> = (0..1_200)
+            .map(|_| draft(&mut random, Size::Small))
+            .collect();
+        let kind_6 = drafts.iter().filter(|draft| draft.withdrawn.is_some());
+        let kind_6: Vec<&Draft> = kind_6.collect();
+        assert!((300..500).contains(&kind_6.len()), "{}", kind_6.len());
+        let something = count(&kind_6, |_, _, mask| mask != 0);
+        let nothing = kind_6.len() - something;
+        assert!(something > 200 && nothing > 40, "{something} {nothing}");
+        assert!(count(&kind_6, |i, _, mask| i == 0 && mask != 0) > 20);
+        assert_eq!(count(&kind_6, |_, own, mask| own & mask != 0), 0);
+        assert_eq!(count(&kind_6, |_, _, mask| mask & 1 != 0), 0);
+    }
+
+    /// What a parent supports, and what it does not.
+    #[test]
+    fn what_is_withdrawn() {
+        let mut random = Random::new(22);
+        let [mut inherited, mut lacking, mut given_back] = [0; 3];
+        for _ in 0..1_200 {
+            let draft = draft(&mut random, Size::Small);
+            for category in 1..draft.data.len() as u8 {
+                let (parent, own) = draft.data[usize::from(category)];
+                let above = draft.supported(parent);
+                let mask = draft.withdrawn_by(category);
+                inherited += u32::from(mask & above != 0);
+                lacking += u32::from(mask & !above != 0);
+                let gone = draft.withdrawn_by(parent) & !above;
+                given_back += u32::from(gone & own != 0);
+            }
+        }
+        assert!(inherited > 2 * lacking, "{inherited} {lacking}");
+        assert!(lacking > 100 && given_back > 50, "{lacking} {given_back}");
+    }
+
+    /// A rule that asks for what a leaf lacks is in many of the books in which one lacks something.
+    #[test]
+    fn rules_about_it() {
+        let mut random = Random::new(23);
+        let [mut lacking, mut asking] = [0; 2];
+        for _ in 0..1_200 {
+            let draft = draft(&mut random, Size::Small);
+            let lost = withdrawn::lost(&draft);
+            let asks = |rule: &Rule| {
+                let category = rule.references[0].category;
+                let of = lost.iter().filter(|(above, _)| *above == category);
+                let masks = rule.restrictions.iter().map(|masks| masks[0]);
+                of.clone()
+                    .any(|(_, lost)| masks.clone().any(|mask| mask & lost != 0))
+            };
+            lacking += u32::from(!lost.is_empty());
+            asking += u32::from(draft.rules.iter().any(asks));
+        }
+        assert!(lacking > 150 && 2 * asking > lacking, "{lacking} {asking}");
     }
 }

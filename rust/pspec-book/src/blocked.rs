@@ -1,11 +1,13 @@
 //! Which rules permit data that no operation can open, and which rules close them, in the policy's names.
 
+use crate::contents::bits;
 use crate::json::Json;
 use crate::lineage;
 use crate::named::NamedBook;
 use crate::names::Names;
-use crate::phrases::counted_list;
+use crate::phrases::{counted_list, joined};
 use crate::rule;
+use crate::withdrawn::Withdrawn;
 use crate::words::{self, How};
 use pspec::{Access, Action, Blocking, Causes, Datum, Refusal};
 
@@ -15,7 +17,7 @@ A blocked rule permits data that can't be had: whatever operations the user choo
 rule of the book is broken. The first user and data are shown; there may be others. The rules that
 are named close them by themselves, so a change of the rules that opens them changes at least one of
 these. It may not be enough, as other rules may close them too. A function for an operation that
-none had may open them as well.";
+none had may open them as well, and so may an operation that is no longer withdrawn.";
 
 /// What is found of a rule.
 #[derive(Clone, Debug, PartialEq, Eq)]
@@ -43,6 +45,9 @@ pub enum Found {
         data: Vec<Datum>,
         /// The few rules that close them, the rule itself among them, lowest first.
         closed_by: Vec<Closing>,
+        /// Where the rule is alone and asks for operations that are withdrawn from the data: why none of
+        /// those that it asks for can be had.
+        reasons: Vec<String>,
     },
 }
 
@@ -61,11 +66,18 @@ pub fn of_rule(named: &NamedBook, r: usize) -> Result<RuleBlocking, Refusal> {
         Err(Refusal::RuleForbids) => Found::Forbids,
         Err(refusal) => return Err(refusal),
         Ok(Blocking::Open) => Found::Open,
-        Ok(Blocking::Closed { user, data }) => Found::Closed {
-            user: named.names.users[user as usize].clone(),
-            data,
-            closed_by: closed_by(named, r)?,
-        },
+        Ok(Blocking::Closed { user, data }) => {
+            let closed_by = closed_by(named, r)?;
+            Found::Closed {
+                user: named.names.users[user as usize].clone(),
+                reasons: match closed_by.len() {
+                    1 => reasons(named, r, &data),
+                    _ => vec![],
+                },
+                data,
+                closed_by,
+            }
+        }
     };
     Ok(RuleBlocking {
         number: r,
@@ -88,8 +100,35 @@ fn closed_by(named: &NamedBook, r: usize) -> Result<Vec<Closing>, Refusal> {
     Ok(rules.map(closing).collect())
 }
 
+/// Why no operation that a rule asks for can be had of data that it closes alone: each is withdrawn from
+/// them, or no function has it. Nothing where none is withdrawn.
+fn reasons(named: &NamedBook, r: usize, data: &[Datum]) -> Vec<String> {
+    let NamedBook {
+        contents, names, ..
+    } = named;
+    let given = contents.functions.iter().fold(0, |mask, k| mask | 1 << k);
+    let (mut withdrawn, mut missing) = (Withdrawn::default(), 0);
+    for masks in &contents.rules[r].restrictions {
+        for (mask, datum) in masks.iter().zip(data) {
+            let can_be_had = given & contents.supported(datum.leaf);
+            if mask & can_be_had == 0 {
+                withdrawn.add(contents, datum.leaf, *mask);
+                missing |= mask & !given;
+            }
+        }
+    }
+    let mut reasons = withdrawn.words(names);
+    if !reasons.is_empty() && missing != 0 {
+        let missing: Vec<String> = bits(missing)
+            .map(|k| names.operation(k).to_string())
+            .collect();
+        reasons.push(format!("no function gives {}", joined(&missing, "or")));
+    }
+    reasons
+}
+
 /// Which rules close data, and what to do about it. A rule that asks for nothing is left out.
-pub fn advice(closed_by: &[Closing]) -> String {
+pub fn advice(closed_by: &[Closing], reasons: &[String]) -> String {
     // Alone it closes them for want of operations: its references share no leaf, so under a restriction
     // whose operations could all be had the data would be open.
     if let [Closing {
@@ -97,11 +136,7 @@ pub fn advice(closed_by: &[Closing]) -> String {
         how: How::Asks(each),
     }] = closed_by
     {
-        let asked = each.join(", or ");
-        return format!(
-            "Closed by rule {number} on its own: the functions do not give what it asks for, {asked}. \
-             Add one that does, or change the rule."
-        );
+        return alone(*number, &each.join(", or "), reasons);
     }
     let does = |of: &Closing| Some((of.number.to_string(), of.how.words()?));
     let (numbers, does): (Vec<String>, Vec<String>) = closed_by.iter().filter_map(does).unzip();
@@ -115,6 +150,22 @@ pub fn advice(closed_by: &[Closing]) -> String {
         }
     };
     format!("Closed by {rules}. To open them by the rules, change at least {change}.")
+}
+
+/// What is said of a rule that closes its data by itself, and of what it asks for.
+fn alone(number: usize, asked: &str, reasons: &[String]) -> String {
+    let rule = format!("Closed by rule {number} on its own");
+    match reasons {
+        [] => format!(
+            "{rule}: the functions do not give what it asks for, {asked}. \
+             Add one that does, or change the rule."
+        ),
+        reasons => format!(
+            "{rule}: what it asks for, {asked}, can't be had of these data, as {}. \
+             Change that, or the rule.",
+            reasons.join(", and ")
+        ),
+    }
 }
 
 /// What is found of each rule.
@@ -138,9 +189,10 @@ impl RuleBlocking {
                 user,
                 data,
                 closed_by,
+                reasons,
             } => {
                 let data: Vec<String> = data.iter().map(|&of| datum_text(of, names)).collect();
-                let (data, advice) = (data.join(", "), advice(closed_by));
+                let (data, advice) = (data.join(", "), advice(closed_by, reasons));
                 format!("blocked. Closed to {user}, whatever the operations: {data}\n  {advice}")
             }
         };
@@ -158,6 +210,7 @@ impl RuleBlocking {
             user,
             data,
             closed_by,
+            ..
         } = &self.found
         {
             let numbers = Json::list(closed_by, |of| Json::Number(of.number));

@@ -8,6 +8,9 @@ pub const OPERATIONS: usize = 15;
 /// The label of a column that has none.
 pub const UNLABELLED: u8 = 255;
 
+/// The kind of the block of the data that has room for withdrawn operations.
+const KIND_WITH_WITHDRAWN: u8 = 6;
+
 /// What a book says, by its numbers.
 #[derive(Clone, Debug, Default, PartialEq, Eq)]
 pub struct Contents {
@@ -15,6 +18,8 @@ pub struct Contents {
     pub users: Vec<u8>,
     /// The data categories.
     pub data: Vec<Category>,
+    /// Is the block of the data of kind 6? It may be where no category withdraws anything.
+    pub has_withdrawn: bool,
     /// The label of each column.
     pub columns: Vec<u8>,
     /// The operation of each function, 0 for none.
@@ -30,6 +35,8 @@ pub struct Category {
     pub parent: u8,
     /// The mask of its own operations.
     pub own: u16,
+    /// The mask of the operations that it withdraws.
+    pub withdrawn: u16,
 }
 
 /// A rule.
@@ -60,10 +67,9 @@ impl Contents {
     /// The sealed book, if the engine accepts it. Every list is short enough for its place: `policy`
     /// has seen to it.
     pub fn book(&self) -> Result<Book, Refusal> {
-        let data: Vec<u8> = self.data.iter().flat_map(Category::bytes).collect();
         let mut blocks = vec![
             block(1, self.users.len(), &self.users),
-            block(2, self.data.len(), &data),
+            self.data_block(),
             block(3, self.columns.len(), &self.columns),
             block(4, self.functions.len(), &self.functions),
         ];
@@ -74,14 +80,27 @@ impl Contents {
         Book::new(blocks.concat())
     }
 
+    /// Kind 6 where something is withdrawn, whatever `has_withdrawn` says: no mask is left out.
+    fn data_block(&self) -> Vec<u8> {
+        let withdraws = self.data.iter().any(|category| category.withdrawn != 0);
+        let (kind, width) = data_form(self.has_withdrawn || withdraws);
+        let category = |category: &Category| category.bytes().into_iter().take(width);
+        let fields: Vec<u8> = self.data.iter().flat_map(category).collect();
+        block(kind, self.data.len(), &fields)
+    }
+
     /// What a book says.
     pub fn of(book: &Book) -> Contents {
         let blocks: Vec<&[u8]> = book.bytes().chunks_exact(BLOCK).collect();
         let fields =
             |block: usize, width: usize| &blocks[block][2..2 + width * count(blocks[block])];
+        let has_withdrawn = blocks[1][0] == KIND_WITH_WITHDRAWN;
+        let (_, width) = data_form(has_withdrawn);
+        let categories = fields(1, width).chunks_exact(width);
         Contents {
             users: fields(0, 1).to_vec(),
-            data: fields(1, 3).chunks_exact(3).map(Category::read).collect(),
+            data: categories.map(Category::read).collect(),
+            has_withdrawn,
             columns: fields(2, 1).to_vec(),
             functions: fields(3, 1).to_vec(),
             rules: blocks[4..].iter().map(|block| Rule::read(block)).collect(),
@@ -93,18 +112,38 @@ impl Contents {
         self.data.iter().map(|category| category.parent).collect()
     }
 
-    /// The operations that a data category supports.
+    /// The operations that a data category supports: what its parent supports, less what it withdraws,
+    /// and its own.
     pub fn supported(&self, category: u8) -> u16 {
-        let Category { parent, own } = self.data[usize::from(category)];
+        let Category {
+            parent,
+            own,
+            withdrawn,
+        } = self.data[usize::from(category)];
         match category {
             0 => own,
-            _ => own | self.supported(parent),
+            _ => self.supported(parent) & !withdrawn | own,
         }
+    }
+
+    /// The category that takes an operation from a data category: this one or one above it, whose parent
+    /// supports the operation. None where it is supported, or was never there to be taken.
+    pub fn withdrawn_by(&self, mut category: u8, operation: u8) -> Option<u8> {
+        let supports = |category: u8| self.supported(category) >> operation & 1 == 1;
+        while category > 0 && !supports(category) {
+            let parent = self.data[usize::from(category)].parent;
+            if supports(parent) {
+                return Some(category);
+            }
+            category = parent;
+        }
+        None
     }
 
     /// The operations in the order in which the text of this book names them.
     pub fn operations(&self) -> Vec<u8> {
-        let mut masks: Vec<u16> = self.data.iter().map(|category| category.own).collect();
+        let in_line = |category: &Category| [category.own, category.withdrawn];
+        let mut masks: Vec<u16> = self.data.iter().flat_map(in_line).collect();
         masks.extend(self.functions.iter().map(|&k| (1 << k) & !1));
         let restrictions = self.rules.iter().flat_map(|rule| &rule.restrictions);
         masks.extend(restrictions.flatten());
@@ -118,16 +157,33 @@ impl Contents {
     }
 }
 
+/// The kind of the block of the data, and the bytes of a category in it.
+fn data_form(has_withdrawn: bool) -> (u8, usize) {
+    match has_withdrawn {
+        true => (KIND_WITH_WITHDRAWN, 5),
+        false => (2, 3),
+    }
+}
+
 impl Category {
-    fn bytes(&self) -> [u8; 3] {
-        let [high, low] = self.own.to_be_bytes();
-        [self.parent, high, low]
+    /// The five bytes of kind 6; the first three are those of kind 2.
+    fn bytes(&self) -> [u8; 5] {
+        let ([a, b], [c, d]) = (self.own.to_be_bytes(), self.withdrawn.to_be_bytes());
+        [self.parent, a, b, c, d]
     }
 
+    /// Of three bytes or five.
     fn read(bytes: &[u8]) -> Category {
+        let mut masks = bytes[1..].chunks_exact(2);
+        let mut mask = || {
+            masks
+                .next()
+                .map_or(0, |mask| u16::from_be_bytes([mask[0], mask[1]]))
+        };
         Category {
             parent: bytes[0],
-            own: u16::from_be_bytes([bytes[1], bytes[2]]),
+            own: mask(),
+            withdrawn: mask(),
         }
     }
 }

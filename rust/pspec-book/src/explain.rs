@@ -3,7 +3,7 @@
 //! The engine names the block or row and the kind of fault. What exactly is at fault there is found
 //! here by a second look, which decides nothing: if it finds nothing, the engine's own sentence
 //! stands. Refusals 1 to 5 come from no policy file, as `policy` keeps its counts and parents in
-//! bounds.
+//! bounds, and what a category owns apart from what it withdraws.
 
 use crate::contents::{bits, Contents, Reference, Rule};
 use crate::hierarchy::{children, leaves, under};
@@ -143,9 +143,15 @@ fn unsupported(rule: &Rule, policy: &Policy) -> Option<String> {
                         operations(supported, names)
                     ),
                 };
-                let operation = names.operation(k);
+                let found = match contents.withdrawn_by(reference.category, k) {
+                    None => names.operation(k).to_string(),
+                    Some(by) => {
+                        let by = &names.data[usize::from(by)];
+                        format!("{}, which {by} withdraws,", names.operation(k))
+                    }
+                };
                 return Some(format!(
-                    "found the operation {operation} for {category}; expected {expected}"
+                    "found the operation {found} for {category}; expected {expected}"
                 ));
             }
         }

@@ -9,8 +9,9 @@ A policy (# starts a comment):
       Report
   data                      the same, with each category's own operations
     All
-      Address
+      Address [truncate]
         City
+        Street withdraws [truncate]
       Price [avg, sum]
   columns                   a data leaf, or - for an unlabelled column
     price: Price
@@ -26,6 +27,10 @@ order of the lines, and operations their first appearance. A section 'operations
 line, gives another order. 'Name under Parent', indented as the root is, gives a category's parent
 where the order of the lines keeps it from standing below it.
 
+A category supports what the one above it supports, less what it withdraws, and its own. The order in
+a line is Name [own] withdraws [others] under Parent, and all but the name may be left out. No
+operation stands in both lists. 'withdraws []' withdraws nothing.
+
 A name has at most 64 letters, digits, '_', '-' and '.', and starts with a letter or '_'.
 
 A plan, one row a line, its number optional; USER is a user without others below it:
@@ -38,6 +43,7 @@ A plan, one row a line, its number optional; USER is a user without others below
 
 A column is had under the first operation applied to it that its label supports, or raw if there is
 none. A function of two rows does not count as an operation, nor does anything applied to its result.
+Where an operation does not count as a category withdraws it, judge and flows name the category.
 
 Names are taken from BOOK.names; without that file they are numbers, such as user0 or data3.
 
@@ -58,7 +64,8 @@ that operation is said by flows.
 For each blocked rule, blocked names a few rules that close its data, itself among them unless it
 asks for nothing. None of the others can be left out, but another set may do as well. A change of the
 rules that opens the data changes at least one of those named. That may not be enough: rules that are
-not named may close the same data. A function for an operation that none had may open them as well.
+not named may close the same data. A function for an operation that none had may open them as well,
+and so may an operation that is no longer withdrawn.
 
 Every answer about a book comes from the proved engine: the book check, Flows, Judge, Idle, Blocked,
 Culprits and Tree. Why a rule is idle is found by asking it about books with rules left out. This

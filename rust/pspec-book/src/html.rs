@@ -9,7 +9,8 @@ use crate::hierarchy::is_leaf;
 use crate::named::NamedBook;
 use crate::phrases::{counted, joined};
 use crate::report::{Found, RuleReport};
-use crate::rule::{operations, text};
+use crate::rule::text;
+use crate::show::operations;
 use crate::words;
 use pspec::Access;
 
@@ -172,9 +173,10 @@ fn why_blocked(named: &NamedBook, found: &Blocking) -> String {
             user,
             data,
             closed_by,
+            reasons,
         } => {
             let does = words::data_together(data, &named.names);
-            let advice = advice(closed_by);
+            let advice = advice(closed_by, reasons);
             format!(
                 "Blocked: {user} can't {does}. Whatever the operations, some rule is broken. {advice}"
             )
@@ -189,17 +191,15 @@ fn hierarchies(named: &NamedBook) -> String {
         note: String::new(),
     };
     let data = |i: usize| Label {
-        name: match contents.data[i].own {
-            0 => names.data[i].clone(),
-            own => format!("{} [{}]", names.data[i], operations(own, names)),
-        },
+        name: names.data[i].clone() + &operations(contents.data[i], names),
         note: columns(named, i),
     };
     let users = drawing("Users", &contents.users, user);
     let data = drawing("Data", &contents.parents(), data);
     format!(
         "<p>A full dot has nothing below it: these are the users, and the data that a column may have. \
-         Operations stand in brackets, columns in grey.</p>\n\
+         Operations stand in brackets, columns in grey. A category supports its own operations and what the \
+         one above it supports, but for what it withdraws.</p>\n\
          <div class=\"trees\">\n{users}{data}</div>\n"
     )
 }

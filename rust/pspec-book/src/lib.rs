@@ -60,4 +60,5 @@ pub mod rule;
 pub mod show;
 pub mod text;
 pub mod tree;
+pub mod withdrawn;
 pub mod words;

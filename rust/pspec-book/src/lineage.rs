@@ -9,6 +9,7 @@ use crate::named::NamedBook;
 use crate::names::Names;
 use crate::phrases::counted_list;
 use crate::plan::{PlanText, NONE};
+use crate::withdrawn::Withdrawn;
 use pspec::{Access, Action, Refusal};
 use std::collections::{BTreeMap, BTreeSet};
 
@@ -19,16 +20,23 @@ pub struct Traced {
     pub access: Access,
     /// The lines that put it out or decide by it, each with the lines of the columns.
     pub lines: BTreeMap<usize, BTreeSet<usize>>,
+    /// Operations that were applied before its own, or to raw data, and are withdrawn from them.
+    pub withdrawn: Withdrawn,
 }
 
 impl Traced {
-    /// The access in words, with its lines.
+    /// The access in words, with its lines, and with who withdraws an operation that did not count.
     pub fn text(&self, names: &Names) -> String {
         let each = self.lines.iter().map(|(sink, columns)| {
             let columns: Vec<String> = columns.iter().map(usize::to_string).collect();
             format!(", line {sink} from {}", counted_list("line", &columns))
         });
-        format!("{}{}", text(self.access, names), each.collect::<String>())
+        let withdrawn = match self.withdrawn.words(names).as_slice() {
+            [] => String::new(),
+            words => format!(" ({})", words.join(", ")),
+        };
+        let (access, lines) = (text(self.access, names), each.collect::<String>());
+        format!("{access}{lines}{withdrawn}")
     }
 
     /// The same for scripts.
@@ -76,12 +84,15 @@ pub fn traced(plan: &PlanText, named: &NamedBook) -> Result<Vec<Traced>, Refusal
         .map(|access| Traced {
             access,
             lines: BTreeMap::new(),
+            withdrawn: Withdrawn::default(),
         })
         .collect();
     for origin in origins(plan, &named.contents) {
         if let Some(of) = traced.iter_mut().find(|of| of.access == origin.access) {
             let columns = of.lines.entry(plan.lines[origin.sink]).or_default();
             columns.insert(plan.lines[origin.column]);
+            let leaf = origin.access.leaf;
+            of.withdrawn.add(&named.contents, leaf, origin.unsupported);
         }
     }
     Ok(traced)
@@ -98,6 +109,7 @@ struct Origin {
     access: Access,
     sink: usize,
     column: usize,
+    unsupported: u16,
 }
 
 /// A way up from a column: the column's row, and whether it has an operation so far.
@@ -114,11 +126,15 @@ enum SoFar {
     Ended,
 }
 
+/// Ways up to a row, each with the operations on it that came before any that counts and are not
+/// supported.
+type Ways = BTreeMap<Way, u16>;
+
 /// The rows of a plan, and the ways up to those that are done.
 struct Tracer<'a> {
     rows: Vec<[u8; 4]>,
     contents: &'a Contents,
-    ways: Vec<BTreeSet<Way>>,
+    ways: Vec<Ways>,
 }
 
 /// All ways of a plan that the engine accepts.
@@ -142,7 +158,7 @@ impl Tracer<'_> {
     }
 
     /// The ways up to a row above; none for 255.
-    fn above(&self, row: u8) -> BTreeSet<Way> {
+    fn above(&self, row: u8) -> Ways {
         self.ways.get(usize::from(row)).cloned().unwrap_or_default()
     }
 
@@ -154,7 +170,7 @@ impl Tracer<'_> {
             4 => Action::Projection,
             _ => return vec![],
         };
-        let origin = |(column, so_far): Way| Origin {
+        let origin = |((column, so_far), unsupported): (Way, u16)| Origin {
             access: Access {
                 action,
                 leaf: self.label(column),
@@ -165,32 +181,44 @@ impl Tracer<'_> {
             },
             sink,
             column,
+            unsupported,
         };
         self.above(a).into_iter().map(origin).collect()
     }
 
     /// The ways up to a row.
-    fn ways(&self, row: usize) -> BTreeSet<Way> {
+    fn ways(&self, row: usize) -> Ways {
         let [kind, a, b, c] = self.rows[row];
-        let both = || self.above(b).into_iter().chain(self.above(c));
+        let step = |way: Way| match kind {
+            2 if c == NONE => self.applied(a, way),
+            2 => (mixed(way), 0),
+            _ => (way, 0),
+        };
+        let mut ways = Ways::new();
         match kind {
-            1 if self.label(row) == UNLABELLED => BTreeSet::new(),
-            1 => BTreeSet::from([(row, SoFar::NotYet)]),
-            2 if c == NONE => both().map(|way| self.applied(a, way)).collect(),
-            2 => both().map(mixed).collect(),
-            3 => both().collect(),
-            _ => BTreeSet::new(),
+            1 if self.label(row) != UNLABELLED => {
+                ways.insert((row, SoFar::NotYet), 0);
+            }
+            2 | 3 => {
+                for (way, unsupported) in self.above(b).into_iter().chain(self.above(c)) {
+                    let (way, more) = step(way);
+                    *ways.entry(way).or_default() |= unsupported | more;
+                }
+            }
+            _ => (),
         }
+        ways
     }
 
     /// A way after a function of one row: its operation counts where it is the first that the label
-    /// supports.
-    fn applied(&self, function: u8, (column, so_far): Way) -> Way {
+    /// supports. One that comes before any such and is not supported is given as a mask.
+    fn applied(&self, function: u8, (column, so_far): Way) -> (Way, u16) {
         let k = self.contents.functions[usize::from(function)];
         let supported = self.contents.supported(self.label(column)) >> k & 1 == 1;
         match so_far {
-            SoFar::NotYet if supported => (column, SoFar::Has(k)),
-            _ => (column, so_far),
+            SoFar::NotYet if supported => ((column, SoFar::Has(k)), 0),
+            SoFar::NotYet => ((column, so_far), 1 << k),
+            SoFar::Has(_) | SoFar::Ended => ((column, so_far), 0),
         }
     }
 }

@@ -12,7 +12,7 @@
 //! data                   # the same, with each category's own operations
 //!   All
 //!     Price [avg, sum]
-//!       Cost
+//!       Cost withdraws [avg]   # what Price supports but avg, here and below
 //!     Name
 //!   Tax under Price      # where the order of the lines keeps it from standing below Price
 //! columns                # a data leaf, or '-' for an unlabelled column
@@ -25,8 +25,13 @@
 //!
 //! Numbers are given in the order of the lines, from 0; operations in the order of their first
 //! appearance, from 1.
+//!
+//! A line of the data is `Name [own] withdraws [withdrawn] under Upper`, of which all but the name may
+//! be left out; `withdraws []` withdraws nothing. A category supports what the one above it supports,
+//! less what it withdraws, and its own. Where some line has `withdraws` the block of the data is of
+//! kind 6, else of kind 2.
 
-use crate::contents::{Category, Contents, OPERATIONS, UNLABELLED};
+use crate::contents::{bits, Category, Contents, OPERATIONS, UNLABELLED};
 use crate::mistake::{mistake, Mistake, Mistakes};
 use crate::names::Names;
 use crate::phrases::shown;
@@ -54,6 +59,15 @@ pub struct Lines {
     pub columns: Vec<usize>,
     /// Each rule's line.
     pub rules: Vec<usize>,
+}
+
+/// What stands in a line of the data after the name.
+struct DataLine {
+    own: u16,
+    /// None where the line does not have 'withdraws'.
+    withdrawn: Option<u16>,
+    /// The category after 'under'.
+    upper: Option<u8>,
 }
 
 /// The sections in their order.
@@ -167,37 +181,75 @@ impl Policy {
         let mut cursor = Cursor::new(line);
         new_name(&mut cursor, &mut self.names.users, "a user category")?;
         let upper = upper(&mut cursor, &self.names.users)?;
-        end_of_category(&cursor, "'under' or the end of the line")?;
+        end_of_category(&cursor, "", upper)?;
         Ok(upper)
     }
 
     fn data(&mut self, line: Line, tree: &mut Tree) -> Result<(), Mistake> {
         let read = self.data_line(line);
-        let upper = read.as_ref().map_or(None, |&(_, upper)| upper);
+        let upper = read.as_ref().map_or(None, |read| read.upper);
         let parent = tree.parent(line, upper);
-        let (own, _) = read?;
-        let parent = parent?;
-        self.contents.data.push(Category { parent, own });
+        let DataLine { own, withdrawn, .. } = read?;
+        self.contents.has_withdrawn |= withdrawn.is_some();
+        self.contents.data.push(Category {
+            parent: parent?,
+            own,
+            withdrawn: withdrawn.unwrap_or(0),
+        });
         Ok(())
     }
 
-    /// The mask of own operations, and the category after 'under'.
-    fn data_line(&mut self, line: Line) -> Result<(u16, Option<u8>), Mistake> {
+    fn data_line(&mut self, line: Line) -> Result<DataLine, Mistake> {
         let mut cursor = Cursor::new(line);
         new_name(&mut cursor, &mut self.names.data, "a data category")?;
         let own = self.own(&mut cursor)?;
+        let withdrawn = self.withdrawn(&mut cursor)?;
         let upper = upper(&mut cursor, &self.names.data)?;
-        end_of_category(&cursor, "'[', 'under' or the end of the line")?;
-        Ok((own, upper))
+        let open = match (own, withdrawn) {
+            (None, None) => "'[', 'withdraws', ",
+            (Some(_), None) => "'withdraws', ",
+            (_, Some(_)) => "",
+        };
+        end_of_category(&cursor, open, upper)?;
+        let own = own.unwrap_or(0);
+        if let Some(k) = bits(own & withdrawn.unwrap_or(0)).next() {
+            let operation = self.names.operation(k);
+            let what = format!(
+                "found the operation {operation} owned and withdrawn; expected it in one list only"
+            );
+            return Err(mistake(line.number, what));
+        }
+        Ok(DataLine {
+            own,
+            withdrawn,
+            upper,
+        })
     }
 
-    fn own(&mut self, cursor: &mut Cursor) -> Result<u16, Mistake> {
-        if !cursor.take("[") {
-            return Ok(0);
+    fn own(&mut self, cursor: &mut Cursor) -> Result<Option<u16>, Mistake> {
+        match cursor.take("[") {
+            true => self.listed(cursor).map(Some),
+            false => Ok(None),
         }
-        let own = rule::operation_mask(cursor, &mut self.names)?;
+    }
+
+    /// The list after 'withdraws', which may be empty.
+    fn withdrawn(&mut self, cursor: &mut Cursor) -> Result<Option<u16>, Mistake> {
+        if !cursor.take("withdraws") {
+            return Ok(None);
+        }
+        cursor.expect("[")?;
         match cursor.take("]") {
-            true => Ok(own),
+            true => Ok(Some(0)),
+            false => self.listed(cursor).map(Some),
+        }
+    }
+
+    /// Operations up to the end of their list.
+    fn listed(&mut self, cursor: &mut Cursor) -> Result<u16, Mistake> {
+        let mask = rule::operation_mask(cursor, &mut self.names)?;
+        match cursor.take("]") {
+            true => Ok(mask),
             false => Err(cursor.found("',' or ']'")),
         }
     }
@@ -271,6 +323,12 @@ fn upper(cursor: &mut Cursor, list: &[String]) -> Result<Option<u8>, Mistake> {
     cursor.known(above, "a category of a line above").map(Some)
 }
 
-fn end_of_category(cursor: &Cursor, expected: &str) -> Result<(), Mistake> {
-    cursor.end().map_err(|_| cursor.found(expected))
+/// The line ends here. Else 'under' could have stood here where it has not stood yet, and what `open`
+/// says.
+fn end_of_category(cursor: &Cursor, open: &str, upper: Option<u8>) -> Result<(), Mistake> {
+    let expected = match upper {
+        Some(_) => "the end of the line".to_string(),
+        None => format!("{open}'under' or the end of the line"),
+    };
+    cursor.end().map_err(|_| cursor.found(&expected))
 }

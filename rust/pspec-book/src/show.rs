@@ -1,6 +1,6 @@
 //! A book as the text of a policy file.
 
-use crate::contents::{Contents, UNLABELLED};
+use crate::contents::{Category, Contents, UNLABELLED};
 use crate::names::Names;
 use crate::rule;
 
@@ -13,7 +13,7 @@ pub fn text(contents: &Contents, names: &Names) -> String {
     let users = tree(&contents.users, &names.users, |_| String::new());
     text += &section("users", users);
     let data = tree(&contents.parents(), &names.data, |i| {
-        own(contents, names, i)
+        data(contents, names, i)
     });
     text += &section("data", data);
     text += &section("columns", columns(contents, names));
@@ -38,7 +38,7 @@ fn section(header: &str, lines: Vec<String>) -> String {
 }
 
 /// A category stands below its parent where that is still open, else at the left with 'under'.
-fn tree(parents: &[u8], names: &[String], own: impl Fn(usize) -> String) -> Vec<String> {
+fn tree(parents: &[u8], names: &[String], beside: impl Fn(usize) -> String) -> Vec<String> {
     let mut path: Vec<usize> = Vec::new();
     let mut lines = Vec::new();
     for (i, &parent) in parents.iter().enumerate() {
@@ -50,18 +50,29 @@ fn tree(parents: &[u8], names: &[String], own: impl Fn(usize) -> String) -> Vec<
             None if i > 0 => format!(" under {}", names[parent]),
             _ => String::new(),
         };
-        lines.push(format!("{indent}{}{}{upper}", names[i], own(i)));
+        lines.push(format!("{indent}{}{}{upper}", names[i], beside(i)));
         path.push(i);
     }
     lines
 }
 
-/// The operations that a category owns, as they stand beside it.
-fn own(contents: &Contents, names: &Names, i: usize) -> String {
-    match contents.data[i].own {
+/// The operations that a category owns and those that it withdraws, as they stand beside its name.
+pub fn operations(category: Category, names: &Names) -> String {
+    let list = |before: &str, mask: u16| match mask {
         0 => String::new(),
-        own => format!(" [{}]", rule::operations(own, names)),
-    }
+        _ => format!("{before}[{}]", rule::operations(mask, names)),
+    };
+    list(" ", category.own) + &list(" withdraws ", category.withdrawn)
+}
+
+/// An empty list beside the root says that the block is of kind 6, where no other list does.
+fn data(contents: &Contents, names: &Names, i: usize) -> String {
+    let nothing = contents.data.iter().all(|of| of.withdrawn == 0);
+    let empty = match i == 0 && contents.has_withdrawn && nothing {
+        true => " withdraws []",
+        false => "",
+    };
+    operations(contents.data[i], names) + empty
 }
 
 fn columns(contents: &Contents, names: &Names) -> Vec<String> {

@@ -23,6 +23,41 @@ pub const BLOCK: usize = 512;
 /// assert_eq!(Book::new(bytes), Err(Refusal::LabelOrFunction { block: 2 }));
 /// # Ok::<(), Refusal>(())
 /// ```
+///
+/// A data category supports what its parent supports, less what it withdraws, and its own. Operations
+/// are withdrawn in a block of kind 6, which has five bytes a category where kind 2 has three: parent,
+/// own mask, withdrawn mask. Here an address may be put out under operation 1, truncation, and a street
+/// withdraws it.
+///
+/// ```
+/// use pspec::{seal, Book, Plan, Refusal, BLOCK};
+///
+/// let users = vec![1, 1, 0]; // kind 1: one user
+/// let data = [
+///     vec![6, 3], // kind 6: three categories
+///     vec![0, 0, 2, 0, 0], // 0, an address: owns operation 1
+///     vec![0, 0, 0, 0, 0], // 1, a city below it
+///     vec![0, 0, 0, 0, 2], // 2, a street below it: withdraws operation 1
+/// ];
+/// let columns = vec![3, 2, 1, 2]; // kind 3: column 0 is a city, column 1 a street
+/// let functions = vec![4, 1, 1]; // kind 4: function 0 stands for operation 1
+/// let mut rule = vec![0; BLOCK];
+/// rule[..9].copy_from_slice(&[5, 1, 0, 0, 0, 0, 0, 0, 1]); // kind 5: one reference, one restriction
+/// rule[16..18].copy_from_slice(&[0, 1]); // category 0, projection
+/// rule[64..66].copy_from_slice(&[0, 2]); // under operation 1
+///
+/// let mut bytes = Vec::new();
+/// for mut block in [users, data.concat(), columns, functions, rule] {
+///     block.resize(BLOCK, 0);
+///     seal(&mut block)?;
+///     bytes.extend(block);
+/// }
+/// let book = Book::new(bytes)?;
+/// let truncated = |column| Plan::new([1, column, 0, 0, 2, 0, 0, 255, 4, 1, 0, 0]);
+/// assert!(book.judge(0, &truncated(0)).opens()); // a city
+/// assert!(!book.judge(0, &truncated(1)).opens()); // a street: it is put out raw
+/// # Ok::<(), Refusal>(())
+/// ```
 #[derive(Clone, PartialEq, Eq, Hash)]
 pub struct Book {
     bytes: Vec<u8>,

@@ -6,7 +6,8 @@ use crate::{raw, Rules};
 ///
 /// An editor begins with these. Of the rules, at least one of those named or the asking one has to change
 /// before the data open. That one is enough is not said: other rules may close the same data too. A
-/// function for an operation that none had may open them as well.
+/// function for an operation that none had may open them as well, and so may an operation that is no
+/// longer withdrawn.
 #[derive(Clone, Copy, Debug, PartialEq, Eq, Hash)]
 #[must_use]
 pub enum Causes {

@@ -81,7 +81,7 @@ refusals! {
     2 BlockCheck { block } "a block has a wrong check",
     3 BlockKind { block } "a block is of the wrong kind",
     4 CountOrZero { block } "a count is out of bounds, or a byte that should be zero is not",
-    5 ParentOrOwn { block } "a parent is not lower, or a mask of own operations has bit 0",
+    5 ParentOrOwn { block } "a parent is not lower, a mask of own or withdrawn operations has bit 0, or an operation is in both",
     6 LabelOrFunction { block } "a label is no leaf and not 255, or a function is above 15",
     7 RuleNumber { block } "a rule has a wrong category number, action or exclusion",
     8 SharedLeaf { block } "two references of a rule share a leaf",

@@ -1,7 +1,7 @@
-//! Empty slices, and slices in the middle of other bytes.
+//! Empty slices, slices in the middle of other bytes, and both ends of numbers and fields.
 
 use books::named::{opposed_shop, small_shop};
-use pspec::{raw, seal, Book, Causes, Ledger, Node, Plan, Refusal, Reply, Tally, Verdict};
+use pspec::{raw, seal, Book, Causes, Ledger, Node, Plan, Refusal, Reply, Tally, Verdict, BLOCK};
 use std::array::from_fn;
 
 fn refusal(answer: u64) -> Refusal {
@@ -401,6 +401,150 @@ fn a_tally_is_stored_and_read_again() {
         assert!(Tally::from_bytes(&bytes[..length]).is_err());
     }
     assert!(Tally::from_bytes(&[&bytes[..], &[0]].concat()).is_err());
+}
+
+/// The small shop with another block, sealed: these bytes, then zeros.
+fn shop_with(block: usize, fields: &[u8]) -> Result<Book, Refusal> {
+    let mut bytes = small_shop().bytes();
+    let place = &mut bytes[BLOCK * block..BLOCK * (block + 1)];
+    place.fill(0);
+    place[..fields.len()].copy_from_slice(fields);
+    seal(place).expect("it is a block");
+    Book::new(bytes)
+}
+
+/// The bytes of a block of kind 6: the parent, the own mask and the withdrawn mask of each category.
+fn kind_6(categories: &[(u8, u16, u16)]) -> Vec<u8> {
+    let mut block = vec![6, categories.len() as u8];
+    for &(parent, own, withdrawn) in categories {
+        block.push(parent);
+        block.extend([own, withdrawn].into_iter().flat_map(u16::to_be_bytes));
+    }
+    block
+}
+
+/// The data of the small shop, of kind 6: All withdraws this, Price owns and withdraws that.
+fn shop_6(all: u16, own: u16, price: u16) -> Vec<u8> {
+    let of = [
+        (0, 0, all),
+        (0, 0, 0),
+        (1, 0, 0),
+        (1, 0, 0),
+        (0, own, price),
+    ];
+    kind_6(&of)
+}
+
+/// A block of kind 6 in the place of kind 2, at both ends of its masks.
+#[test]
+fn withdrawn_operations() {
+    for (all, own, price) in [(0, 6, 0), (0xFFFE, 6, 0xFFF8), (6, 6, 8), (0, 0xFFFE, 0)] {
+        let book = shop_with(1, &shop_6(all, own, price)).expect("it is sound");
+        assert_eq!(book.rule_count(), 3);
+    }
+    let refused = Err(Refusal::ParentOrOwn { block: 1 });
+    for (all, own, price) in [
+        (0, 6, 2),
+        (0, 6, 4),
+        (0, 0x8006, 0x8000),
+        (0, 6, 0xFFFE),
+        (1, 6, 0),
+        (0, 6, 1),
+        (0, 7, 0),
+        (0, 7, 1),
+    ] {
+        assert_eq!(
+            shop_with(1, &shop_6(all, own, price)),
+            refused,
+            "{all:x} {own:x} {price:x}"
+        );
+    }
+    let mut above = shop_6(0, 6, 0);
+    above[2 + 5 * 3] = 3;
+    assert_eq!(shop_with(1, &above), refused);
+    let unsupported = Err(Refusal::MaskOperation { block: 4 });
+    assert_eq!(shop_with(1, &shop_6(0, 2, 4)), unsupported);
+}
+
+/// Kind 6 in any other block, any other kind in block 1, and five bytes a category under kind 2.
+#[test]
+fn where_kind_6_may_stand() {
+    for block in [0, 2, 3, 4, 6] {
+        let fields = shop_6(0, 6, 0);
+        let wrong = Err(Refusal::BlockKind {
+            block: block as u32,
+        });
+        assert_eq!(shop_with(block, &fields), wrong);
+    }
+    for kind in [0, 1, 3, 4, 5, 7, 255] {
+        let mut fields = shop_6(0, 6, 0);
+        fields[0] = kind;
+        assert_eq!(shop_with(1, &fields), Err(Refusal::BlockKind { block: 1 }));
+    }
+    let mut fields = shop_6(0, 6, 0);
+    fields[0] = 2;
+    assert_eq!(
+        shop_with(1, &fields),
+        Err(Refusal::CountOrZero { block: 1 })
+    );
+}
+
+/// 64 categories take bytes 2 to 321, and every byte behind them is zero.
+#[test]
+fn as_many_categories_as_there_may_be() {
+    let mut of = vec![(0, 0, 0), (0, 0, 0), (1, 0, 0), (1, 0, 0), (0, 6, 8)];
+    of.resize(63, (0, 0, 0));
+    of.push((4, 0x8000, 4));
+    let full = kind_6(&of);
+    assert_eq!(full.len(), 322);
+    let book = |fields: &[u8]| shop_with(1, fields).map(|book| book.rule_count());
+    // The column of leaf 4 has a label with another below it now.
+    assert_eq!(book(&full), Err(Refusal::LabelOrFunction { block: 2 }));
+    let mut beside = full.clone();
+    beside[2 + 5 * 63] = 1;
+    assert_eq!(book(&beside), Ok(3));
+    for place in [322, 323, 509] {
+        let mut past = beside.clone();
+        past.resize(place, 0);
+        past.push(1);
+        assert_eq!(
+            book(&past),
+            Err(Refusal::CountOrZero { block: 1 }),
+            "{place}"
+        );
+    }
+    of.push((0, 0, 0));
+    assert_eq!(book(&kind_6(&of)), Err(Refusal::CountOrZero { block: 1 }));
+}
+
+/// What is withdrawn is had raw, below the category that withdraws it too, and not where it is owned again.
+#[test]
+fn what_is_withdrawn_does_not_count() {
+    // All owns sum, Address withdraws it, City owns it again.
+    let of = [(0, 4, 0), (0, 0, 4), (1, 0, 0), (1, 4, 0), (0, 2, 0)];
+    let book = shop_with(1, &kind_6(&of)).expect("it is sound");
+    for (column, leaf, operation) in [(0, 2, 0), (1, 3, 2), (2, 4, 2)] {
+        let plan = Plan::new([1, column, 0, 0, 2, 2, 0, 255, 4, 1, 0, 0]);
+        let accesses = book.flows(&plan).expect("it is a plan");
+        let found: Vec<_> = accesses.iter().map(|a| (a.leaf, a.operation)).collect();
+        assert_eq!(found, [(leaf, operation)]);
+    }
+}
+
+/// With nothing withdrawn every rule has the answers that it has in kind 2.
+#[test]
+fn kind_6_with_nothing_withdrawn() {
+    let two = Book::new(small_shop().bytes()).expect("it is sound");
+    let six = shop_with(1, &shop_6(0, 6, 0)).expect("it is sound");
+    assert_ne!(two, six);
+    for rule in 0..4 {
+        assert_eq!(two.idle(rule), six.idle(rule));
+        assert_eq!(two.blocked(rule), six.blocked(rule));
+        assert_eq!(two.culprits(rule), six.culprits(rule));
+    }
+    let sum = Plan::new([1, 2, 0, 0, 2, 2, 0, 255, 4, 1, 0, 0]);
+    assert_eq!(two.flows(&sum), six.flows(&sum));
+    assert_eq!(two.judge(1, &sum), six.judge(1, &sum));
 }
 
 /// Every access that `iter` gives is contained, and no other.

@@ -11,7 +11,7 @@ use std::collections::BTreeSet;
 pub struct Book {
     /// Block 0. "A user is a leaf of block 0."
     pub users: Hierarchy,
-    /// Block 1.
+    /// Block 1, of either kind.
     pub data: Hierarchy,
     /// The operations that each data category supports.
     pub supported: Vec<BTreeSet<Operation>>,

@@ -3,7 +3,7 @@
 use crate::block::{self, SIZE};
 use crate::book::Book;
 use crate::hierarchy::Hierarchy;
-use crate::operation::{self, Operation};
+use crate::operation::{self, Masks, Operation};
 use crate::refusal::*;
 use crate::rule::{Reference, Restriction, Rule, RuleAction};
 use std::collections::BTreeSet;
@@ -15,19 +15,22 @@ type Read<T> = Result<T, u32>;
 /// "Byte 0 of a block is its kind, byte 1 a count."
 const HEAD: Range<usize> = 0..2;
 
+/// The kind of a block 1 that has withdrawn masks.
+const WITH_WITHDRAWN: u8 = 6;
+
 /// "Otherwise accepted, with the number of rules": here with all that the book says.
 pub fn read(bytes: &[u8]) -> Result<Book, Refusal> {
     let blocks = split(bytes)?;
     lowest(&blocks, WRONG_CHECK, |_, b| {
         block::sum(b) == block::stored(b)
     })?;
-    lowest(&blocks, WRONG_KIND, |i, b| usize::from(b[0]) == kind(i))?;
+    lowest(&blocks, WRONG_KIND, |i, b| kinds(i).contains(&b[0]))?;
     let place = |i: usize| move |number: u32| Refusal::at(number, i);
     let users = users(blocks[0]).map_err(place(0))?;
-    let (data, own) = data(blocks[1]).map_err(place(1))?;
+    let (data, masks) = data(blocks[1]).map_err(place(1))?;
     let columns = columns(blocks[2], &data).map_err(place(2))?;
     let functions = functions(blocks[3]).map_err(place(3))?;
-    let supported = (0..own.len()).map(|c| operation::supported(&data, &own, c));
+    let supported = (0..masks.len()).map(|c| operation::supported(&data, &masks, c));
     let mut book = Book {
         users,
         supported: supported.collect(),
@@ -67,9 +70,15 @@ fn lowest(
 }
 
 /// "Block 0, kind 1", "Block 1, kind 2", "Block 2, kind 3", "Block 3, kind 4", "Further blocks,
-/// kind 5"
-fn kind(block: usize) -> usize {
-    (block + 1).min(5)
+/// kind 5"; and document 02, N9: "A block of kind 6 may stand where kind 2 stood".
+fn kinds(block: usize) -> &'static [u8] {
+    match block {
+        0 => &[1],
+        1 => &[2, WITH_WITHDRAWN],
+        2 => &[3],
+        3 => &[4],
+        _ => &[5],
+    }
 }
 
 /// Refuses with a number unless the law holds.
@@ -89,8 +98,8 @@ fn count(block: &[u8], byte: usize, bounds: RangeInclusive<usize>) -> Read<usize
 }
 
 /// The byte as a number of a category, row or the like.
-fn number(block: &[u8], byte: usize) -> usize {
-    usize::from(block[byte])
+fn number(bytes: &[u8], byte: usize) -> usize {
+    usize::from(bytes[byte])
 }
 
 /// "Block 0, kind 1, users: 1 to 32 categories. Byte 2 + i is the parent of category i"
@@ -102,23 +111,42 @@ fn users(block: &[u8]) -> Read<Hierarchy> {
 }
 
 /// "Block 1, kind 2, data: 1 to 64 categories, three bytes each from byte 2: parent (same law),
-/// then the mask of own operations. Operations are 1 to 15; 0 means none, and bit 0 is clear."
-fn data(block: &[u8]) -> Read<(Hierarchy, Vec<BTreeSet<Operation>>)> {
+/// then the mask of own operations. Operations are 1 to 15; 0 means none, and bit 0 is clear." Or
+/// document 02, N9: "with five bytes a category: parent, own mask, withdrawn mask".
+fn data(block: &[u8]) -> Read<(Hierarchy, Vec<Masks>)> {
     let n = count(block, 1, 1..=64)?;
+    let width = match block[0] {
+        WITH_WITHDRAWN => 5,
+        _ => 3,
+    };
+    let fields = 2..2 + width * n;
     demand(
-        block::rest_is_zero(block, &[HEAD, 2..2 + 3 * n]),
+        block::rest_is_zero(block, &[HEAD, fields.clone()]),
         COUNT_OR_ZERO,
     )?;
-    let parents = (0..n).map(|i| number(block, 2 + 3 * i)).collect();
-    let own: Vec<_> = (0..n).map(|i| mask(block, 3 + 3 * i)).collect();
+    let categories = || block[fields.clone()].chunks(width);
+    let parents = categories().map(|bytes| number(bytes, 0)).collect();
     let data = Hierarchy::new(parents).ok_or(PARENT_OR_OWN)?;
-    demand(own.iter().all(|mask| !mask.contains(&0)), PARENT_OR_OWN)?;
-    Ok((data, own))
+    let masks: Vec<Masks> = categories().map(masks).collect();
+    demand(masks.iter().all(Masks::are_lawful), PARENT_OR_OWN)?;
+    Ok((data, masks))
+}
+
+/// The masks of a category by its bytes, after the parent. "Kind 2 reads as nothing withdrawn."
+fn masks(category: &[u8]) -> Masks {
+    let withdrawn = match category.len() {
+        5 => mask(category, 3),
+        _ => BTreeSet::new(),
+    };
+    Masks {
+        own: mask(category, 1),
+        withdrawn,
+    }
 }
 
 /// The operations of the mask at a byte and the next.
-fn mask(block: &[u8], byte: usize) -> BTreeSet<Operation> {
-    operation::of_mask(block[byte], block[byte + 1])
+fn mask(bytes: &[u8], byte: usize) -> BTreeSet<Operation> {
+    operation::of_mask(bytes[byte], bytes[byte + 1])
 }
 
 /// "Block 2, kind 3, columns: 0 to 128. Byte 2 + i is the label of column i: a data leaf, or 255

@@ -30,7 +30,8 @@ pub const WRONG_CHECK: u32 = 2;
 pub const WRONG_KIND: u32 = 3;
 /// "4, a count outside its bounds (too low or too high) or a byte that should be zero and isn't"
 pub const COUNT_OR_ZERO: u32 = 4;
-/// "5, parent or own-operation law"
+/// "5, parent or own-operation law"; and document 02, N9: "An operation in both masks, or bit 0 in
+/// either, is refusal 5."
 pub const PARENT_OR_OWN: u32 = 5;
 /// "6, a label that is no leaf and not 255, or a function above 15"
 pub const LABEL_OR_FUNCTION: u32 = 6;

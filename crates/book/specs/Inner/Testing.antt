@@ -8,11 +8,11 @@ use Rattle.book.specs.Lists.{all, upTo}
 use Rattle.book.specs.Sets.{has}
 use Rattle.book.specs.Hierarchies.{parentHolds}
 use Rattle.book.specs.Blocks.{Book, Head, Block, Rule, headOf}
-use Rattle.book.specs.Head.{userCount, dataCount, ownOperations}
+use Rattle.book.specs.Head.{userCount, dataCount}
 use Rattle.book.specs.Rule.{referenceCount, exclusionCount, inLeafSet}
 use Rattle.book.specs.Tests.{Test, Passes, firstFailing}
 use Rattle.book.specs.Refusals.{between, blockTests, checkTests, kindTests, contentTests, ruleBlockTests}
-use Rattle.book.specs.Refusals.{userNumbersHold, referenceHolds, maskAllows, masksHold}
+use Rattle.book.specs.Refusals.{ownHolds, userNumbersHold, referenceHolds, maskAllows, masksHold}
 use Rattle.book.specs.Inner.Reading.{countIn, parentIn}
 use Rattle.book.specs.Inner.Words.{HeadWords}
 use Rattle.book.specs.declared.Hierarchy.{Hierarchy}
@@ -62,9 +62,9 @@ parentsHold which head = all (parentHolds (parentIn which head)) (upTo (countIn 
 abbrev pub exclusionCountsHold : Rule → Bool
 exclusionCountsHold rule = all (λ i. between 0 8 (exclusionCount rule i)) (upTo (referenceCount rule))
 
--- no category owns operation 0
+-- every category has its masks by the law
 abbrev pub ownsHold : Head → Bool
-ownsHold head = all (λ i. not (has (ownOperations head i) 0)) (upTo (dataCount head))
+ownsHold head = all (ownHolds head) (upTo (dataCount head))
 
 abbrev pub referencesHold : Head → Rule → Bool
 referencesHold head rule = all (referenceHolds head rule) (upTo (referenceCount rule))

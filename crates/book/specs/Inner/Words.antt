@@ -12,7 +12,7 @@ use Rattle.book.specs.Hierarchies.{under, covers}
 use Rattle.book.specs.Blocks.{Head, Rule}
 use Rattle.book.specs.Head.{userCount, userParent, dataCount, dataParent, isUser, isDataLeaf, supportOf}
 use Rattle.book.specs.Rule.{inLeafSet, coversUser}
-use Rattle.book.specs.Inner.Reading.{countIn, parentIn, leafIn}
+use Rattle.book.specs.Inner.Reading.{countIn, parentIn, leafIn, Supporting}
 use Rattle.book.specs.declared.Hierarchy.{Hierarchy}
 
 -- one of the categories, under c
@@ -40,6 +40,9 @@ LeafWord which t word = (head : Head) → HeadWords head t → WordOf (leafIn wh
 
 abbrev pub SupportWord : List ℕ → ℕ → ℕ → Type 0
 SupportWord t c word = (head : Head) → HeadWords head t → c < 64 → c < dataCount head → word ≡ supportOf head c
+
+abbrev pub SupportingWords : List ℕ → List ℕ → Type 0
+SupportingWords t words = (head : Head) → HeadWords head t → Supporting head words
 
 abbrev pub CountOf : Hierarchy → List ℕ → ℕ → Type 0
 CountOf which t n = (head : Head) → HeadWords head t → n ≡ countIn which head

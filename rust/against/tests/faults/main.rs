@@ -10,11 +10,14 @@ mod order;
 mod submit;
 mod tally;
 mod tree;
+mod withdrawn;
+mod withdrawn_masks;
 
 use against::actions::PAIRS;
 use against::engine::{Blocking, Causes, Idleness, Search, Second, STEPS};
 use against::mixing::MISREADINGS;
 use against::run::try_case;
+use against::withdrawn_counts::DEPENDING;
 use against::{run, text, Difference, Engine, Limit, Reached};
 use books::submissions::Submit;
 use books::trees::Tree;
@@ -231,4 +234,50 @@ fn what_is_stated_of_trees_finds_faults_alone() {
     tree::FAULTS
         .into_iter()
         .for_each(tree::is_found_by_the_sentences);
+}
+
+#[test]
+fn each_fault_of_kinds_is_found_and_shown_again() {
+    withdrawn::OF_KINDS
+        .into_iter()
+        .for_each(is_found_and_shown_again);
+}
+
+#[test]
+fn each_fault_of_withdrawn_masks_is_found_and_shown_again() {
+    withdrawn_masks::FAULTS
+        .into_iter()
+        .for_each(is_found_and_shown_again);
+}
+
+#[test]
+fn each_fault_of_withdrawn_operations_is_found_and_shown_again() {
+    withdrawn_masks::OF_SUPPORT
+        .into_iter()
+        .for_each(is_found_and_shown_again);
+    for call in DEPENDING {
+        is_found_and_shown_again(withdrawn::IgnoredIn(call));
+    }
+}
+
+/// What the faults are made with is none itself: a book that is written otherwise, or taken as it is.
+#[test]
+fn the_same_book_is_no_fault() {
+    let same = FaultyEngine(withdrawn_masks::Support::Right);
+    let never = FaultyEngine(withdrawn::IgnoredIn("seal"));
+    for engine in [&same as &dyn Engine, &never] {
+        let result = run([engine, &GOOD], 7, Limit::Cases(5_000), &mut |_| ());
+        let reached = result.unwrap_or_else(|difference| panic!("{difference}"));
+        assert!(reached.withdrawn.accepted > 20, "{reached}");
+    }
+}
+
+#[test]
+fn what_is_stated_of_kinds_finds_faults_alone() {
+    let faults = withdrawn::AGAINST_KINDS.into_iter();
+    faults.for_each(withdrawn::is_found_by_kinds);
+    let faults = withdrawn_masks::AGAINST_KINDS.into_iter();
+    faults.for_each(withdrawn::is_found_by_kinds);
+    let faults = withdrawn_masks::SUPPORT_AGAINST_KINDS.into_iter();
+    faults.for_each(withdrawn::is_found_by_kinds);
 }

@@ -4,7 +4,7 @@ use crate::common::{built, numbered, text};
 use crate::running::{folder, run, shop, text_of};
 use books::valid::{self, Size};
 use books::Random;
-use pspec::{Blocking, Book, Causes, Refusal, BLOCK};
+use pspec::{Blocking, Book, Causes, Datum, Refusal, BLOCK};
 use pspec_book::blocked::{each, Found, RuleBlocking};
 use pspec_book::named::NamedBook;
 use pspec_book::words::How;
@@ -28,7 +28,7 @@ A blocked rule permits data that can't be had: whatever operations the user choo
 rule of the book is broken. The first user and data are shown; there may be others. The rules that
 are named close them by themselves, so a change of the rules that opens them changes at least one of
 these. It may not be enough, as other rules may close them too. A function for an operation that
-none had may open them as well.
+none had may open them as well, and so may an operation that is no longer withdrawn.
 ";
 
 #[test]
@@ -212,7 +212,8 @@ fn as_a_page() {
          Closed by rules 1 and 3. To open them by the rules, change at least one of these: rule 1 \
          asks for avg of Price; rule 3 asks for sum of Price.</p>",
         "The rules that\nare named close them by themselves, so a change of the rules that opens them",
-        "A function for an operation that\nnone had may open them as well.</p>",
+        "A function for an operation that\nnone had may open them as well, and so may an operation that \
+         is no longer withdrawn.</p>",
         "which user and data come first, and which rules close them are answers of the proved engine.",
     ] {
         assert!(page.contains(said), "{said}\n{page}");
@@ -266,23 +267,21 @@ fn blocked_among(book: &Book, rule: usize, rules: &[usize]) -> Blocking {
     fewer.blocked(place).expect("the rule does not forbid")
 }
 
-/// Does each restriction of a rule ask for something that no function gives?
-fn asks_for_what_is_not_given(named: &NamedBook, rule: usize) -> bool {
-    let given = named
-        .contents
-        .functions
-        .iter()
-        .fold(0, |mask, k| mask | 1u16 << k);
-    let mut each = named.contents.rules[rule].restrictions.iter();
+/// Does each restriction of a rule ask for something that can't be had of these data? It can where the
+/// leaf supports it and some function has it.
+fn asks_for_what_cannot_be_had(named: &NamedBook, rule: usize, data: &[Datum]) -> bool {
+    let contents = &named.contents;
+    let given = contents.functions.iter().fold(0, |mask, k| mask | 1 << k);
+    let had = |datum: &Datum| given & contents.supported(datum.leaf);
+    let mut each = contents.rules[rule].restrictions.iter();
     each.all(|masks| {
-        masks
-            .iter()
-            .any(|&mask| mask != 0 && mask & given & !1 == 0)
+        let mut asked = masks.iter().zip(data);
+        asked.any(|(&mask, datum)| mask != 0 && mask & had(datum) == 0)
     })
 }
 
 /// On random books the rules that are named close the same data by themselves; without one of the others
-/// they don't. One on its own asks for what is not given, and only the rule itself may ask for nothing.
+/// they don't. One on its own asks for what can't be had, and only the rule itself may ask for nothing.
 #[test]
 fn the_named_rules_close_the_data() {
     let mut counts = [0; 4];
@@ -290,14 +289,17 @@ fn the_named_rules_close_the_data() {
         let size = [Size::Tiny, Size::Small][seed as usize % 2];
         let named = numbered(valid::draft(&mut Random::new(seed), size).bytes());
         for of in each(&named).expect("it is sound") {
-            let Found::Closed { closed_by, .. } = &of.found else {
+            let Found::Closed {
+                data, closed_by, ..
+            } = &of.found
+            else {
                 continue;
             };
             let answer = named.book.blocked(of.number as u32);
             let answer = answer.expect("it is blocked");
             let rules: Vec<usize> = closed_by.iter().map(|by| by.number).collect();
             assert!(rules.is_sorted());
-            let alone = asks_for_what_is_not_given(&named, of.number);
+            let alone = asks_for_what_cannot_be_had(&named, of.number, data);
             assert_eq!(rules.len() == 1, alone);
             let nothing = closed_by.iter().filter(|by| by.how == How::Nothing);
             assert!(nothing.map(|by| by.number).all(|n| n == of.number));
@@ -335,6 +337,7 @@ fn every_rule_has_the_engines_answer() {
                     user,
                     data,
                     closed_by,
+                    ..
                 } => {
                     let number = named.names.users.iter().position(|name| *name == user);
                     let user = number.expect("it is a user") as u32;

@@ -5,6 +5,7 @@ use pspec_book::judge;
 
 const SMALL_SHOP: &str = "examples/small-shop.pspec";
 const TPC_DS: &str = "examples/tpc-ds.pspec";
+const STREET: &str = "examples/street.pspec";
 
 #[test]
 fn small_shop_is_document_01s_book() {
@@ -21,6 +22,7 @@ fn reports_are_as_stored() {
         text("examples/small-shop.report")
     );
     assert_eq!(report_on(&text(TPC_DS)), text("examples/tpc-ds.report"));
+    assert_eq!(report_on(&text(STREET)), text("examples/street.report"));
 }
 
 /// The line of a report that lists the idle rules.

@@ -1,7 +1,9 @@
 //! `docs/FORMAT.md`: its bytes and answers are those of the engine.
 
-use crate::common::{broken, file, text};
+use crate::common::{broken, built, file, text};
 use pspec::{Book, Ledger, Plan, Refusal, Reply, Tally, BLOCK};
+use pspec_book::named::NamedBook;
+use pspec_book::phrases::joined;
 
 fn small_shop() -> Vec<u8> {
     std::fs::read(file("crates/policyreport/data/small.book")).expect("it is there")
@@ -26,10 +28,11 @@ fn hexadecimal(text: &str) -> Vec<u8> {
         .collect()
 }
 
-#[test]
-fn the_listing_is_the_small_shop() {
+/// The bytes of a section's listing, block by block.
+fn listed(section: &str) -> Vec<u8> {
     let format = text("docs/FORMAT.md");
-    let (_, listing) = format.split_once("```text\n").expect("it is there");
+    let (_, listing) = format.split_once(section).expect("it is there");
+    let (_, listing) = listing.split_once("```text\n").expect("it is there");
     let (listing, _) = listing.split_once("```").expect("it ends");
     let mut bytes: Vec<u8> = Vec::new();
     for line in listing.lines() {
@@ -44,7 +47,30 @@ fn the_listing_is_the_small_shop() {
         let fields = hexadecimal(fields);
         bytes[start..start + fields.len()].copy_from_slice(&fields);
     }
-    assert_eq!(bytes, small_shop());
+    bytes
+}
+
+#[test]
+fn the_listing_is_the_small_shop() {
+    assert_eq!(listed("## The small shop"), small_shop());
+}
+
+/// The block of kind 6 is the one of the example, and its categories support what is said below it.
+#[test]
+fn the_block_with_withdrawn_operations() {
+    let NamedBook { book, contents, .. } = built(&text("examples/street.pspec"));
+    let block = listed("## Operations that are withdrawn");
+    assert_eq!(block, book.bytes()[BLOCK..2 * BLOCK]);
+    let with = |mask: u16| {
+        let categories = (0..7).filter(|&of| contents.supported(of) == mask);
+        let categories: Vec<String> = categories.map(|of| of.to_string()).collect();
+        joined(&categories, "and")
+    };
+    let (both, one) = (with(0b110), with(0b10));
+    let said = format!(
+        "Categories {both} support operations 1 and 2, categories {one} operation 1 alone."
+    );
+    assert!(text("docs/FORMAT.md").contains(&said), "{said}");
 }
 
 #[test]

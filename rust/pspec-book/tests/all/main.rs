@@ -1,4 +1,5 @@
-//! The examples, every mistake, the program, random books there and back, and texts of any kind.
+//! The examples, every mistake, the program, withdrawn operations, random books there and back, and texts
+//! of any kind.
 
 mod any_rows;
 mod any_text;
@@ -17,3 +18,4 @@ mod round_trip;
 mod running;
 mod scripts;
 mod stopped;
+mod withdrawn;

@@ -159,13 +159,18 @@ fn names_in_trees() {
     );
     says(
         "    C",
+        "  C under A D",
+        "4: found 'D'; expected the end of the line",
+    );
+    says(
+        "    C",
         "    7",
         "4: found '7'; expected the name of a user category",
     );
     says(
         "    S",
         "    S avg",
-        "10: found 'avg'; expected '[', 'under' or the end of the line",
+        "10: found 'avg'; expected '[', 'withdraws', 'under' or the end of the line",
     );
     says("P [avg]", "P []", "7: found ']'; expected an operation");
     says(

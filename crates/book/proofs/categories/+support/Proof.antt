@@ -1,6 +1,8 @@
 -- The category falls at each call; the laws `support-lower` and `support-top` are the two cases. Assumes nothing.
 use Prim.Native.Nat.{ℕ, _<_}
-use lib.Bits.{or-lt}
+use native.Mathlib.Nat.{lt-of-le-of-lt}
+use native.Mathlib.Omega.{arith}
+use lib.Bits.{or-lt, and-le-l}
 use borrow.Author.Needs.{needs}
 use borrow.Fn.Kinds.{In}
 use borrow.Fn.PlainCycle.{Measures, is, falls, and}
@@ -10,6 +12,7 @@ use Rattle.book.proofs.categories.support.Kinds as support-kinds
 use Rattle.book.proofs.categories.+support.Lts-support as support-lts
 use Rattle.book.proofs.fields.own_operations.Reads as own-operations-reads
 use Rattle.book.proofs.fields.parent.Reads as parent-reads
+use Rattle.book.proofs.fields.withdrawn_operations.Reads as withdrawn-operations-reads
 use Rattle.book.proofs.categories.+support.{statement}
 use Rattle.book.proofs.categories.+support.Tie.{close}
 
@@ -27,17 +30,22 @@ support-returns : (t : ℕ) → support-lts.Need-returns (
   own-operations-reads.Learnt,
   parent-reads.Asked,
   parent-reads.Learnt,
+  withdrawn-operations-reads.Asked,
+  withdrawn-operations-reads.Learnt,
   support-below t,
   support.Post,
 ) (support-at t) support.Post
 support-returns t c =
-    let a = c .before .before .before .before .before .args in
-    let own = c .before .before .before .own-operations in
-    let p = c .before .before .parent in
+    let k = c .before .before .before in
+    let a = k .before .before .before .args in
+    let own = k .before .own-operations in
+    let p = k .parent in
+    let withdrawn = c .before .withdrawn-operations in
     let above = c .support in (
-      support-lower (a .head .now) (a .d) (own .result) (p .result) (own .ensures .0) (p .ensures .0) (above .result)
-          (c .before .if1 .taken) (above .ensures .0),
-      or-lt 16 (own .result) (above .result) (own .ensures .1) (above .ensures .1),
+      support-lower (a .head .now) (a .d) (own .result) (p .result) (own .ensures .0) (p .ensures .0)
+          (withdrawn .result) (above .result) (c .before .before .if1 .taken) (withdrawn .ensures .0) (omega arith)
+          (above .ensures .0) (omega arith),
+      or-lt 16 _ (own .result) (lt-of-le-of-lt (and-le-l _ _) (above .ensures .1)) (own .ensures .1),
     )
 
 support-returns-2 : (t : ℕ) → support-lts.Need-returns-2 (
@@ -45,6 +53,8 @@ support-returns-2 : (t : ℕ) → support-lts.Need-returns-2 (
   own-operations-reads.Learnt,
   parent-reads.Asked,
   parent-reads.Learnt,
+  withdrawn-operations-reads.Asked,
+  withdrawn-operations-reads.Learnt,
   support-below t,
   support.Post,
 ) (support-at t) support.Post
@@ -62,11 +72,14 @@ pub +support-spec : {M : Type 1} → statement M
   own-operations-reads.Learnt,
   parent-reads.Asked,
   parent-reads.Learnt,
+  withdrawn-operations-reads.Asked,
+  withdrawn-operations-reads.Learnt,
   support-below t,
   support.Post,
 )
     (support-at t)
     support.Post
+    (λ c κs. search needs)
     (λ c κs. search needs)
     (λ c κs. search needs)
     (λ c. search needs)

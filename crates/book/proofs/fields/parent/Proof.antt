@@ -7,7 +7,8 @@ returns : tie.Need-returns
 returns c = rw (c .before .enum-told .given .1) (c .byte-at .ensures)
 
 returns-2 : tie.Need-returns-2
-returns-2 c = rw (c .before .enum-told2 .given .1) (c .byte-at2 .ensures)
+returns-2 c =
+    rw (c .before .before .enum-told2 .given .1, ← (c .before .category-start .ensures .0)) (c .byte-at2 .ensures)
 
 pub parent-spec : {M : Type 1} → statement M
 parent-spec =
@@ -17,8 +18,7 @@ parent-spec =
     (λ c. search needs)
     (λ c κs. search needs)
     (λ c. search needs)
-    (λ c. search needs)
-    (λ c. search needs)
+    (λ c κs. search needs)
     (λ c κs. search needs)
     returns
     returns-2)

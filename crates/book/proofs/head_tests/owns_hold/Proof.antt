@@ -1,16 +1,13 @@
--- The loop tests the first i categories (`Passed`); a mask without operation 0 is even. Assumes nothing.
+-- The loop tests the first i categories (`Passed`). Assumes nothing.
 use borrow.Author.Needs.{needs}
 use Prim.Native.Nat.{_-_}
-use mathlib.Core.Bool.{not}
-use Rattle.book.specs.Sets.{has}
-use Rattle.book.specs.Head.{ownOperations}
+use Rattle.book.specs.Refusals.{ownHolds}
 use Rattle.book.proofs.Loops.{Passed, passed-none, passed-more, passed-all}
-use Rattle.book.proofs.Members.{even}
 use Rattle.book.proofs.head_tests.owns_hold.Statement.{statement}
 use Rattle.book.proofs.head_tests.owns_hold.Tie as tie
 
 abbrev Inv-loop : tie.InvT-loop
-Inv-loop head n ok₀ i₀ ok i = Passed (λ j. not (has (ownOperations head j) 0)) n ok i
+Inv-loop head n ok₀ i₀ ok i = Passed (ownHolds head) n ok i
 
 abbrev μ-loop : tie.MeasureT-loop
 μ-loop head n ok₀ i₀ ok i = n - i
@@ -19,7 +16,7 @@ loop-holds : tie.Need-loop-holds Inv-loop μ-loop
 loop-holds c = passed-none
 
 loop-again : tie.Need-loop-again Inv-loop μ-loop
-loop-again c = passed-more (c .before .before .loop .inv) (search needs) (rw (c .own-operations .ensures .0) (even _))
+loop-again c = passed-more (c .before .before .loop .inv) (search needs) (c .own-holds .ensures)
 
 returns : tie.Need-returns Inv-loop μ-loop
 returns c = passed-all (c .before .loop .inv) (search needs) (c .before .before .count .ensures .0)

@@ -11,7 +11,12 @@ unfolding dataBlockTests dataCounted dataOrdered
 returns c =
     let k = c .before .before in
     c .refused .ensures ∙ fails _ _ _ _
-    (rw (← (k .before .before .count .ensures .0), ← (k .before .within .ensures), ← (k .zeros .ensures))
+    (rw (
+      ← (k .before .before .before .count .ensures .0),
+      ← (k .before .before .within .ensures),
+      ← (k .before .category-start .ensures .0),
+      ← (k .zeros .ensures),
+    )
     (c .before .if1 .taken))
 
 returns-2 : tie.Need-returns-2
@@ -19,7 +24,12 @@ unfolding dataBlockTests dataCounted dataOrdered
 returns-2 c =
     let k = c .before .before .before .before .before in
     c .refused2 .ensures ∙ passes _ _ _ _ _
-    (rw (← (k .before .before .count .ensures .0), ← (k .before .within .ensures), ← (k .zeros .ensures))
+    (rw (
+      ← (k .before .before .before .count .ensures .0),
+      ← (k .before .before .within .ensures),
+      ← (k .before .category-start .ensures .0),
+      ← (k .zeros .ensures),
+    )
     (c .before .before .before .before .if1 .left))
     (fails _ _ _ _ (rw (← (c .before .before .before .parents-hold .ensures), ← (c .before .before .owns-hold .ensures)) (c .before .if2 .taken)))
 
@@ -28,7 +38,12 @@ unfolding dataBlockTests dataCounted dataOrdered
 returns-3 c =
     let k = c .before .before .before .before in
     passes _ _ _ _ _
-    (rw (← (k .before .before .count .ensures .0), ← (k .before .within .ensures), ← (k .zeros .ensures))
+    (rw (
+      ← (k .before .before .before .count .ensures .0),
+      ← (k .before .before .within .ensures),
+      ← (k .before .category-start .ensures .0),
+      ← (k .zeros .ensures),
+    )
     (c .before .before .before .if1 .left))
     (passes _ _ _ _ _ (rw (← (c .before .before .parents-hold .ensures), ← (c .before .owns-hold .ensures)) (c .if2 .left))
     none-fails)
@@ -40,7 +55,7 @@ test-data-block-spec =
     (λ c κs. search needs)
     (λ c κs. search needs)
     (λ c. search needs)
-    (λ c. search needs)
+    (λ c κs. search needs)
     (λ c κs. search needs)
     (λ c κs. search needs)
     returns

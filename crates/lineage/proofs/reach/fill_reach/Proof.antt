@@ -37,7 +37,7 @@ loop-again c =
           let low = l .inv .2 held sound few empty in
           let size : length (l .table) ≡ 1088 = l .inv .1 ∙ rw (empty, length-replicate) in
           reached-more (a .head .now) (a .plan .now) (l .i) (row .result) (l .table) (stored .last .0) size
-          (omega arith) low (row .ensures (words .ensures held) sound low) (stored .ensures),
+          (omega arith) low (row .ensures (words .ensures (a .head .now) held) sound low) (stored .ensures),
     )
 
 same-length : tie.Need-same-length Inv-loop μ-loop
