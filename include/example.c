@@ -1,6 +1,6 @@
 /*
- * Reads a book, checks it, judges three plans, submits some from Monday to Saturday, asks of each rule
- * whether it is idle, whether it is blocked and by which rules, and prints a plan's lineage trees.
+ * Reads a book, checks it, judges three plans, holds, commits and drops some from Monday to Saturday, asks
+ * of each rule whether it is idle, whether it is blocked and by which rules, and prints a plan's lineage trees.
  *
  *   rt staticlib capi
  *   cc -Iinclude include/example.c target/staticlib/libcapi.a -o target/example
@@ -57,42 +57,94 @@ static void plans(const uint8_t *book, size_t length)
     judge(book, length, 1, "cut off", plain, sizeof plain - 1);
 }
 
-/* What is kept between submissions; at first all zero. */
+/* What is kept between the days; at first all zero. */
 static uint64_t ledger[PSPEC_LEDGER_WORDS];
 static struct pspec_tally tally;
+static struct pspec_holds holds;
 
-static void submit(const uint8_t *book, size_t length, uint32_t user, const char *name, const uint8_t *plan,
-                   size_t plan_length)
+static uint32_t held_of(uint32_t user)
 {
-    uint64_t answer = pspec_submit(book, length, user, plan, plan_length, ledger, PSPEC_LEDGER_WORDS, &tally);
-    printf("%s, user %u: ", name, user);
+    uint32_t held = 0;
+    for (int place = 0; place < PSPEC_HOLDS_MOST; place++)
+        if (holds.numbers[place] != 0 && holds.users[place] == user)
+            held++;
+    return held;
+}
+
+/* Where nothing is refused, the user is a leaf and his number below 32. */
+static void print_counts(uint32_t user)
+{
+    printf("; %u admitted, %u declined, %u dropped, %u held\n", tally.admitted[user], tally.declined[user],
+           tally.dropped[user], held_of(user));
+}
+
+/* The number under which the plan is held, or 0. */
+static uint32_t ask(const uint8_t *book, size_t length, uint32_t user, const char *name, const uint8_t *plan,
+                    size_t plan_length)
+{
+    uint64_t answer =
+        pspec_ask(book, length, user, plan, plan_length, ledger, PSPEC_LEDGER_WORDS, &tally, &holds);
+    printf("%s, user %u asks: ", name, user);
+    if (pspec_number(answer) != PSPEC_NOT_REFUSED) {
+        print_refusal(answer);
+        return 0;
+    }
+    if (pspec_is_held(answer))
+        printf("held as %u", pspec_hold_number(answer));
+    else
+        printf("declined, mask %u", pspec_declined_mask(answer));
+    print_counts(user);
+    return pspec_hold_number(answer);
+}
+
+/* A program that keeps the records in a file stores them here, before the plan is run. */
+static void commit(const uint8_t *book, size_t length, uint32_t user, const char *name, uint32_t number)
+{
+    uint64_t answer = pspec_commit(book, length, user, number, ledger, PSPEC_LEDGER_WORDS, &tally, &holds);
+    printf("%s, user %u commits %u: ", name, user, number);
     if (pspec_number(answer) != PSPEC_NOT_REFUSED) {
         print_refusal(answer);
         return;
     }
-    if (pspec_is_admitted(answer))
-        printf("admitted");
-    else
-        printf("declined, mask %u", pspec_mask(answer));
-    /* Nothing is refused, so the user is a leaf and his number below 32. */
-    printf("; %u admitted, %u declined\n", tally.admitted[user], tally.declined[user]);
+    printf("admitted");
+    print_counts(user);
+}
+
+static void drop(const uint8_t *book, size_t length, uint32_t user, const char *name, uint32_t number)
+{
+    uint64_t answer = pspec_drop(book, length, user, number, ledger, PSPEC_LEDGER_WORDS, &tally, &holds);
+    printf("%s, user %u drops %u: ", name, user, number);
+    if (pspec_number(answer) != PSPEC_NOT_REFUSED) {
+        print_refusal(answer);
+        return;
+    }
+    printf("dropped");
+    print_counts(user);
 }
 
 /*
- * Column 0 on Monday and column 2 on Tuesday; on Wednesday column 2 through function 1. What user 2 submits on
- * Thursday is counted for him alone: on Saturday user 1 goes on from his own counts.
+ * Column 0 is held on Monday, and column 2 declined beside it on Tuesday; with column 0 dropped, column 2 breaks a
+ * rule less. On Wednesday column 0 is held again, under another number, and on Thursday committed with column 2
+ * through function 1. What user 2 does is counted for him alone, and the numbers of user 1 are not his.
  */
 static void week(const uint8_t *book, size_t length)
 {
     static const uint8_t state[] = {1, 0, 0, 0, 4, 0, 0, 0};
     static const uint8_t price[] = {1, 2, 0, 0, 4, 0, 0, 0};
     static const uint8_t average[] = {1, 2, 0, 0, 2, 1, 0, 255, 4, 1, 0, 0};
-    submit(book, length, 1, "Monday", state, sizeof state);
-    submit(book, length, 1, "Tuesday", price, sizeof price);
-    submit(book, length, 1, "Wednesday", average, sizeof average);
-    submit(book, length, 2, "Thursday", price, sizeof price);
-    submit(book, length, 0, "Friday", state, sizeof state);
-    submit(book, length, 1, "Saturday", state, sizeof state);
+    uint32_t first = ask(book, length, 1, "Monday", state, sizeof state);
+    ask(book, length, 1, "Tuesday", price, sizeof price);
+    drop(book, length, 1, "Tuesday", first);
+    ask(book, length, 1, "Tuesday", price, sizeof price);
+    uint32_t second = ask(book, length, 1, "Wednesday", state, sizeof state);
+    uint32_t third = ask(book, length, 1, "Wednesday", average, sizeof average);
+    commit(book, length, 2, "Thursday", second);
+    commit(book, length, 1, "Thursday", second);
+    commit(book, length, 1, "Thursday", third);
+    commit(book, length, 1, "Thursday", third);
+    ask(book, length, 2, "Friday", price, sizeof price);
+    ask(book, length, 0, "Friday", state, sizeof state);
+    ask(book, length, 1, "Saturday", price, sizeof price);
 }
 
 static void idle(const uint8_t *book, size_t length, uint32_t rule)

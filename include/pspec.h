@@ -1,33 +1,34 @@
 /*
- * The PSpec policy engine for C: nine calls. Link with libcapi.a (rt staticlib capi; x86-64 Linux).
+ * The PSpec policy engine for C: eleven calls. Link with libcapi.a (rt staticlib capi; x86-64 Linux).
  *
  * Parameters. A slice is a pointer and a length in elements: bytes for a book, a block, a plan and a
- * buffer, 64-bit words for `words` and `ledger`. A record, `tally`, is a pointer to one struct. The
- * caller owes only this: each pointer is not null, fits its type's alignment and points to that many
- * elements, or to one record; a slice or record that is written overlaps no other; and nothing else
- * writes one, or reads one that is written, while the call runs.
+ * buffer, 64-bit words for `words` and `ledger`. A record, `tally` or `holds`, is a pointer to one
+ * struct. The caller owes only this: each pointer is not null, fits its type's alignment and points to
+ * that many elements, or to one record; a slice or record that is written overlaps no other; and nothing
+ * else writes one, or reads one that is written, while the call runs.
  *
  * Promises, for any bytes, any length and any number:
  *  - no call asks anything of what it is given: there is no input that it may not have;
- *  - it returns, reads and writes nothing outside its slices and record, and keeps no state, so calls
+ *  - it returns, reads and writes nothing outside its slices and records, and keeps no state, so calls
  *    that write different ones may run at the same time;
  *  - its answer is the one that crates/capi/specs/Packing.antt says, over specs/Answers.antt of the
- *    crates below, and so are the elements of a slice and the counts of a record on leaving;
- *  - what the numbers of pspec_judge, pspec_idle, pspec_blocked, pspec_culprits and pspec_submit mean for a
- *    policy, and those of pspec_tree for a plan, is one page, crates/capi/specs/Demands.antt, and is proved of
- *    them;
- *  - a refusal leaves `block`, `words`, `buffer`, `ledger` and `tally` as they were.
+ *    crates below, and so are the elements of a slice and the fields of a record on leaving;
+ *  - what the numbers of pspec_judge, pspec_idle, pspec_blocked, pspec_culprits, pspec_ask, pspec_commit and
+ *    pspec_drop mean for a policy, and those of pspec_tree for a plan, is one page,
+ *    crates/capi/specs/Demands.antt, and is proved of them;
+ *  - a refusal leaves `block`, `words`, `buffer`, `ledger`, `tally` and `holds` as they were.
  *
  * Answers. Each is one 64-bit number: refusal number x 2^40 + place x 2^32 + value. The refusal number
  * is 0 where nothing is refused; number and place are below 256. The value is below 2^32, and 0 where
- * something is refused. So the functions at the end of this file give the answer's own parts (proved:
+ * something is refused. Where nothing is refused the place is 0, but in one answer: that of pspec_ask for a
+ * held plan has 1 there. So the functions at the end of this file give the answer's own parts (proved:
  * crates/capi/proofs/Unpacking.antt).
  *
  * Not proved: this file, and that there is stack enough. On the largest book, on one with 64 categories
  * in a chain, and on a blocked rule of such books the smallest stacks that worked were 16 KiB for
- * pspec_check, pspec_flows, pspec_judge and pspec_submit, 26 KiB for pspec_tree, 49 KiB for pspec_idle,
- * 56 KiB for pspec_blocked, 57 KiB for pspec_culprits (bench stack); on a thread with less the process is stopped.
- * Give them 128 KiB. The calls use memcpy, memmove and memset and nothing else from outside.
+ * pspec_check, pspec_flows, pspec_judge, pspec_ask and pspec_drop, 25 KiB for pspec_commit, 26 KiB for
+ * pspec_tree, 49 KiB for pspec_idle, 56 KiB for pspec_blocked, 57 KiB for pspec_culprits (bench stack); on a
+ * thread with less the process is stopped. Give them 128 KiB. The calls use memcpy, memmove and memset and nothing else from outside.
  */
 #ifndef PSPEC_H
 #define PSPEC_H
@@ -47,8 +48,10 @@ extern "C" {
 #define PSPEC_WORDS 32
 #define PSPEC_ROWS_MOST 64
 #define PSPEC_BUFFER_LEAST 36
-/* Words of a ledger, 32 for each user number; the count, or sum of both, from which on a user's pair is full. */
+/* Words of a ledger, 32 for each user number; plans that are held at most, over all users together; the number of
+ * a user's plans from which on pspec_ask refuses him. */
 #define PSPEC_LEDGER_WORDS 1024
+#define PSPEC_HOLDS_MOST 8
 #define PSPEC_COUNTS_LIMIT 1000000
 /* Nodes of the largest tree that pspec_tree writes; bytes with room for the text of any such tree, 136 a node. */
 #define PSPEC_NODES_MOST 4096
@@ -79,9 +82,11 @@ enum pspec_refusal {
     PSPEC_BUFFER_LENGTH = 25,     /* buffer under 36 bytes */
     PSPEC_RULE_FORBIDS = 26,      /* the rule has no restriction */
     PSPEC_LEDGER_LENGTH = 27,     /* not 1,024 words */
-    PSPEC_COUNTS_FULL = 28,       /* a count of the user's pair, or their sum, is 1,000,000 or more */
+    PSPEC_COUNTS_FULL = 28,       /* the user's admitted + dropped + held + declined is 1,000,000 or more */
     PSPEC_NO_VALUE_ROW = 29,      /* the row is absent, or not of kind 1 to 3 */
-    PSPEC_TREE_SIZE = 30          /* the tree has above 4,096 nodes, or its text exceeds the buffer */
+    PSPEC_TREE_SIZE = 30,         /* the tree has above 4,096 nodes, or its text exceeds the buffer */
+    PSPEC_PLACES_FULL = 31,       /* eight plans are held */
+    PSPEC_NOT_HELD = 32           /* the user holds no plan under the number */
 };
 
 /*
@@ -146,35 +151,89 @@ uint64_t pspec_blocked(const uint8_t *book, size_t book_length, uint32_t rule);
 uint64_t pspec_culprits(const uint8_t *book, size_t book_length, uint32_t rule);
 
 /*
- * How many plans of each user were admitted and how many declined: a pair of counts for each user number, which
- * is the index. Any counts may be given; fresh, all are 0, as in {{0}, {0}}. A call changes its own user's pair
- * and no other, and a refusal none: those of numbers that are no leaf stay as they are.
+ * How many plans of each user were admitted, declined and dropped: three counts for each user number, which is the
+ * index. Any counts may be given; fresh, all are 0, as in {{0}, {0}, {0}}. A call raises at most one count, its own
+ * user's, by one; one at 2^32 - 1 stays there. A refusal raises none, and the counts of numbers that are no leaf
+ * stay as they are.
  */
 struct pspec_tally {
-    uint32_t admitted[32], declined[32];
+    uint32_t admitted[32], declined[32], dropped[32];
 };
 
 /*
- * Submit: admits a plan or declines it, by what its user has already seen. The ledger holds 32 words for each
- * user number: bit d of word 32 x user + 16 x s + k is set when he holds access to the leaf d by operation k,
- * s being 0 for projection and 1 for condition. Fresh, all its words are 0; any other words are joined and
- * judged as they are. Refuses 1 to 9, 20, 21, 22, 27, 28. It refuses 28 when admitted[user], declined[user] or
- * their sum is 1,000,000 or more; the pairs of other users do not matter. Value: the mask of the rules that the
- * user breaks with the plan's accesses and those that he holds, bit r for rule r.
- * An answer of 0 (pspec_is_admitted): the plan is admitted; its accesses are joined to the user's words, and
- * admitted[user] is one more. Any other answer that is no refusal: the plan is declined; the ledger is as it
- * was, and declined[user] is one more. A refusal's mask is 0 too, so ask pspec_is_admitted and not the mask.
- * For every list of calls with one book, from a fresh ledger and tally, each user holds exactly the accesses
- * of his admitted plans and breaks no rule with them, and each user's admitted + declined is the number of his
- * submissions that were not refused. A user's replies depend on the book, his plans and his own earlier
- * submissions: two such lists that have the same submissions of a user in the same order, whatever others
- * submit between, give him equal replies and leave him equal words and counts (stated in Demand.antt and
- * Alike.antt of crates/ledger/specs, proved in crates/ledger/proofs). So one ledger and tally belong to one
- * book. Store both before an admitted plan is run, and let no two calls begin from the same stored copy: an
- * admitted plan would be lost.
+ * The hold record: the plans that are held, in eight places. Place i has its user in users[i], its number in
+ * numbers[i] and the accesses of its plan in words[32 x i] to words[32 x i + 31], laid out as by pspec_flows: those of
+ * the plan as it was asked, not joined with anything. A place is empty when its number is 0, whatever its user and
+ * words. Any record may be given; fresh, all is 0, as in {{0}, {0}, {0}}, and a freed place is all 0 again.
  */
-uint64_t pspec_submit(const uint8_t *book, size_t book_length, uint32_t user, const uint8_t *plan,
-                      size_t plan_length, uint64_t *ledger, size_t ledger_length, struct pspec_tally *tally);
+struct pspec_holds {
+    uint32_t users[8], numbers[8];
+    uint64_t words[256];
+};
+
+/*
+ * Reserve, then run. pspec_ask checks a plan and holds it or declines it; pspec_commit admits a held plan, which may
+ * then be run; pspec_drop forgets it. All three work on a ledger, a tally and a hold record, which belong together and
+ * to one book. The ledger has 32 words for each user number, the accesses of his admitted plans: bit d of word
+ * 32 x user + 16 x s + k is set when one of them had access to the leaf d by operation k, s being 0 for projection
+ * and 1 for condition. Fresh, all its words are 0; any other words are joined and judged as they are. The words,
+ * counts and places of other users neither matter nor change, but that eight places are for all.
+ *
+ * For every list of these calls with one book, from a fresh ledger, tally and hold record:
+ *  - each user's words are exactly the accesses of his committed plans;
+ *  - with these and all his held plans he breaks no rule;
+ *  - his admitted + dropped + held + declined is the number of his asks that were not refused;
+ *  - his numbers are 1, 2, 3 and so on as they are given, so none is given to him twice;
+ *  - at most eight plans are held;
+ *  - his replies depend on the book, his own calls and whether eight plans were held at each of his asks: two such
+ *    lists that have the same calls of his in the same order and agree on that, whatever others do between, give him
+ *    equal replies and leave him equal words and counts
+ * (stated in Demand.antt and Alike.antt of crates/ledger/specs, proved in crates/ledger/proofs).
+ *
+ * Storing. Let no two calls begin from the same stored copy: what one of them held, admitted or dropped would be
+ * lost. After an ask store the tally and the hold record before its number is used: a number that was not stored
+ * is given again, for another plan. After a commit store all three together before the plan is run: a plan that was
+ * run and not stored is forgotten, and its user may be shown what breaks a rule with it. After a drop store the tally
+ * and the hold record. When the caller starts again, the plans that are held stand in the hold record; each keeps its
+ * place until it is committed or dropped.
+ */
+
+/*
+ * Ask: holds a plan or declines it. The plan is declined exactly when its accesses, joined with its user's words and
+ * with all his held plans, break a rule. Refuses 1 to 9, 20, 21, 22, 27, 28, 31. It refuses 28 when admitted[user] +
+ * dropped[user] + declined[user] and the number of places that are his, added up without overflow, are 1,000,000 or
+ * more; 31 exactly while no place is empty, whoever has them, also for a plan that would be declined. The ledger is
+ * only read.
+ * Held (pspec_is_held): the answer is 2^32 + number, number being 1 + admitted[user] + dropped[user] + the places that
+ * were his, 1 to 1,000,000. The lowest empty place now has the user, that number and the plan's accesses; the tally
+ * is as it was. Declined (pspec_is_declined): the answer is the mask of the rules that he would break, bit r for rule
+ * r, never 0; declined[user] is one more, and the hold record is as it was. Take the answer apart by pspec_is_held,
+ * pspec_hold_number, pspec_is_declined and pspec_declined_mask, and not by pspec_value, which is the number of the one
+ * and the mask of the other.
+ */
+uint64_t pspec_ask(const uint8_t *book, size_t book_length, uint32_t user, const uint8_t *plan, size_t plan_length,
+                   const uint64_t *ledger, size_t ledger_length, struct pspec_tally *tally,
+                   struct pspec_holds *holds);
+
+/*
+ * Commit: admits the plan that the user holds under a number; any number may be given. No rule is tested: the ask
+ * did. Refuses 1 to 9, 20, 27, 32; 32 for a number that is in no place of that user, so for 0, for another user's and
+ * for one that is committed or dropped already. Value: the number. Where nothing is refused (pspec_number of the
+ * answer is 0), the words of the place are joined to the user's words of the ledger, admitted[user] is one more, the
+ * place is empty, and the plan may be run once all three are stored: the one that was asked about under this number
+ * and no other, as the call has its accesses and not the plan. Where a record handed in has several places of that
+ * user and number, the lowest is meant.
+ */
+uint64_t pspec_commit(const uint8_t *book, size_t book_length, uint32_t user, uint32_t number, uint64_t *ledger,
+                      size_t ledger_length, struct pspec_tally *tally, struct pspec_holds *holds);
+
+/*
+ * Drop: forgets the plan that the user holds under a number; any number may be given. Refuses what pspec_commit
+ * refuses and means the same place. Value: the number. Where nothing is refused, dropped[user] is one more and the
+ * place is empty; the ledger is only read.
+ */
+uint64_t pspec_drop(const uint8_t *book, size_t book_length, uint32_t user, uint32_t number, const uint64_t *ledger,
+                    size_t ledger_length, struct pspec_tally *tally, struct pspec_holds *holds);
 
 /*
  * Tree: writes the lineage tree of a row as text. The row is a Column, an Apply or a Choose of the plan, counted
@@ -195,18 +254,29 @@ uint64_t pspec_tree(const uint8_t *book, size_t book_length, const uint8_t *plan
 /* 0 where nothing is refused, else one of enum pspec_refusal. */
 static inline uint32_t pspec_number(uint64_t answer) { return (uint32_t)(answer >> 40); }
 
-/* The block or the row of a refusal. */
+/* The block or the row of a refusal. Look at pspec_number first: that of a held plan is no place. */
 static inline uint32_t pspec_place(uint64_t answer) { return (uint32_t)(answer >> 32) & 255u; }
 
-/* pspec_check: the number of rules. */
+/* pspec_check: the number of rules. pspec_commit and pspec_drop, not refused: the number given. */
 static inline uint32_t pspec_value(uint64_t answer) { return (uint32_t)answer; }
 
-/* pspec_judge, pspec_submit and pspec_culprits: bit r for rule r. Look at pspec_number first: a refusal's mask
- * is 0 too. */
+/* pspec_judge and pspec_culprits: bit r for rule r. Look at pspec_number first: a refusal's mask is 0 too. */
 static inline uint32_t pspec_mask(uint64_t answer) { return pspec_value(answer); }
 
-/* pspec_submit: not refused, and the plan may be run. */
-static inline int pspec_is_admitted(uint64_t answer) { return answer == 0; }
+/* pspec_ask: not refused, and the plan is held; it may be run once it is committed. */
+static inline int pspec_is_held(uint64_t answer) { return answer >> 32 == 1; }
+
+/* pspec_ask: the number under which the plan is held; 0, which no plan has, where it is declined or refused. */
+static inline uint32_t pspec_hold_number(uint64_t answer) { return pspec_is_held(answer) ? (uint32_t)answer : 0; }
+
+/* pspec_ask: not refused, and the plan is declined. */
+static inline int pspec_is_declined(uint64_t answer) { return answer >> 32 == 0; }
+
+/* pspec_ask: bit r for rule r that the plan breaks with what its user has and holds; 0 where it is held or refused. */
+static inline uint32_t pspec_declined_mask(uint64_t answer)
+{
+    return pspec_is_declined(answer) ? (uint32_t)answer : 0;
+}
 
 /* pspec_idle: not refused, and nobody breaks the rule alone. */
 static inline int pspec_is_idle(uint64_t answer) { return answer == 0; }

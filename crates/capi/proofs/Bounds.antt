@@ -1,7 +1,8 @@
--- Every refusal that a call can give has a number from 1 to 255 and a place below 256. Assumes nothing.
+-- Every refusal that a call can give has a number from 1 to 255 and a place below 256; the number and the mask of an
+-- ask fit 32 bits. Assumes nothing.
 use Prim.Native.Nat.{ℕ, zero, suc, _+_, _≤_, _<_}
 use native.Mathlib.Omega.{arith}
-use mathlib.Core.Path.{_≡_, refl, sym, _∙_}
+use mathlib.Core.Path.{_≡_, refl, sym, subst, _∙_}
 use mathlib.Core.Bool.{Bool, true, false, cond}
 use mathlib.Core.List.{List, [], _∷_, _++_}
 use lib.ListN.{length}
@@ -27,9 +28,14 @@ use Rattle.lineage.specs.declared.Flowed.the-variants as flowed
 use Rattle.lineage.proofs.PlanLaws.{plan-length}
 use Rattle.verdicts.specs.Answers.{userTests, judgeTests, judgeAnswer}
 use Rattle.verdicts.specs.declared.Judged.the-variants as judged
-use Rattle.ledger.specs.Answers.{ledgerTests, tallyTests, submitTests, unionMask, submitAnswer}
+use Rattle.verdicts.proofs.Sound.{mask-fits}
+use Rattle.ledger.specs.Answers.{ledgerTests, countTests, placeTests, numberTests, givenTo}
+use Rattle.ledger.specs.Answers.{askTests, askAccesses, askMask, askAnswer, settleTests, settleAnswer}
 use Rattle.ledger.specs.declared.Tally.{Tally}
-use Rattle.ledger.specs.declared.Submitted.the-variants as submitted
+use Rattle.ledger.specs.declared.Holds.{Holds}
+use Rattle.ledger.specs.declared.Reply.{Reply}
+use Rattle.ledger.specs.declared.Reply.the-variants as reply
+use Rattle.ledger.proofs.CallLaws.{ask-cases, given-few, settle-cases}
 use Rattle.search.specs.Answers.{ruleTests, bufferTests, idleTests, idlenessOf, idleAnswer}
 use Rattle.search.specs.Alone.{First, none, shown, firstAlone}
 use Rattle.search.specs.Choices.{Candidate}
@@ -186,7 +192,7 @@ plan-bounded head plan =
     flat-bounded (rowTests head plan) (rowCount plan)
     (λ i l. last-bounded _ _ _ (omega arith) (omega arith) (omega (arith, short .1))))
 
--- The nine calls
+-- The eleven calls
 
 -- an answer is a refusal only where a test refuses
 refused-small :
@@ -245,13 +251,17 @@ module _ (book : List ℕ) where
       (λ e. plan-bounded (headOf book) plan))
       (λ e. last-bounded _ _ _ (omega arith) (omega arith) (omega arith)))
 
+  user-bounded : (user : ℕ) → Bounded (bookTests book ++ userTests (headOf book) user)
+  unfolding userTests
+  user-bounded user =
+      append-bounded (bookTests book) (userTests (headOf book) user) (book-bounded book)
+      (λ e. last-bounded _ _ _ (omega arith) (omega arith) (omega arith))
+
   judge-bounded : (user : ℕ) (plan : List ℕ) → Bounded (judgeTests book user plan)
-  unfolding judgeTests userTests
+  unfolding judgeTests
   judge-bounded user plan =
       append-bounded (bookTests book ++ userTests (headOf book) user) (planTests (headOf book) plan)
-      (append-bounded (bookTests book) (userTests (headOf book) user) (book-bounded book)
-      (λ e. last-bounded _ _ _ (omega arith) (omega arith) (omega arith)))
-      (λ e. plan-bounded (headOf book) plan)
+      (user-bounded user) (λ e. plan-bounded (headOf book) plan)
 
   pub judge-small : (user : ℕ) (plan : List ℕ) (x : Refusal) → judgeAnswer book user plan ≡ judged.Refused x → Small x
   unfolding judgeAnswer
@@ -259,25 +269,27 @@ module _ (book : List ℕ) where
       refused-small (judgeTests book user plan) judged.Refused _ (λ x y e. cc)
       (λ x e. let z : _≡_ {A = ℕ} 0 1 = cc in omega arith) (judge-bounded user plan)
 
-  pub submit-small :
-      (user : ℕ) (plan ledger : List ℕ) (tally : Tally) (x : Refusal)
-      → submitAnswer book user plan ledger tally ≡ submitted.Refused x
-      → Small x
-  unfolding submitAnswer submitTests ledgerTests tallyTests
-  submit-small user plan ledger tally =
-      refused-small (submitTests book user plan ledger tally) submitted.Refused _ (λ x y e. cc)
-      (unlike (eqb (unionMask book user plan ledger) 0))
-      (append-bounded (judgeTests book user plan ++ ledgerTests ledger) (tallyTests user tally)
+  pub ask-bounded :
+      (user : ℕ) (plan ledger : List ℕ) (tally : Tally) (holds : Holds)
+      → Bounded (askTests book user plan ledger tally holds)
+  unfolding askTests ledgerTests countTests placeTests
+  ask-bounded user plan ledger tally holds =
+      append-bounded (judgeTests book user plan ++ ledgerTests ledger ++ countTests user tally holds) (placeTests holds)
+      (append-bounded (judgeTests book user plan ++ ledgerTests ledger) (countTests user tally holds)
       (append-bounded (judgeTests book user plan) (ledgerTests ledger) (judge-bounded user plan)
       (λ e. last-bounded _ _ _ (omega arith) (omega arith) (omega arith)))
       (λ e. last-bounded _ _ _ (omega arith) (omega arith) (omega arith)))
-    where
-      unlike :
-          (b : Bool) (x : Refusal)
-          → cond b submitted.Admitted (submitted.Declined (unionMask book user plan ledger)) ≡ submitted.Refused x
-          → ⊥
-      unlike true x e = let z : _≡_ {A = ℕ} 0 1 = cc in omega arith
-      unlike false x e = let z : _≡_ {A = ℕ} 0 1 = cc in omega arith
+      (λ e. last-bounded _ _ _ (omega arith) (omega arith) (omega arith))
+
+  pub settle-bounded :
+      (user number : ℕ) (ledger : List ℕ) (holds : Holds) → Bounded (settleTests book user number ledger holds)
+  unfolding settleTests ledgerTests numberTests
+  settle-bounded user number ledger holds =
+      append-bounded (bookTests book ++ userTests (headOf book) user ++ ledgerTests ledger)
+      (numberTests user number holds)
+      (append-bounded (bookTests book ++ userTests (headOf book) user) (ledgerTests ledger) (user-bounded user)
+      (λ e. last-bounded _ _ _ (omega arith) (omega arith) (omega arith)))
+      (λ e. last-bounded _ _ _ (omega arith) (omega arith) (omega arith))
 
   pub idle-small : (r : ℕ) (buffer : List ℕ) (x : Refusal) → idleAnswer book r buffer ≡ idleness.Refused x → Small x
   unfolding idleAnswer idleTests ruleTests bufferTests
@@ -323,3 +335,54 @@ module _ (book : List ℕ) where
       (λ e. plan-bounded (headOf book) plan))
       (λ e. last-bounded _ _ _ (omega arith) (omega arith) (omega arith)))
       (λ e. last-bounded _ _ _ (omega arith) (omega arith) (omega arith)))
+
+-- The replies of the three calls of the ledger, by cases
+
+module _ (book : List ℕ) (user : ℕ) (plan ledger : List ℕ) (tally : Tally) (holds : Holds) where
+  -- a refusal, a number from 1 to 1,000,000, or a mask of 32 bits that is not 0
+  pub ask-replies :
+      (P : Reply → Type 0)
+      → ((x : Refusal) → Small x → P (reply.Refused x))
+      → ((number : ℕ) → 1 ≤ number → number ≤ 1000000 → P (reply.Held number))
+      → ((mask : ℕ) → 0 < mask → mask < 4294967296 → P (reply.Declined mask))
+      → P (askAnswer book user plan ledger tally holds)
+  unfolding askAnswer answered refusedOr askMask
+  ask-replies P refused held declined =
+      ask-cases book user plan ledger tally holds
+      (λ t b.
+      P
+      (refusedOr t reply.Refused
+      (cond b (reply.Held (givenTo user tally holds + 1))
+      (reply.Declined (askMask book user plan ledger tally holds)))))
+      (λ x b e. refused x (ask-bounded book user plan ledger tally holds x e))
+      (λ given zero.
+      let few = given-few book user plan ledger tally holds given in
+      held (givenTo user tally holds + 1) (omega arith) (omega arith))
+      (λ given some.
+      declined (askMask book user plan ledger tally holds) (omega (arith, some))
+      (mask-fits book (given .judge-accepted .book-accepted) user (askAccesses book user plan ledger tally holds)))
+
+  pub ask-small : (x : Refusal) → askAnswer book user plan ledger tally holds ≡ reply.Refused x → Small x
+  ask-small x =
+      ask-replies (λ a. a ≡ reply.Refused x → Small x)
+      (λ y s e. let same : y ≡ x = cc in subst Small same s)
+      (λ n some most e. let z : _≡_ {A = ℕ} 0 1 = cc in absurd (omega arith))
+      (λ m some low e. let z : _≡_ {A = ℕ} 0 1 = cc in absurd (omega arith))
+
+module _ (book : List ℕ) (user number : ℕ) (ledger : List ℕ) (holds : Holds) where
+  -- a refusal, or the number given
+  pub settle-replies :
+      (P : Reply → Type 0)
+      → ((x : Refusal) → Small x → P (reply.Refused x))
+      → P (reply.Settled number)
+      → P (settleAnswer book user number ledger holds)
+  unfolding settleAnswer answered refusedOr
+  settle-replies P refused settled =
+      settle-cases book user number ledger holds (λ t. P (refusedOr t reply.Refused (reply.Settled number)))
+      (λ x e. refused x (settle-bounded book user number ledger holds x e)) (λ given. settled)
+
+  pub settle-small : (x : Refusal) → settleAnswer book user number ledger holds ≡ reply.Refused x → Small x
+  settle-small x =
+      settle-replies (λ a. a ≡ reply.Refused x → Small x)
+      (λ y s e. let same : y ≡ x = cc in subst Small same s)
+      (λ e. let z : _≡_ {A = ℕ} 0 1 = cc in absurd (omega arith))

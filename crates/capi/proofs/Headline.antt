@@ -1,12 +1,13 @@
--- What the numbers of pspec_judge, pspec_idle, pspec_blocked, pspec_culprits, pspec_submit and pspec_tree say: the
--- demands, over the packed answer. Assumes nothing.
-use Prim.Native.Nat.{ℕ, _+_, _-_, _*_, _/_, _%_, _^_, _≤_, _<_}
+-- What the numbers of pspec_judge, pspec_idle, pspec_blocked, pspec_culprits, pspec_ask, pspec_commit, pspec_drop and
+-- pspec_tree say: the demands, over the packed answer. Assumes nothing.
+use Prim.Native.Nat.{ℕ, _+_, _-_, _*_, _/_, _%_, _^_, _<_}
 use native.Mathlib.Omega.{arith}
 use mathlib.Core.Path.{_≡_, refl, sym, ap, subst, _∙_}
+use mathlib.Core.Bool.{Bool, true, false, cond}
 use mathlib.Core.List.{List}
 use lib.Pow.{pow-pos}
 use Rattle.book.specs.Blocks.{headOf}
-use Rattle.book.specs.Tests.{firstFailing}
+use Rattle.book.specs.Tests.{firstFailing, refusedOr, answered}
 use Rattle.book.specs.declared.Refusal.{Refusal}
 use Rattle.book.specs.declared.Tested.{Tested}
 use Rattle.book.specs.declared.Tested.the-variants as tested
@@ -20,18 +21,20 @@ use Rattle.verdicts.specs.declared.Judged.the-variants as judged
 use Rattle.verdicts.proofs.Gate.{judged-accepted, judged-demand}
 use Rattle.verdicts.proofs.JudgeLaws.{judge-answer, judge-passes}
 use Rattle.verdicts.proofs.Sound.{mask-fits}
-use Rattle.ledger.specs.Answers.{submitTests, joinedAccesses, unionMask, submitAnswer, ledgerAfter, submitLedger}
-use Rattle.ledger.specs.Answers.{tallyAfter, submitTally}
-use Rattle.ledger.specs.Demand.{Continues, SubmitAccepted}
-use Rattle.ledger.specs.Counts.{Pairs}
+use Rattle.ledger.specs.Ledger.{wordsOf, joinedFor}
+use Rattle.ledger.specs.Counts.{raisedFor}
+use Rattle.ledger.specs.Places.{emptyPlace, placeOf, placed, freed}
+use Rattle.ledger.specs.Answers.{givenTo, askTests, askAccesses, askMask, askAnswer, askTally, askHolds}
+use Rattle.ledger.specs.Answers.{settleTests, settleAnswer, settleHolds, commitLedger, commitTally, dropTally}
+use Rattle.ledger.specs.Histories.{Ask, Commit, Drop}
+use Rattle.ledger.specs.Demand.{AskAccepted, Continues, SettleAccepted}
 use Rattle.ledger.specs.declared.Tally.{Tally}
-use Rattle.ledger.specs.declared.Submitted.{Submitted}
-use Rattle.ledger.specs.declared.Submitted.the-variants as submitted
-use Rattle.ledger.proofs.WordLaws.{other-word}
-use Rattle.ledger.proofs.CountLaws.{pairAfter, own-pair, other-pair}
-use Rattle.ledger.proofs.SubmitLaws.{admitted-holds, by-reply, refused-answer, submit-passes, union-demand}
-use Rattle.ledger.proofs.SubmitLaws.{user-low}
-use Rattle.ledger.proofs.CallLaws.{continues}
+use Rattle.ledger.specs.declared.Holds.{Holds}
+use Rattle.ledger.specs.declared.Reply.{Reply}
+use Rattle.ledger.specs.declared.Reply.the-variants as reply
+use Rattle.ledger.proofs.WordLaws.{held-own, other-word}
+use Rattle.ledger.proofs.CallLaws.{ask-cases, ask-demand, ask-passes, given-few}
+use Rattle.ledger.proofs.CallLaws.{settle-cases, settle-passes, settler-low}
 use Rattle.search.specs.Answers.{idleTests, idleAnswer, idleBuffer}
 use Rattle.search.specs.Alone.{firstAlone}
 use Rattle.search.specs.Demand.{IdleAccepted}
@@ -55,17 +58,13 @@ use Rattle.trees.specs.declared.Drawn.{Drawn}
 use Rattle.trees.specs.declared.Drawn.the-variants as drawing
 use Rattle.trees.proofs.DemandLaws.{answer-accepted, answer-draws, answer-refused, tree-unrefused}
 use Rattle.capi.specs.Packing.{packed, refusalPacked, judgePacked, idlePacked, blockedPacked}
-use Rattle.capi.specs.Packing.{culpritsPacked, submitPacked, treePacked}
-use Rattle.capi.specs.Demands.{JudgeSays, IdleSays, BlockedParts, BlockedSays, CulpritsSays, SubmitSays, TreeSays}
-use Rattle.capi.proofs.Bounds.{Small, judge-small, idle-small, blocked-small, culprits-small, submit-small}
-use Rattle.capi.proofs.Bounds.{no-cause-refused, no-refusal, never-refused, tree-small}
+use Rattle.capi.specs.Packing.{culpritsPacked, replyPacked, treePacked}
+use Rattle.capi.specs.Demands.{JudgeSays, IdleSays, BlockedParts, BlockedSays, CulpritsSays, AskSays}
+use Rattle.capi.specs.Demands.{CommitSays, DropSays, TreeSays}
+use Rattle.capi.proofs.Bounds.{judge-small, idle-small, blocked-small, culprits-small, ask-bounded}
+use Rattle.capi.proofs.Bounds.{settle-bounded, no-cause-refused, no-refusal, never-refused, tree-small}
 use Rattle.capi.proofs.Masks.{asking-bits, asking-fits, asking-some}
-use Rattle.capi.proofs.Unpacking.{Bytes, judge-mask, idle-parts, blocked-bytes, tree-parts}
-
--- a refusal's number is past every value
-refusal-past : (x : Refusal) → Small x → 4294967296 ≤ refusalPacked x
-unfolding refusalPacked packed
-refusal-past x s = let n = s .number-some in omega arith
+use Rattle.capi.proofs.Unpacking.{Bytes, refusal-past, judge-mask, idle-parts, blocked-bytes, tree-parts}
 
 -- Judge
 
@@ -348,119 +347,321 @@ module _ (book : List ℕ) (r : ℕ) where
             named = λ p mask within parts f low. absurd (omega arith);
           }
 
--- Submit
+-- Ask
 
 module _
-    (book : List ℕ) (user : ℕ) (plan ledger : List ℕ) (tally : Tally) (pairs : Pairs tally) (answer : ℕ) where
-  -- what is said where this is the reply
-  abbrev Says : Submitted → Type 0
-  Says reply =
-      answer ≡ submitPacked reply
-      → Continues book user plan ledger (ledgerAfter book user plan ledger reply) tally (tallyAfter user reply tally)
-      → SubmitSays book user plan ledger (ledgerAfter book user plan ledger reply) tally (tallyAfter user reply tally)
-      answer
+    (book : List ℕ) (user : ℕ) (plan ledger : List ℕ) (tally : Tally) (holds : Holds) (answer : ℕ)
+  where
+    -- tally and hold record on leaving, by the outcome of the tests and by whether the plan is held
+    abbrev countedIf : Tested → Bool → Tally
+    countedIf t held =
+        refusedOr t (λ x. tally)
+        (cond held tally
+        (record {
+          admitted = tally .admitted;
+          declined = raisedFor (tally .declined) user;
+          dropped = tally .dropped;
+        }))
 
-  says-refused :
-      (x : Refusal)
-      → firstFailing (submitTests book user plan ledger tally) ≡ tested.Refused x
-      → Says (submitted.Refused x)
-  unfolding submitPacked ledgerAfter tallyAfter
-  says-refused x f same continued =
-      let h = refused-answer book user plan ledger tally x f in
-      let past = refusal-past x (submit-small book user plan ledger tally x h) in
-      let never : SubmitAccepted book user plan ledger tally → ⊥ =
-      λ given. refused-passed x (sym f ∙ submit-passes book user plan ledger tally given) in
-      record {
-        accepted = λ l. absurd (omega arith);
-        accepts = λ g. absurd (never g);
-        zero-satisfies = λ z. absurd (omega arith);
-        satisfies-zero = λ g s. absurd (never g);
-        demand = λ l. absurd (omega arith);
-        zero-holds = λ z. absurd (omega arith);
-        zero-counts = λ z. absurd (omega arith);
-        some-keeps = λ some. refl;
-        declined-counts = λ some l. absurd (omega arith);
-        refused-keeps = λ l. refl;
-        others-keep = λ w n. refl;
-        others-counted = λ other n. refl;
-        continues = continued;
-      }
+    abbrev keptIf : Tested → Bool → Holds
+    keptIf t held =
+        refusedOr t (λ x. holds)
+        (cond held
+        (placed holds (emptyPlace holds) user (givenTo user tally holds + 1) (accessWords (headOf book) plan)) holds)
 
-  module _ (given : SubmitAccepted book user plan ledger tally) where
-    says-admitted : unionMask book user plan ledger ≡ 0 → Says submitted.Admitted
-    unfolding submitPacked packed ledgerAfter pairAfter
-    says-admitted zero same continued =
-        let low = user-low book user plan ledger tally given in
-        let e : answer ≡ 0 = same ∙ omega arith in
-        let holds : Demand2 book user (joinedAccesses book user plan ledger) answer =
-        subst (Demand2 book user (joinedAccesses book user plan ledger)) (zero ∙ sym e)
-        (union-demand book user plan ledger tally given) in
+    -- what is said then
+    abbrev AskSaid : Tested → Bool → Type 0
+    AskSaid t held =
+        answer
+        ≡ replyPacked
+        (refusedOr t reply.Refused
+        (cond held (reply.Held (givenTo user tally holds + 1))
+        (reply.Declined (askMask book user plan ledger tally holds))))
+        → Continues book (record { user = user; call = Ask plan })
+        (record { ledger = ledger; tally = tally; holds = holds })
+        (record { ledger = ledger; tally = countedIf t held; holds = keptIf t held })
+        → AskSays book user plan ledger tally (countedIf t held) holds (keptIf t held) answer
+
+    ask-refused :
+        (x : Refusal) (held : Bool)
+        → firstFailing (askTests book user plan ledger tally holds) ≡ tested.Refused x
+        → AskSaid (tested.Refused x) held
+    unfolding replyPacked refusedOr
+    ask-refused x held f same continued =
+        let past = refusal-past x (ask-bounded book user plan ledger tally holds x f) in
+        let never : AskAccepted book user plan ledger tally holds → ⊥ =
+        λ given. refused-passed x (sym f ∙ ask-passes book user plan ledger tally holds given) in
         record {
-          accepted = λ l. given;
-          accepts = λ g. omega arith;
-          zero-satisfies = holds .zero-satisfies;
-          satisfies-zero = λ g s. e;
-          demand = λ l. holds;
-          zero-holds = λ z. admitted-holds book user plan ledger tally given;
-          zero-counts = λ z. own-pair user tally submitted.Admitted pairs low;
-          some-keeps = λ some. absurd (omega arith);
-          declined-counts = λ some l. absurd (omega arith);
-          refused-keeps = λ l. absurd (omega arith);
-          others-keep = other-word ledger user (accessWords (headOf book) plan);
-          others-counted = other-pair user tally submitted.Admitted;
+          accepted = λ l. absurd (omega arith);
+          accepts = λ g. absurd (never g);
+          held-satisfies = λ l m. absurd (omega arith);
+          satisfies-held = λ g s. absurd (never g);
+          held-number = λ l m. absurd (omega arith);
+          held-place = λ l m. absurd (omega arith);
+          held-counts = λ l m. absurd (omega arith);
+          declined-some = λ l. absurd (omega arith);
+          demand = λ l. absurd (omega arith);
+          declined-counts = λ l. absurd (omega arith);
+          declined-keeps = λ l. absurd (omega arith);
+          refused-keeps = λ l. (refl, refl);
           continues = continued;
         }
 
-    says-declined :
-        (unionMask book user plan ledger ≡ 0 → ⊥) → Says (submitted.Declined (unionMask book user plan ledger))
-    unfolding submitPacked packed ledgerAfter pairAfter unionMask
-    says-declined some same continued =
-        let union = unionMask book user plan ledger in
-        let e : answer ≡ union = same ∙ omega arith in
-        let low = mask-fits book (given .judge-accepted .book-accepted) user (joinedAccesses book user plan ledger) in
-        let holds : Demand2 book user (joinedAccesses book user plan ledger) answer =
-        subst (Demand2 book user (joinedAccesses book user plan ledger)) (sym e)
-        (union-demand book user plan ledger tally given) in
-        record {
-          accepted = λ l. given;
-          accepts = λ g. omega (arith, e, low);
-          zero-satisfies = holds .zero-satisfies;
-          satisfies-zero = λ g s. holds .satisfies-zero s;
-          demand = λ l. holds;
-          zero-holds = λ z. absurd (some (sym e ∙ z));
-          zero-counts = λ z. absurd (some (sym e ∙ z));
-          some-keeps = λ l. refl;
-          declined-counts =
-              λ l m.
-              own-pair user tally (submitted.Declined union) pairs (user-low book user plan ledger tally given);
-          refused-keeps = λ l. absurd (omega (arith, e, low));
-          others-keep = λ w n. refl;
-          others-counted = other-pair user tally (submitted.Declined (unionMask book user plan ledger));
-          continues = continued;
-        }
+    module _ (given : AskAccepted book user plan ledger tally holds) where
+      ask-held : askMask book user plan ledger tally holds ≡ 0 → AskSaid tested.Passed true
+      unfolding replyPacked packed refusedOr
+      ask-held zero same continued =
+          let few = given-few book user plan ledger tally holds given in
+          let e : answer ≡ 4294967296 + (givenTo user tally holds + 1) = same ∙ omega arith in
+          record {
+            accepted = λ l. given;
+            accepts = λ g. omega arith;
+            held-satisfies = λ l m. ask-demand book user plan ledger tally holds given .zero-satisfies zero;
+            satisfies-held = λ g s. omega arith;
+            held-number = λ l m. e;
+            held-place = λ l m. refl;
+            held-counts = λ l m. refl;
+            declined-some = λ l. absurd (omega arith);
+            demand = λ l. absurd (omega arith);
+            declined-counts = λ l. absurd (omega arith);
+            declined-keeps = λ l. absurd (omega arith);
+            refused-keeps = λ l. absurd (omega arith);
+            continues = continued;
+          }
+
+      ask-declined : (askMask book user plan ledger tally holds ≡ 0 → ⊥) → AskSaid tested.Passed false
+      unfolding replyPacked packed refusedOr askMask
+      ask-declined some same continued =
+          let mask = askMask book user plan ledger tally holds in
+          let e : answer ≡ mask = same ∙ omega arith in
+          let low : mask < 4294967296 =
+          mask-fits book (given .judge-accepted .book-accepted) user (askAccesses book user plan ledger tally holds) in
+          let says : Demand2 book user (askAccesses book user plan ledger tally holds) answer =
+          subst (Demand2 book user (askAccesses book user plan ledger tally holds)) (sym e)
+          (ask-demand book user plan ledger tally holds given) in
+          record {
+            accepted = λ l. given;
+            accepts = λ g. omega (arith, e, low);
+            held-satisfies = λ l m. absurd (omega (arith, e, low));
+            satisfies-held = λ g s. absurd (some (sym e ∙ says .satisfies-zero s));
+            held-number = λ l m. absurd (omega (arith, e, low));
+            held-place = λ l m. absurd (omega (arith, e, low));
+            held-counts = λ l m. absurd (omega (arith, e, low));
+            declined-some = λ l. omega (arith, e, some);
+            demand = λ l. says;
+            declined-counts = λ l. refl;
+            declined-keeps = λ l. refl;
+            refused-keeps = λ l. absurd (omega (arith, e, low));
+            continues = continued;
+          }
 
 -- the whole promise of the call
-pub submit-promised :
-    (book : List ℕ) (user : ℕ) (plan ledger : List ℕ) (tally : Tally) (answer : ℕ) (counted : Tally) (after : List ℕ)
-    → Pairs tally
-    → answer ≡ submitPacked (submitAnswer book user plan ledger tally)
-    → counted ≡ submitTally book user plan ledger tally
-    → after ≡ submitLedger book user plan ledger tally
-    → (answer ≡ submitPacked (submitAnswer book user plan ledger tally))
-    × (counted ≡ submitTally book user plan ledger tally)
-    × (after ≡ submitLedger book user plan ledger tally)
-    × SubmitSays book user plan ledger after tally counted answer
-unfolding submitLedger submitTally
-submit-promised book user plan ledger tally answer counted after pairs e et el = (
+pub ask-promised :
+    (book : List ℕ) (user : ℕ) (plan ledger : List ℕ) (tally : Tally) (holds : Holds) (answer : ℕ) (counted : Tally)
+    (kept : Holds)
+    → answer ≡ replyPacked (askAnswer book user plan ledger tally holds)
+    → counted ≡ askTally book user plan ledger tally holds
+    → kept ≡ askHolds book user plan ledger tally holds
+    → Continues book (record { user = user; call = Ask plan })
+    (record { ledger = ledger; tally = tally; holds = holds })
+    (record { ledger = ledger; tally = counted; holds = kept })
+    → (answer ≡ replyPacked (askAnswer book user plan ledger tally holds))
+    × (counted ≡ askTally book user plan ledger tally holds)
+    × (kept ≡ askHolds book user plan ledger tally holds)
+    × AskSays book user plan ledger tally counted holds kept answer
+unfolding askAnswer askTally askHolds answered
+ask-promised book user plan ledger tally holds answer counted kept e et eh continued = (
   e,
   et,
+  eh,
+  rw (et, eh)
+      (ask-cases book user plan ledger tally holds (AskSaid book user plan ledger tally holds answer)
+      (ask-refused book user plan ledger tally holds answer) (ask-held book user plan ledger tally holds answer)
+      (ask-declined book user plan ledger tally holds answer) e
+      (rw (et, eh) at continued)),
+)
+
+-- Commit and Drop
+
+module _
+    (book : List ℕ)
+    (user number : ℕ)
+    (ledger : List ℕ)
+    (tally : Tally)
+    (holds : Holds)
+    (answer : ℕ)
+    (fits : number < 4294967296)
+  where
+    -- what is refused was not accepted
+    never-accepted :
+        (x : Refusal)
+        → firstFailing (settleTests book user number ledger holds) ≡ tested.Refused x
+        → SettleAccepted book user number ledger holds
+        → ⊥
+    never-accepted x f given = refused-passed x (sym f ∙ settle-passes book user number ledger holds given)
+
+    -- the reply, and what is left, by the outcome of the tests
+    abbrev settledIf : Tested → Reply
+    settledIf t = refusedOr t reply.Refused (reply.Settled number)
+
+    abbrev ledgerIf : Tested → List ℕ
+    ledgerIf t =
+        refusedOr t (λ x. ledger) (joinedFor ledger user (wordsOf (holds .words) (placeOf holds user number)))
+
+    abbrev admittedIf : Tested → Tally
+    admittedIf t =
+        refusedOr t (λ x. tally)
+        (record {
+          admitted = raisedFor (tally .admitted) user;
+          declined = tally .declined;
+          dropped = tally .dropped;
+        })
+
+    abbrev droppedIf : Tested → Tally
+    droppedIf t =
+        refusedOr t (λ x. tally)
+        (record {
+          admitted = tally .admitted;
+          declined = tally .declined;
+          dropped = raisedFor (tally .dropped) user;
+        })
+
+    abbrev freedIf : Tested → Holds
+    freedIf t = refusedOr t (λ x. holds) (freed holds (placeOf holds user number))
+
+    abbrev CommitSaid : Tested → Type 0
+    CommitSaid t =
+        answer ≡ replyPacked (settledIf t)
+        → Continues book (record { user = user; call = Commit number })
+        (record { ledger = ledger; tally = tally; holds = holds })
+        (record { ledger = ledgerIf t; tally = admittedIf t; holds = freedIf t })
+        → CommitSays book user number ledger (ledgerIf t) tally (admittedIf t) holds (freedIf t) answer
+
+    commit-refused :
+        (x : Refusal)
+        → firstFailing (settleTests book user number ledger holds) ≡ tested.Refused x
+        → CommitSaid (tested.Refused x)
+    unfolding replyPacked refusedOr
+    commit-refused x f same continued =
+        let past = refusal-past x (settle-bounded book user number ledger holds x f) in
+        record {
+          accepted = λ l. absurd (omega arith);
+          accepts = λ g. absurd (never-accepted x f g);
+          joins = λ l. absurd (omega arith);
+          counts = λ l. absurd (omega arith);
+          frees = λ l. absurd (omega arith);
+          others-keep = λ w n. refl;
+          refused-keeps = λ l. (refl, refl, refl);
+          continues = continued;
+        }
+
+    commit-settled : SettleAccepted book user number ledger holds → CommitSaid tested.Passed
+    unfolding replyPacked packed refusedOr
+    commit-settled given same continued =
+        let e : answer ≡ number = same ∙ omega arith in
+        let low = settler-low book user number ledger holds given in
+        let whole = given .ledger-whole in
+        let words = wordsOf (holds .words) (placeOf holds user number) in
+        record {
+          accepted = λ l. given;
+          accepts = λ g. e;
+          joins = λ l. held-own ledger user words (omega arith);
+          counts = λ l. refl;
+          frees = λ l. refl;
+          others-keep = other-word ledger user words;
+          refused-keeps = λ l. absurd (omega arith);
+          continues = continued;
+        }
+
+    abbrev DropSaid : Tested → Type 0
+    DropSaid t =
+        answer ≡ replyPacked (settledIf t)
+        → Continues book (record { user = user; call = Drop number })
+        (record { ledger = ledger; tally = tally; holds = holds })
+        (record { ledger = ledger; tally = droppedIf t; holds = freedIf t })
+        → DropSays book user number ledger tally (droppedIf t) holds (freedIf t) answer
+
+    drop-refused :
+        (x : Refusal)
+        → firstFailing (settleTests book user number ledger holds) ≡ tested.Refused x
+        → DropSaid (tested.Refused x)
+    unfolding replyPacked refusedOr
+    drop-refused x f same continued =
+        let past = refusal-past x (settle-bounded book user number ledger holds x f) in
+        record {
+          accepted = λ l. absurd (omega arith);
+          accepts = λ g. absurd (never-accepted x f g);
+          counts = λ l. absurd (omega arith);
+          frees = λ l. absurd (omega arith);
+          refused-keeps = λ l. (refl, refl);
+          continues = continued;
+        }
+
+    drop-settled : SettleAccepted book user number ledger holds → DropSaid tested.Passed
+    unfolding replyPacked packed refusedOr
+    drop-settled given same continued =
+        let e : answer ≡ number = same ∙ omega arith in
+        record {
+          accepted = λ l. given;
+          accepts = λ g. e;
+          counts = λ l. refl;
+          frees = λ l. refl;
+          refused-keeps = λ l. absurd (omega arith);
+          continues = continued;
+        }
+
+-- the whole promises of the two calls
+pub commit-promised :
+    (book : List ℕ) (user number : ℕ) (before after : List ℕ) (tally counted : Tally) (holds kept : Holds) (answer : ℕ)
+    → number < 4294967296
+    → answer ≡ replyPacked (settleAnswer book user number before holds)
+    → counted ≡ commitTally book user number before holds tally
+    → kept ≡ settleHolds book user number before holds
+    → after ≡ commitLedger book user number before holds
+    → Continues book (record { user = user; call = Commit number })
+    (record { ledger = before; tally = tally; holds = holds })
+    (record { ledger = after; tally = counted; holds = kept })
+    → (answer ≡ replyPacked (settleAnswer book user number before holds))
+    × (counted ≡ commitTally book user number before holds tally)
+    × (kept ≡ settleHolds book user number before holds)
+    × (after ≡ commitLedger book user number before holds)
+    × CommitSays book user number before after tally counted holds kept answer
+unfolding settleAnswer commitTally settleHolds commitLedger answered
+commit-promised book user number before after tally counted holds kept answer fits e et eh el continued = (
+  e,
+  et,
+  eh,
   el,
-  rw (et, el)
-      (by-reply book user plan ledger tally (Says book user plan ledger tally pairs answer)
-      (says-refused book user plan ledger tally pairs answer) (says-admitted book user plan ledger tally pairs answer)
-      (says-declined book user plan ledger tally pairs answer) e
-      (continues book user plan ledger tally (submitLedger book user plan ledger tally)
-      (submitTally book user plan ledger tally) refl refl)),
+  rw (et, eh, el)
+      (settle-cases book user number before holds (CommitSaid book user number before tally holds answer fits)
+      (commit-refused book user number before tally holds answer fits)
+      (commit-settled book user number before tally holds answer fits) e
+      (rw (et, eh, el) at continued)),
+)
+
+pub drop-promised :
+    (book : List ℕ) (user number : ℕ) (ledger : List ℕ) (tally counted : Tally) (holds kept : Holds) (answer : ℕ)
+    → number < 4294967296
+    → answer ≡ replyPacked (settleAnswer book user number ledger holds)
+    → counted ≡ dropTally book user number ledger holds tally
+    → kept ≡ settleHolds book user number ledger holds
+    → Continues book (record { user = user; call = Drop number })
+    (record { ledger = ledger; tally = tally; holds = holds })
+    (record { ledger = ledger; tally = counted; holds = kept })
+    → (answer ≡ replyPacked (settleAnswer book user number ledger holds))
+    × (counted ≡ dropTally book user number ledger holds tally)
+    × (kept ≡ settleHolds book user number ledger holds)
+    × DropSays book user number ledger tally counted holds kept answer
+unfolding settleAnswer dropTally settleHolds answered
+drop-promised book user number ledger tally counted holds kept answer fits e et eh continued = (
+  e,
+  et,
+  eh,
+  rw (et, eh)
+      (settle-cases book user number ledger holds (DropSaid book user number ledger tally holds answer fits)
+      (drop-refused book user number ledger tally holds answer fits)
+      (drop-settled book user number ledger tally holds answer fits) e
+      (rw (et, eh) at continued)),
 )
 
 -- Tree

@@ -3,3 +3,4 @@ pub mod Masks
 pub mod PackedLaws
 pub mod Unpacking
 pub mod Headline
+pub mod RecordSteps

@@ -2,7 +2,7 @@
 -- Assumes nothing.
 use Prim.Native.Nat.{ℕ, _+_, _-_, _*_, _%_, _^_, _<_}
 use native.Mathlib.Omega.{arith}
-use mathlib.Core.Path.{_≡_, sym, _∙_}
+use mathlib.Core.Path.{_≡_, sym, ap, _∙_}
 use mathlib.Core.List.{List}
 use lib.Bits.{bitOr, or-comm}
 use Rattle.book.specs.Answers.{checkAnswer, sealAnswer}
@@ -18,10 +18,8 @@ use Rattle.lineage.specs.declared.Flowed.the-variants as flowed
 use Rattle.verdicts.specs.Answers.{judgeAnswer}
 use Rattle.verdicts.specs.declared.Judged.{Judged}
 use Rattle.verdicts.specs.declared.Judged.the-variants as judged
-use Rattle.ledger.specs.Answers.{submitAnswer}
-use Rattle.ledger.specs.declared.Tally.{Tally}
-use Rattle.ledger.specs.declared.Submitted.{Submitted}
-use Rattle.ledger.specs.declared.Submitted.the-variants as submitted
+use Rattle.ledger.specs.declared.Reply.{Reply}
+use Rattle.ledger.specs.declared.Reply.the-variants as reply
 use Rattle.search.specs.Answers.{idleAnswer}
 use Rattle.search.specs.declared.Idleness.{Idleness}
 use Rattle.search.specs.declared.Idleness.the-variants as idleness
@@ -35,9 +33,9 @@ use Rattle.trees.specs.Answers.{treeAnswer}
 use Rattle.trees.specs.declared.Drawn.{Drawn}
 use Rattle.trees.specs.declared.Drawn.the-variants as drawing
 use Rattle.capi.specs.Packing.{packed, refusalPacked, checkPacked, sealPacked, flowsPacked, judgePacked}
-use Rattle.capi.specs.Packing.{idlePacked, blockedPacked, culpritsPacked, submitPacked, treePacked}
+use Rattle.capi.specs.Packing.{idlePacked, blockedPacked, culpritsPacked, replyPacked, treePacked}
 use Rattle.capi.proofs.Bounds.{Small, check-small, seal-small, flows-small, judge-small, idle-small}
-use Rattle.capi.proofs.Bounds.{blocked-small, culprits-small, submit-small, tree-small}
+use Rattle.capi.proofs.Bounds.{blocked-small, culprits-small, tree-small}
 use Rattle.capi.proofs.Masks.{both}
 
 -- below 256 a number is its last byte
@@ -152,32 +150,36 @@ module _ (book : List ℕ) (rule : ℕ) (a : Causes) (same : a ≡ culpritsAnswe
       or-comm mask (2 ^ rule) ∙ sym (both mask rule (m .2) low (m .3)) in
       rw (h, number, bit, sum) (omega arith)
 
-module _
-    (book : List ℕ)
-    (user : ℕ)
-    (plan ledger : List ℕ)
-    (tally : Tally)
-    (a : Submitted)
-    (same : a ≡ submitAnswer book user plan ledger tally)
-  where
-    pub submit-refused :
-        (x : Refusal) (r : ℕ)
-        → a ≡ submitted.Refused x
-        → Packs r x
-        → r ≡ submitPacked (submitAnswer book user plan ledger tally)
-    unfolding submitPacked
-    submit-refused x r e p =
-        let h = sym same ∙ e in
-        rw h (small-packs r x (submit-small book user plan ledger tally x h) p)
+-- r is the packed reply, if a refusal fits its two bytes
+abbrev pub ReplyPacks : ℕ → Reply → Type 0
+ReplyPacks r a = ((x : Refusal) → a ≡ reply.Refused x → (x .number < 256) × (x .place < 256)) → r ≡ replyPacked a
 
-    pub submit-declined :
-        (mask : ℕ) → a ≡ submitted.Declined mask → mask ≡ submitPacked (submitAnswer book user plan ledger tally)
-    unfolding submitPacked packed
-    submit-declined mask e = rw (sym same ∙ e) (omega arith)
+module _ (a : Reply) where
+  pub reply-refused : (x : Refusal) (r : ℕ) → a ≡ reply.Refused x → Packs r x → ReplyPacks r a
+  unfolding replyPacked
+  reply-refused x r e p small = let s = small x e in rw e (p (s .0) (s .1))
 
-    pub submit-admitted : a ≡ submitted.Admitted → 0 ≡ submitPacked (submitAnswer book user plan ledger tally)
-    unfolding submitPacked packed
-    submit-admitted e = rw (sym same ∙ e) (omega arith)
+  pub reply-held : (number : ℕ) → a ≡ reply.Held number → 4294967296 + number ≡ replyPacked a
+  unfolding replyPacked packed
+  reply-held number e = rw e (omega arith)
+
+  pub reply-declined : (mask : ℕ) → a ≡ reply.Declined mask → mask ≡ replyPacked a
+  unfolding replyPacked packed
+  reply-declined mask e = rw e (omega arith)
+
+  pub reply-settled : (number : ℕ) → a ≡ reply.Settled number → number ≡ replyPacked a
+  unfolding replyPacked packed
+  reply-settled number e = rw e (omega arith)
+
+-- the reply of a call whose refusals fit
+pub reply-same :
+    (a b : Reply) (r : ℕ)
+    → a ≡ b
+    → ((x : Refusal) → b ≡ reply.Refused x → Small x)
+    → ReplyPacks r a
+    → r ≡ replyPacked b
+reply-same a b r same small packs =
+    packs (λ x e. let s = small x (sym same ∙ e) in (s .number-small, s .place-small)) ∙ ap replyPacked same
 
 module _
     (book plan : List ℕ) (row : ℕ) (buffer : List ℕ) (a : Drawn) (same : a ≡ treeAnswer book plan row buffer)

@@ -29,10 +29,11 @@ use Rattle.verdicts.proofs.Gate.{judged-accepted}
 use Rattle.verdicts.proofs.JudgeLaws.{judge-answer, judge-passes}
 use Rattle.verdicts.proofs.Sound.{mask-fits}
 use Rattle.verdicts.proofs.Users.{user-below}
-use Rattle.ledger.specs.Answers.{joinedAccesses, unionMask, submitAnswer}
+use Rattle.ledger.specs.Answers.{askAnswer, settleAnswer}
 use Rattle.ledger.specs.declared.Tally.{Tally}
-use Rattle.ledger.specs.declared.Submitted.the-variants as submitted
-use Rattle.ledger.proofs.SubmitLaws.{by-reply}
+use Rattle.ledger.specs.declared.Holds.{Holds}
+use Rattle.ledger.specs.declared.Reply.{Reply}
+use Rattle.ledger.specs.declared.Reply.the-variants as reply
 use Rattle.search.specs.Choices.{Candidate, isChoice, isChoiceFrom}
 use Rattle.search.specs.Shown.{shownPlan, shownFrom, accessRows, columnRow, applyRow, lastRow, rowsOf}
 use Rattle.search.specs.Alone.{First, none, shown, firstAlone}
@@ -56,9 +57,10 @@ use Rattle.trees.specs.Answers.{treeAnswer}
 use Rattle.trees.specs.declared.Drawn.the-variants as drawing
 use Rattle.trees.proofs.DemandLaws.{answer-draws}
 use Rattle.capi.specs.Packing.{packed, refusalPacked, checkPacked, sealPacked, flowsPacked, judgePacked}
-use Rattle.capi.specs.Packing.{idlePacked, blockedPacked, culpritsPacked, submitPacked, treePacked}
+use Rattle.capi.specs.Packing.{idlePacked, blockedPacked, culpritsPacked, replyPacked, treePacked}
 use Rattle.capi.proofs.Bounds.{Small, check-small, seal-small, flows-small, judge-small, idle-small}
-use Rattle.capi.proofs.Bounds.{blocked-small, culprits-small, submit-small, tree-small}
+use Rattle.capi.proofs.Bounds.{blocked-small, culprits-small, ask-small, settle-small, tree-small}
+use Rattle.capi.proofs.Bounds.{ask-replies, settle-replies}
 use Rattle.capi.proofs.Masks.{asking-bits, asking-fits, asking-some}
 
 -- what is taken out of r: the bits from 40 on, the 8 bits from 32 on, the low 32 bits
@@ -82,6 +84,11 @@ Refuses r x = Parts r (x .number) (x .place) 0 × (1 ≤ x .number)
 refusal-parts : (x : Refusal) → Small x → Refuses (refusalPacked x) x
 unfolding refusalPacked
 refusal-parts x s = (packed-parts (x .number) (x .place) 0 (s .place-small) (omega arith), s .number-some)
+
+-- the least refusal has number 1 and place 0
+pub refusal-past : (x : Refusal) → Small x → 1099511627776 ≤ refusalPacked x
+unfolding refusalPacked packed
+refusal-past x s = let n = s .number-some in omega arith
 
 module _ (x : Refusal) where
   pub check-refused-parts :
@@ -129,13 +136,21 @@ module _ (x : Refusal) where
   unfolding culpritsPacked
   culprits-refused-parts book r h = rw h (refusal-parts x (culprits-small book r x h))
 
-  pub submit-refused-parts :
-      (book : List ℕ) (user : ℕ) (plan ledger : List ℕ) (tally : Tally)
-      → submitAnswer book user plan ledger tally ≡ submitted.Refused x
-      → Refuses (submitPacked (submitAnswer book user plan ledger tally)) x
-  unfolding submitPacked
-  submit-refused-parts book user plan ledger tally h =
-      rw h (refusal-parts x (submit-small book user plan ledger tally x h))
+  pub ask-refused-parts :
+      (book : List ℕ) (user : ℕ) (plan ledger : List ℕ) (tally : Tally) (holds : Holds)
+      → askAnswer book user plan ledger tally holds ≡ reply.Refused x
+      → Refuses (replyPacked (askAnswer book user plan ledger tally holds)) x
+  unfolding replyPacked
+  ask-refused-parts book user plan ledger tally holds h =
+      rw h (refusal-parts x (ask-small book user plan ledger tally holds x h))
+
+  pub settle-refused-parts :
+      (book : List ℕ) (user number : ℕ) (ledger : List ℕ) (holds : Holds)
+      → settleAnswer book user number ledger holds ≡ reply.Refused x
+      → Refuses (replyPacked (settleAnswer book user number ledger holds)) x
+  unfolding replyPacked
+  settle-refused-parts book user number ledger holds h =
+      rw h (refusal-parts x (settle-small book user number ledger holds x h))
 
   pub tree-refused-parts :
       (book plan : List ℕ) (row : ℕ) (buffer : List ℕ)
@@ -333,33 +348,129 @@ culprits-parts book r mask h =
       asking-bits mask r (m .2) (m .1) (m .3),
     )
 
--- Submit: the mask of a plan that is declined has 32 bits and is not 0, so that r is not admitted's 0
+-- Ask: a held plan has bit 32 and a number from 1 to 1,000,000, a declined one a mask of 32 bits that is not 0
 
-module _ (book : List ℕ) (user : ℕ) (plan ledger : List ℕ) (tally : Tally) where
-  pub declined-mask :
-      (mask : ℕ)
-      → submitAnswer book user plan ledger tally ≡ submitted.Declined mask
-      → (0 < mask) × (mask < 4294967296)
-  unfolding unionMask
-  declined-mask mask h =
-      by-reply book user plan ledger tally (λ s. s ≡ submitted.Declined mask → (0 < mask) × (mask < 4294967296))
-      (λ r e f. let z : _≡_ {A = ℕ} 0 1 = cc in absurd (omega arith))
-      (λ given zero f. let z : _≡_ {A = ℕ} 0 1 = cc in absurd (omega arith))
-      (λ given some f.
-      let union = unionMask book user plan ledger in
-      let same : union ≡ mask = cc in
-      let low = mask-fits book (given .judge-accepted .book-accepted) user (joinedAccesses book user plan ledger) in
-      (omega (arith, some), omega (arith, same, low)))
-      h
+module _ (book : List ℕ) (user : ℕ) (plan ledger : List ℕ) (tally : Tally) (holds : Holds) where
+  pub held-parts :
+      (number : ℕ)
+      → askAnswer book user plan ledger tally holds ≡ reply.Held number
+      → Parts (replyPacked (askAnswer book user plan ledger tally holds)) 0 1 number
+      × (1 ≤ number)
+      × (number ≤ 1000000)
+  unfolding replyPacked
+  held-parts number =
+      ask-replies book user plan ledger tally holds
+      (λ a. a ≡ reply.Held number → Parts (replyPacked a) 0 1 number × (1 ≤ number) × (number ≤ 1000000))
+      (λ x s e. let z : _≡_ {A = ℕ} 0 1 = cc in absurd (omega arith))
+      (λ n some most e.
+      let same : n ≡ number = cc in
+      rw same (packed-parts 0 1 number (omega arith) (omega arith), omega arith, omega arith))
+      (λ m some low e. let z : _≡_ {A = ℕ} 0 1 = cc in absurd (omega arith))
 
-  pub submit-parts :
+  pub declined-parts :
       (mask : ℕ)
-      → submitAnswer book user plan ledger tally ≡ submitted.Declined mask
-      → Parts (submitPacked (submitAnswer book user plan ledger tally)) 0 0 mask × (0 < mask)
-  unfolding submitPacked
-  submit-parts mask h =
-      let m = declined-mask mask h in
-      (rw h (packed-parts 0 0 mask (omega arith) (m .1)), m .0)
+      → askAnswer book user plan ledger tally holds ≡ reply.Declined mask
+      → Parts (replyPacked (askAnswer book user plan ledger tally holds)) 0 0 mask × (0 < mask)
+  unfolding replyPacked
+  declined-parts mask =
+      ask-replies book user plan ledger tally holds
+      (λ a. a ≡ reply.Declined mask → Parts (replyPacked a) 0 0 mask × (0 < mask))
+      (λ x s e. let z : _≡_ {A = ℕ} 0 1 = cc in absurd (omega arith))
+      (λ n some most e. let z : _≡_ {A = ℕ} 0 1 = cc in absurd (omega arith))
+      (λ m some low e.
+      let same : m ≡ mask = cc in
+      rw same (packed-parts 0 0 mask (omega arith) (omega arith), omega arith))
+
+-- a refusal, as it is read from its number
+abbrev pub readRefusal : ℕ → Refusal
+readRefusal answer = record { number = answer / 1099511627776; place = answer / 4294967296 % 256 }
+
+refusal-read : (x : Refusal) → Small x → reply.Refused x ≡ reply.Refused (readRefusal (refusalPacked x))
+refusal-read x s =
+    let p = refusal-parts x s .0 in
+    rw (p .number-part, p .place-part)
+
+-- the reply, as it is read from the number of pspec_ask
+pub record AskRead (answer : ℕ) (said : Reply) : Type 0 where
+  -- below 2^32: declined, with the number itself as the mask, which is not 0
+  pub declined : answer < 4294967296 → (said ≡ reply.Declined answer) × (0 < answer)
+  -- bit 32 and none above it: held, with the low 32 bits as the hold's number
+  pub held :
+      answer / 4294967296 ≡ 1
+      → (said ≡ reply.Held (answer % 4294967296))
+      × (1 ≤ answer % 4294967296)
+      × (answer % 4294967296 ≤ 1000000)
+  -- from 2^40 on: refused
+  pub refused : 1099511627776 ≤ answer → said ≡ reply.Refused (readRefusal answer)
+  -- and there is no other number
+  pub no-other : answer < 1099511627776 → answer / 4294967296 ≤ 1
+
+pub ask-read :
+    (book : List ℕ) (user : ℕ) (plan ledger : List ℕ) (tally : Tally) (holds : Holds)
+    → AskRead (replyPacked (askAnswer book user plan ledger tally holds))
+    (askAnswer book user plan ledger tally holds)
+unfolding replyPacked
+ask-read book user plan ledger tally holds =
+    ask-replies book user plan ledger tally holds (λ a. AskRead (replyPacked a) a)
+    (λ x s.
+    let past = refusal-past x s in
+    record {
+      declined = λ l. absurd (omega arith);
+      held = λ e. absurd (omega arith);
+      refused = λ l. refusal-read x s;
+      no-other = λ l. absurd (omega arith);
+    })
+    (λ n some most.
+    let p = packed-parts 0 1 n (omega arith) (omega arith) in
+    let quotient = p .number-part in
+    let place = p .place-part in
+    let value = p .value-part in
+    record {
+      declined = λ l. absurd (omega arith);
+      held = λ e. (rw value, rw value (omega arith), rw value (omega arith));
+      refused = λ l. absurd (omega arith);
+      no-other = λ l. omega arith;
+    })
+    (λ m some low.
+    let p = packed-parts 0 0 m (omega arith) (omega arith) in
+    let quotient = p .number-part in
+    let place = p .place-part in
+    let value = p .value-part in
+    let same : packed 0 0 m ≡ m = omega arith in
+    record {
+      declined = λ l. rw same (refl, some);
+      held = λ e. absurd (omega arith);
+      refused = λ l. absurd (omega arith);
+      no-other = λ l. omega arith;
+    })
+
+-- Commit and Drop: a number of 32 bits
+
+-- the reply, as it is read from the number of pspec_commit or pspec_drop
+pub record SettleRead (answer : ℕ) (said : Reply) : Type 0 where
+  -- below 2^32: done, with the number itself as the hold's
+  pub settled : answer < 4294967296 → said ≡ reply.Settled answer
+  -- from there on: refused
+  pub refused : 4294967296 ≤ answer → said ≡ reply.Refused (readRefusal answer)
+
+module _ (book : List ℕ) (user number : ℕ) (ledger : List ℕ) (holds : Holds) (fits : number < 4294967296) where
+  pub settled-parts :
+      settleAnswer book user number ledger holds ≡ reply.Settled number
+      → Parts (replyPacked (settleAnswer book user number ledger holds)) 0 0 number
+  unfolding replyPacked
+  settled-parts h = rw h (packed-parts 0 0 number (omega arith) fits)
+
+  pub settle-read :
+      SettleRead (replyPacked (settleAnswer book user number ledger holds))
+      (settleAnswer book user number ledger holds)
+  unfolding replyPacked packed
+  settle-read =
+      settle-replies book user number ledger holds (λ a. SettleRead (replyPacked a) a)
+      (λ x s.
+      let past = refusal-past x s in
+      record { settled = λ l. absurd (omega arith); refused = λ l. refusal-read x s })
+      (let same : packed 0 0 number ≡ number = omega arith in
+      record { settled = λ l. rw same; refused = λ l. absurd (omega arith) })
 
 -- Tree: 1 to 4,096 nodes of at most 136 bytes, which go apart again
 

@@ -1,6 +1,6 @@
--- What the numbers of pspec_judge, pspec_idle, pspec_blocked, pspec_culprits, pspec_submit and pspec_tree say, for
--- whoever calls the C library: demands 2 and 3, N1, N3, N6, N7 and N8 over the number itself. A number from 2^32 on is
--- a refusal; below it, it is the value. Assumes nothing.
+-- What the numbers of pspec_judge, pspec_idle, pspec_blocked, pspec_culprits, pspec_ask, pspec_commit, pspec_drop and
+-- pspec_tree say, for whoever calls the C library: demands 2 and 3, N1, N3, N6, N7, N8 and N10 over the number itself.
+-- A number from 2^32 on is a refusal, but for pspec_ask; below it, it is the value. Assumes nothing.
 use Prim.Native.Nat.{ℕ, _+_, _/_, _%_, _^_, _≤_, _<_}
 use mathlib.Core.Path.{_≡_}
 use mathlib.Core.List.{List}
@@ -8,14 +8,18 @@ use lib.ListN.{getD}
 use Rattle.book.specs.Sets.{has}
 use Rattle.book.specs.Blocks.{Book, headOf, ruleAt}
 use Rattle.lineage.specs.Rows.{Plan}
-use Rattle.verdicts.specs.Accesses.{Access, accessesOf}
+use Rattle.lineage.specs.Accesses.{accessWords}
+use Rattle.verdicts.specs.Accesses.{Access, accessesOf, heldBy, union}
 use Rattle.verdicts.specs.Semantics.{SatisfiesPolicy}
 use Rattle.verdicts.specs.Demand.{JudgeAccepted, Demand2}
-use Rattle.ledger.specs.Ledger.{Ledger, heldFor}
-use Rattle.ledger.specs.Counts.{pairOf}
-use Rattle.ledger.specs.Answers.{joinedAccesses}
-use Rattle.ledger.specs.Demand.{SubmitAccepted, Continues}
+use Rattle.ledger.specs.Ledger.{Ledger, wordsOf, admittedFor}
+use Rattle.ledger.specs.Counts.{raisedFor}
+use Rattle.ledger.specs.Places.{emptyPlace, placeOf, placed, freed}
+use Rattle.ledger.specs.Answers.{givenTo, askAccesses}
+use Rattle.ledger.specs.Histories.{Ask, Commit, Drop}
+use Rattle.ledger.specs.Demand.{AskAccepted, SettleAccepted, Continues}
 use Rattle.ledger.specs.declared.Tally.{Tally}
+use Rattle.ledger.specs.declared.Holds.{Holds}
 use Rattle.search.specs.Demand.{IdleAccepted, NobodyAlone, ShownIn}
 use Rattle.blocked.specs.Associations.{Pair}
 use Rattle.blocked.specs.Few.{withAsking}
@@ -108,43 +112,109 @@ pub record CulpritsSays (book : Book) (r : ℕ) (answer : ℕ) : Type 0 where
       → answer < refusals
       → Behind book r p mask
 
--- pspec_submit: the number is the mask of the union, 0 when the plan is admitted
-pub record SubmitSays
-    (book : Book) (user : ℕ) (plan : Plan) (before after : Ledger) (tally counted : Tally) (answer : ℕ) : Type 0
+-- the least refusal has number 1 and place 0: a held ask lies below it
+abbrev pub leastRefusal : ℕ
+leastRefusal = 1099511627776
+
+-- pspec_ask: the number is 2^32 + the hold's number, or the mask of the union
+pub record AskSays
+    (book : Book) (user : ℕ) (plan : Plan) (ledger : Ledger) (tally counted : Tally) (holds kept : Holds) (answer : ℕ)
+    : Type 0
   where
-    -- nothing is refused exactly when book, user and plan are accepted, the ledger is whole and the user's counts have
-    -- room
-    pub accepted : answer < refusals → SubmitAccepted book user plan before tally
-    pub accepts : SubmitAccepted book user plan before tally → answer < refusals
-    -- 0 opens the gate: exactly for an accepted submission whose plan, with all that is held for its user, satisfies the
-    -- policy
-    pub zero-satisfies : answer ≡ 0 → SatisfiesPolicy book user (joinedAccesses book user plan before)
-    pub satisfies-zero :
-        SubmitAccepted book user plan before tally
-        → SatisfiesPolicy book user (joinedAccesses book user plan before)
-        → answer ≡ 0
-    -- bit r tells whether they satisfy rule r
-    pub demand : answer < refusals → Demand2 book user (joinedAccesses book user plan before) answer
-    -- 0: the plan is held for its user too, and is counted for him
-    pub zero-holds : answer ≡ 0 → (x : Access) → heldFor after user x ≡ joinedAccesses book user plan before x
-    pub zero-counts :
-        answer ≡ 0
-        → pairOf counted user
-        ≡ record { admitted = pairOf tally user .admitted + 1; declined = pairOf tally user .declined }
-    -- otherwise the ledger is as it was; a plan that is declined is counted for its user, one that is refused is not
-    pub some-keeps : 0 < answer → after ≡ before
+    -- nothing is refused exactly when book, user and plan are accepted, the ledger is whole, the user is below his
+    -- million and a place is empty
+    pub accepted : answer < leastRefusal → AskAccepted book user plan ledger tally holds
+    pub accepts : AskAccepted book user plan ledger tally holds → answer < leastRefusal
+    -- bit 32 is set exactly for an accepted ask whose plan, with its user's words and held plans, satisfies the policy
+    pub held-satisfies :
+        refusals ≤ answer
+        → answer < leastRefusal
+        → SatisfiesPolicy book user (askAccesses book user plan ledger tally holds)
+    pub satisfies-held :
+        AskAccepted book user plan ledger tally holds
+        → SatisfiesPolicy book user (askAccesses book user plan ledger tally holds)
+        → refusals ≤ answer
+    -- then the low 32 bits are the number, and the plan's own accesses lie in the lowest empty place
+    pub held-number : refusals ≤ answer → answer < leastRefusal → answer ≡ refusals + (givenTo user tally holds + 1)
+    pub held-place :
+        refusals ≤ answer
+        → answer < leastRefusal
+        → kept ≡ placed holds (emptyPlace holds) user (givenTo user tally holds + 1) (accessWords (headOf book) plan)
+    pub held-counts : refusals ≤ answer → answer < leastRefusal → counted ≡ tally
+    -- otherwise they are the mask, which is not 0: bit r tells whether the union satisfies rule r
+    pub declined-some : answer < refusals → 0 < answer
+    pub demand : answer < refusals → Demand2 book user (askAccesses book user plan ledger tally holds) answer
     pub declined-counts :
-        0 < answer
-        → answer < refusals
-        → pairOf counted user
-        ≡ record { admitted = pairOf tally user .admitted; declined = pairOf tally user .declined + 1 }
-    pub refused-keeps : refusals ≤ answer → counted ≡ tally
-    -- no word of another user changes, and no count
+        answer < refusals
+        → counted
+        ≡ record {
+          admitted = tally .admitted;
+          declined = raisedFor (tally .declined) user;
+          dropped = tally .dropped;
+        }
+    pub declined-keeps : answer < refusals → kept ≡ holds
+    -- a refusal changes nothing
+    pub refused-keeps : leastRefusal ≤ answer → (counted ≡ tally) × (kept ≡ holds)
+    -- after a list of calls from fresh, this one is the next of the list, what is left keeps the promise, and each user
+    -- has what every list alike for him gives him
+    pub continues :
+        Continues book (record { user = user; call = Ask plan })
+        (record { ledger = ledger; tally = tally; holds = holds })
+        (record { ledger = ledger; tally = counted; holds = kept })
+
+-- pspec_commit: the number is the one given
+pub record CommitSays
+    (book : Book) (user number : ℕ) (before after : Ledger) (tally counted : Tally) (holds kept : Holds) (answer : ℕ)
+    : Type 0
+  where
+    -- nothing is refused exactly when book and user are accepted, the ledger is whole and the user holds the number
+    pub accepted : answer < refusals → SettleAccepted book user number before holds
+    pub accepts : SettleAccepted book user number before holds → answer ≡ number
+    -- then the user's words are joined with those of the lowest place of that number, which is freed
+    pub joins :
+        answer < refusals
+        → (x : Access)
+        → admittedFor after user x
+        ≡ union (admittedFor before user) (heldBy (wordsOf (holds .words) (placeOf holds user number))) x
+    pub counts :
+        answer < refusals
+        → counted
+        ≡ record {
+          admitted = raisedFor (tally .admitted) user;
+          declined = tally .declined;
+          dropped = tally .dropped;
+        }
+    pub frees : answer < refusals → kept ≡ freed holds (placeOf holds user number)
+    -- no word of another user changes
     pub others-keep : (w : ℕ) → (w / 32 ≡ user → ⊥) → getD after w 0 ≡ getD before w 0
-    pub others-counted : (other : ℕ) → (other ≡ user → ⊥) → pairOf counted other ≡ pairOf tally other
-    -- after a list of submissions from fresh, this one is the next of the list, what is left keeps the promise, and
-    -- each user has what every list alike for him gives him
-    pub continues : Continues book user plan before after tally counted
+    -- a refusal changes nothing
+    pub refused-keeps : refusals ≤ answer → (after ≡ before) × (counted ≡ tally) × (kept ≡ holds)
+    pub continues :
+        Continues book (record { user = user; call = Commit number })
+        (record { ledger = before; tally = tally; holds = holds })
+        (record { ledger = after; tally = counted; holds = kept })
+
+-- pspec_drop: the number is the one given
+pub record DropSays
+    (book : Book) (user number : ℕ) (ledger : Ledger) (tally counted : Tally) (holds kept : Holds) (answer : ℕ) : Type 0
+  where
+    pub accepted : answer < refusals → SettleAccepted book user number ledger holds
+    pub accepts : SettleAccepted book user number ledger holds → answer ≡ number
+    -- the lowest place of that number is freed
+    pub counts :
+        answer < refusals
+        → counted
+        ≡ record {
+          admitted = tally .admitted;
+          declined = tally .declined;
+          dropped = raisedFor (tally .dropped) user;
+        }
+    pub frees : answer < refusals → kept ≡ freed holds (placeOf holds user number)
+    pub refused-keeps : refusals ≤ answer → (counted ≡ tally) × (kept ≡ holds)
+    pub continues :
+        Continues book (record { user = user; call = Drop number })
+        (record { ledger = ledger; tally = tally; holds = holds })
+        (record { ledger = ledger; tally = counted; holds = kept })
 
 -- pspec_tree: the number is (nodes - 1) × 2^20 + the text's length
 pub record TreeSays (book : Book) (plan : Plan) (row : ℕ) (before after : List ℕ) (answer : ℕ) : Type 0 where

@@ -1,5 +1,6 @@
 -- Each answer as one number: refusal number × 2^40 + place × 2^32 + value, the refusal 0 where nothing is refused and
--- the value 0 where something is. Assumes nothing.
+-- the value 0 where something is. A held ask alone, which has no refusal, has a 1 where a refusal has its place.
+-- Assumes nothing.
 use Prim.Native.Nat.{ℕ, _+_, _-_, _*_, _^_}
 use Rattle.book.specs.declared.Refusal.{Refusal}
 use Rattle.book.specs.declared.Checked.{Checked}
@@ -10,8 +11,8 @@ use Rattle.lineage.specs.declared.Flowed.{Flowed}
 use Rattle.lineage.specs.declared.Flowed.the-variants as flowed
 use Rattle.verdicts.specs.declared.Judged.{Judged}
 use Rattle.verdicts.specs.declared.Judged.the-variants as judged
-use Rattle.ledger.specs.declared.Submitted.{Submitted}
-use Rattle.ledger.specs.declared.Submitted.the-variants as submitted
+use Rattle.ledger.specs.declared.Reply.{Reply}
+use Rattle.ledger.specs.declared.Reply.the-variants as reply
 use Rattle.search.specs.declared.Idleness.{Idleness}
 use Rattle.search.specs.declared.Idleness.the-variants as idleness
 use Rattle.blocked.specs.declared.Blocking.{Blocking}
@@ -66,11 +67,12 @@ culpritsPacked r causes.Unblocked = packed 0 0 0
 culpritsPacked r (causes.Few mask) = packed 0 0 (mask + 2 ^ r)
 culpritsPacked r (causes.Refused refusal) = refusalPacked refusal
 
--- Submit: 0 when admitted, else the mask
-unfoldable pub submitPacked : Submitted → ℕ
-submitPacked submitted.Admitted = packed 0 0 0
-submitPacked (submitted.Declined mask) = packed 0 0 mask
-submitPacked (submitted.Refused refusal) = refusalPacked refusal
+-- Ask: held, bit 32 set and the number below it; declined, the mask. Commit and Drop: the number given
+unfoldable pub replyPacked : Reply → ℕ
+replyPacked (reply.Held number) = packed 0 1 number
+replyPacked (reply.Declined mask) = packed 0 0 mask
+replyPacked (reply.Settled number) = packed 0 0 number
+replyPacked (reply.Refused refusal) = refusalPacked refusal
 
 -- Tree: (nodes - 1) × 2^20 + the text's length; a tree has 1 to 4,096 nodes, and its text less than 2^20 bytes
 unfoldable pub treePacked : Drawn → ℕ

@@ -1,6 +1,6 @@
-// The nine calls for C and Rust, each answer packed in one number (specs/Packing.antt). What the
-// numbers of Judge, Idle, Blocked, Culprits, Submit and Tree mean is specs/Demands.antt. A slice is a
-// pointer and a length in elements, a record a pointer.
+// The eleven calls for C and Rust, each answer packed in one number (specs/Packing.antt). What the
+// numbers of Judge, Idle, Blocked, Culprits, Ask, Commit, Drop and Tree mean is specs/Demands.antt. A
+// slice is a pointer and a length in elements, a record a pointer.
 // No call asks anything of the bytes or the numbers it is given.
 use blocked::Blocking;
 use blocked::Causes;
@@ -11,9 +11,12 @@ use book::Refusal;
 use book::Sealed;
 use book::check;
 use book::seal;
-use ledger::Submitted;
+use ledger::Holds;
+use ledger::Reply;
 use ledger::Tally;
-use ledger::submit;
+use ledger::ask;
+use ledger::commit;
+use ledger::drop_hold;
 use lineage::Flowed;
 use lineage::flows;
 use search::Idleness;
@@ -27,14 +30,15 @@ ghost use Prim.Native.Nat.{_<_};
 ghost use Rattle.book.specs.Answers.{checkAnswer, sealAnswer, sealBytes};
 ghost use Rattle.lineage.specs.Answers.{flowsAnswer, flowsWords};
 ghost use Rattle.verdicts.specs.Answers.{judgeAnswer};
-ghost use Rattle.ledger.specs.Answers.{submitAnswer, submitLedger, submitTally};
+ghost use Rattle.ledger.specs.Answers.{askAnswer, askHolds, askTally, commitLedger, commitTally, dropTally};
+ghost use Rattle.ledger.specs.Answers.{settleAnswer, settleHolds};
 ghost use Rattle.search.specs.Answers.{idleAnswer, idleBuffer};
 ghost use Rattle.blocked.specs.Answers.{blockedAnswer, culpritsAnswer};
 ghost use Rattle.trees.specs.Answers.{treeAnswer, treeBuffer};
-ghost use Rattle.capi.specs.Demands.{BlockedSays, CulpritsSays, IdleSays, JudgeSays, SubmitSays};
-ghost use Rattle.capi.specs.Demands.{TreeSays};
+ghost use Rattle.capi.specs.Demands.{AskSays, BlockedSays, CommitSays, CulpritsSays, DropSays, IdleSays};
+ghost use Rattle.capi.specs.Demands.{JudgeSays, TreeSays};
 ghost use Rattle.capi.specs.Packing.{blockedPacked, checkPacked, culpritsPacked, flowsPacked, idlePacked};
-ghost use Rattle.capi.specs.Packing.{judgePacked, refusalPacked, sealPacked, submitPacked, treePacked};
+ghost use Rattle.capi.specs.Packing.{judgePacked, refusalPacked, replyPacked, sealPacked, treePacked};
 
 // A refusal's number and place, above the value's 32 bits.
 fn packed(refusal: Refusal) -> u64
@@ -136,62 +140,174 @@ pub extern "C" fn pspec_culprits(book: &[u8], rule: u32) -> u64
     }
 }
 
-// Submit's answer packed, and the tally on leaving.
-struct Counted {
+// A reply packed, and tally and hold record on leaving.
+struct Done {
     answer: u64,
     tally: Tally,
+    holds: Holds,
 }
 
-// Submit, with the tally by value.
-fn submit_counted(book: &[u8], user: u32, plan: &[u8], ledger: &mut [u64], tally: Tally) -> Counted
-    ensures { λ r. ⌜ (r .answer
-        ≡ submitPacked (submitAnswer (now (book .entry)) user (now (plan .entry)) (now (ledger .entry)) tally))
-        × (r .tally ≡ submitTally (now (book .entry)) user (now (plan .entry)) (now (ledger .entry)) tally)
-        × (now (ledger .exit) ≡ submitLedger (now (book .entry)) user (now (plan .entry)) (now (ledger .entry)) tally)
-        × SubmitSays (now (book .entry)) user (now (plan .entry)) (now (ledger .entry)) (now (ledger .exit)) tally
-        (r .tally) (r .answer) ⌝ }
+fn reply_packed(reply: Reply) -> u64
+    ensures { λ r. ⌜ (((refusal : Refusal) → reply ≡ Reply.Refused refusal
+        → (refusal .number < 256) × (refusal .place < 256)) → r ≡ replyPacked reply) ⌝ }
 {
-    let outcome = submit(book, user, plan, ledger, tally);
-    let after = outcome.tally;
-    let reply = outcome.reply;
     match reply {
-        Submitted::Refused(refusal) => Counted {
-            answer: packed(refusal),
-            tally: after,
-        },
-        Submitted::Declined(mask) => Counted {
-            answer: mask as u64,
-            tally: after,
-        },
-        Submitted::Admitted => Counted {
-            answer: 0,
-            tally: after,
-        },
+        Reply::Refused(refusal) => packed(refusal),
+        Reply::Held(number) => 4294967296 + number as u64,
+        Reply::Declined(mask) => mask as u64,
+        Reply::Settled(number) => number as u64,
     }
 }
 
-// Submit: the tally is changed in its owner's hands.
+// Ask, with tally and hold record by value.
+fn ask_done(book: &[u8], user: u32, plan: &[u8], ledger: &[u64], tally: Tally, holds: Holds) -> Done
+    ensures { λ r. ⌜ (r .answer
+        ≡ replyPacked (askAnswer (now (book .entry)) user (now (plan .entry)) (now (ledger .entry)) tally holds))
+        × (r .tally ≡ askTally (now (book .entry)) user (now (plan .entry)) (now (ledger .entry)) tally holds)
+        × (r .holds ≡ askHolds (now (book .entry)) user (now (plan .entry)) (now (ledger .entry)) tally holds)
+        × AskSays (now (book .entry)) user (now (plan .entry)) (now (ledger .entry)) tally (r .tally) holds
+        (r .holds) (r .answer) ⌝ }
+{
+    let outcome = ask(book, user, plan, ledger, tally, holds);
+    let reply = outcome.reply;
+    let counted = outcome.tally;
+    let kept = outcome.holds;
+    Done {
+        answer: reply_packed(reply),
+        tally: counted,
+        holds: kept,
+    }
+}
+
+// Ask: tally and hold record are changed in their owner's hands.
 #[no_mangle]
-pub extern "C" fn pspec_submit(
+pub extern "C" fn pspec_ask(
     book: &[u8],
     user: u32,
     plan: &[u8],
-    ledger: &mut [u64],
+    ledger: &[u64],
     tally: &mut Tally,
+    holds: &mut Holds,
 ) -> u64
     ensures { λ r. ⌜ (r
-        ≡ submitPacked
-        (submitAnswer (now (book .entry)) user (now (plan .entry)) (now (ledger .entry)) (now (tally .entry))))
+        ≡ replyPacked
+        (askAnswer (now (book .entry)) user (now (plan .entry)) (now (ledger .entry)) (now (tally .entry))
+        (now (holds .entry))))
         × (now (tally .exit)
-        ≡ submitTally (now (book .entry)) user (now (plan .entry)) (now (ledger .entry)) (now (tally .entry)))
-        × (now (ledger .exit)
-        ≡ submitLedger (now (book .entry)) user (now (plan .entry)) (now (ledger .entry)) (now (tally .entry)))
-        × SubmitSays (now (book .entry)) user (now (plan .entry)) (now (ledger .entry)) (now (ledger .exit))
-        (now (tally .entry)) (now (tally .exit)) r ⌝ }
+        ≡ askTally (now (book .entry)) user (now (plan .entry)) (now (ledger .entry)) (now (tally .entry))
+        (now (holds .entry)))
+        × (now (holds .exit)
+        ≡ askHolds (now (book .entry)) user (now (plan .entry)) (now (ledger .entry)) (now (tally .entry))
+        (now (holds .entry)))
+        × AskSays (now (book .entry)) user (now (plan .entry)) (now (ledger .entry)) (now (tally .entry))
+        (now (tally .exit)) (now (holds .entry)) (now (holds .exit)) r ⌝ }
 {
-    let counted = submit_counted(book, user, plan, ledger, *tally);
-    *tally = counted.tally;
-    counted.answer
+    let done = ask_done(book, user, plan, ledger, *tally, *holds);
+    *tally = done.tally;
+    *holds = done.holds;
+    done.answer
+}
+
+// Commit, with tally and hold record by value.
+fn commit_done(
+    book: &[u8],
+    user: u32,
+    number: u32,
+    ledger: &mut [u64],
+    tally: Tally,
+    holds: Holds,
+) -> Done
+    ensures { λ r. ⌜ (r .answer
+        ≡ replyPacked (settleAnswer (now (book .entry)) user number (now (ledger .entry)) holds))
+        × (r .tally ≡ commitTally (now (book .entry)) user number (now (ledger .entry)) holds tally)
+        × (r .holds ≡ settleHolds (now (book .entry)) user number (now (ledger .entry)) holds)
+        × (now (ledger .exit) ≡ commitLedger (now (book .entry)) user number (now (ledger .entry)) holds)
+        × CommitSays (now (book .entry)) user number (now (ledger .entry)) (now (ledger .exit)) tally (r .tally) holds
+        (r .holds) (r .answer) ⌝ }
+{
+    let outcome = commit(book, user, number, ledger, tally, holds);
+    let reply = outcome.reply;
+    let counted = outcome.tally;
+    let kept = outcome.holds;
+    Done {
+        answer: reply_packed(reply),
+        tally: counted,
+        holds: kept,
+    }
+}
+
+#[no_mangle]
+pub extern "C" fn pspec_commit(
+    book: &[u8],
+    user: u32,
+    number: u32,
+    ledger: &mut [u64],
+    tally: &mut Tally,
+    holds: &mut Holds,
+) -> u64
+    ensures { λ r. ⌜ (r
+        ≡ replyPacked (settleAnswer (now (book .entry)) user number (now (ledger .entry)) (now (holds .entry))))
+        × (now (tally .exit)
+        ≡ commitTally (now (book .entry)) user number (now (ledger .entry)) (now (holds .entry)) (now (tally .entry)))
+        × (now (holds .exit) ≡ settleHolds (now (book .entry)) user number (now (ledger .entry)) (now (holds .entry)))
+        × (now (ledger .exit) ≡ commitLedger (now (book .entry)) user number (now (ledger .entry)) (now (holds .entry)))
+        × CommitSays (now (book .entry)) user number (now (ledger .entry)) (now (ledger .exit)) (now (tally .entry))
+        (now (tally .exit)) (now (holds .entry)) (now (holds .exit)) r ⌝ }
+{
+    let done = commit_done(book, user, number, ledger, *tally, *holds);
+    *tally = done.tally;
+    *holds = done.holds;
+    done.answer
+}
+
+// Drop, with tally and hold record by value.
+fn drop_done(
+    book: &[u8],
+    user: u32,
+    number: u32,
+    ledger: &[u64],
+    tally: Tally,
+    holds: Holds,
+) -> Done
+    ensures { λ r. ⌜ (r .answer
+        ≡ replyPacked (settleAnswer (now (book .entry)) user number (now (ledger .entry)) holds))
+        × (r .tally ≡ dropTally (now (book .entry)) user number (now (ledger .entry)) holds tally)
+        × (r .holds ≡ settleHolds (now (book .entry)) user number (now (ledger .entry)) holds)
+        × DropSays (now (book .entry)) user number (now (ledger .entry)) tally (r .tally) holds (r .holds)
+        (r .answer) ⌝ }
+{
+    let outcome = drop_hold(book, user, number, ledger, tally, holds);
+    let reply = outcome.reply;
+    let counted = outcome.tally;
+    let kept = outcome.holds;
+    Done {
+        answer: reply_packed(reply),
+        tally: counted,
+        holds: kept,
+    }
+}
+
+#[no_mangle]
+pub extern "C" fn pspec_drop(
+    book: &[u8],
+    user: u32,
+    number: u32,
+    ledger: &[u64],
+    tally: &mut Tally,
+    holds: &mut Holds,
+) -> u64
+    ensures { λ r. ⌜ (r
+        ≡ replyPacked (settleAnswer (now (book .entry)) user number (now (ledger .entry)) (now (holds .entry))))
+        × (now (tally .exit)
+        ≡ dropTally (now (book .entry)) user number (now (ledger .entry)) (now (holds .entry)) (now (tally .entry)))
+        × (now (holds .exit) ≡ settleHolds (now (book .entry)) user number (now (ledger .entry)) (now (holds .entry)))
+        × DropSays (now (book .entry)) user number (now (ledger .entry)) (now (tally .entry)) (now (tally .exit))
+        (now (holds .entry)) (now (holds .exit)) r ⌝ }
+{
+    let done = drop_done(book, user, number, ledger, *tally, *holds);
+    *tally = done.tally;
+    *holds = done.holds;
+    done.answer
 }
 
 #[no_mangle]

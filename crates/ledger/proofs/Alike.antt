@@ -1,179 +1,174 @@
--- What a list gives a user is what his own submissions alone give him: a submission of another leaves his words and
--- counts, and one of his depends on them alone. So two lists that are alike for him give him the same. Assumes nothing.
-use Prim.Native.Nat.{ℕ}
+-- Every reply to a user follows from his earlier calls and replies, and from whether eight were held when he asked. So
+-- two lists that are alike for him give him the same. Assumes nothing.
+use Prim.Native.Nat.{ℕ, _+_}
 use native.Mathlib.Omega.{arith}
-use mathlib.Core.Path.{_≡_, refl, sym, subst, _∙_}
-use mathlib.Core.Bool.{Bool, true, false}
-use mathlib.Core.List.{List, [], _∷_}
-use lib.ListN.{length}
-use lib.Dec.{eqb}
-use borrow.Author.Tests.{eqb-true, eqb-false}
-use Rattle.book.specs.Lists.{keep}
+use mathlib.Core.Path.{_≡_, refl, sym, ap, _∙_}
+use mathlib.Core.Bool.{Bool, not, cond}
+use mathlib.Core.List.{List, [], _∷_, _++_, map}
+use lib.Dec.{eqb, ltb}
+use Rattle.book.specs.Lists.{any, keep}
 use Rattle.book.specs.Blocks.{headOf}
-use Rattle.book.proofs.Lists.{keep-in, keep-out}
-use Rattle.lineage.specs.Accesses.{accessWords}
-use Rattle.ledger.specs.Ledger.{heldFor, wordsOf}
-use Rattle.ledger.specs.Counts.{Pairs, pairOf}
-use Rattle.ledger.specs.Answers.{ledgerTests, tallyTests, submitTests, joinedAccesses, unionMask}
-use Rattle.ledger.specs.Answers.{submitAnswer, ledgerAfter, submitLedger, tallyAfter, submitTally}
-use Rattle.ledger.specs.Histories.{Submission, Records, replyTo, next, recordsAfter, log, submissionsOf}
-use Rattle.ledger.specs.Alike.{SameFor, EqualHistories}
-use Rattle.ledger.specs.Inner.Steps.{joinedWords}
-use Rattle.ledger.specs.declared.Submitted.{Submitted}
-use Rattle.ledger.specs.declared.Submitted.the-variants.{Admitted, Declined, Refused}
-use Rattle.ledger.proofs.WordLaws.{own-words, other-words}
-use Rattle.ledger.proofs.CountLaws.{pairAfter, own-pair, other-pair}
-use Rattle.ledger.proofs.SubmitLaws.{by-reply, user-low}
-use Rattle.ledger.proofs.Kept.{own-entry, other-entry, promise}
+use Rattle.book.specs.Tests.{answered}
+use Rattle.book.specs.Refusals.{bookTests}
+use Rattle.verdicts.specs.Accesses.{accessesOf, union}
+use Rattle.verdicts.specs.Breaking.{brokenMask}
+use Rattle.verdicts.specs.Answers.{userTests, judgeTests}
+use Rattle.ledger.specs.Counts.{countsOf}
+use Rattle.ledger.specs.Places.{holdsNumber, eightHeld}
+use Rattle.ledger.specs.Answers.{ledgerTests, countTests, placeTests, numberTests, askTests, askAnswer}
+use Rattle.ledger.specs.Answers.{settleTests, settleAnswer}
+use Rattle.ledger.specs.Histories.{Call, Ask, Commit, Drop, Made, Records, replyOf, Entry, recordsAfter}
+use Rattle.ledger.specs.Histories.{entryOf, log, entriesOf, numbered, Account, booked, account}
+use Rattle.ledger.specs.Alike.{eightAt, compared, EqualHistories}
+use Rattle.ledger.specs.declared.Reply.{Reply}
+use Rattle.ledger.specs.declared.Reply.the-variants.{Held, Declined, Settled, Refused}
+use Rattle.ledger.proofs.UserKept.{given, accountAccesses, UserKept, Whole, given-same, asked-same}
+use Rattle.ledger.proofs.UserKept.{mask-same-account}
+use Rattle.ledger.proofs.Kept.{by-user, kept}
 
--- A submission of another
+-- what a call replies to a user of this account
+unfoldable accountReply : (book : List ℕ) (user : ℕ) → Call → (eight : Bool) → Account → Reply
+accountReply book user (Ask plan) eight a =
+    answered
+    (judgeTests book user plan
+    ++ ((27, 0, eqb 1024 1024) ∷ [])
+    ++ ((28, 0, ltb (given a + a .declines) 1000000) ∷ [])
+    ++ ((31, 0, not eight) ∷ []))
+    Refused
+    (cond
+    (eqb (brokenMask book user (union (accountAccesses (headOf book) a) (accessesOf (headOf book) plan))) 0)
+    (Held (given a + 1))
+    (Declined (brokenMask book user (union (accountAccesses (headOf book) a) (accessesOf (headOf book) plan)))))
+accountReply book user (Commit n) eight a =
+    answered
+    (bookTests book
+    ++ userTests (headOf book) user
+    ++ ((27, 0, eqb 1024 1024) ∷ [])
+    ++ ((32, 0, any (numbered n) (a .holds)) ∷ []))
+    Refused (Settled n)
+accountReply book user (Drop n) eight a =
+    answered
+    (bookTests book
+    ++ userTests (headOf book) user
+    ++ ((27, 0, eqb 1024 1024) ∷ [])
+    ++ ((32, 0, any (numbered n) (a .holds)) ∷ []))
+    Refused (Settled n)
 
-module _ (book : List ℕ) (s : Records) (x : Submission) (user : ℕ) (apart : x .user ≡ user → ⊥) where
-  other-ledger :
-      (reply : Submitted)
-      → wordsOf (ledgerAfter book (x .user) (x .plan) (s .ledger) reply) user ≡ wordsOf (s .ledger) user
-  unfolding ledgerAfter
-  other-ledger Admitted =
-      other-words (s .ledger) (x .user) (accessWords (headOf book) (x .plan)) user (λ e. apart (sym e))
-  other-ledger (Declined mask) = refl
-  other-ledger (Refused refusal) = refl
+module _ (book : List ℕ) (user : ℕ) (s : Records) (whole : Whole s) (a : Account) (kept : UserKept book user s a) where
+  settled-same :
+      (n : ℕ)
+      → settleAnswer book user n (s .ledger) (s .holds)
+      ≡ answered
+      (bookTests book
+      ++ userTests (headOf book) user
+      ++ ((27, 0, eqb 1024 1024) ∷ [])
+      ++ ((32, 0, any (numbered n) (a .holds)) ∷ []))
+      Refused (Settled n)
+  unfolding settleAnswer settleTests ledgerTests numberTests holdsNumber
+  settled-same n = rw (whole .ledger, kept .holds .numbers n)
 
-  left-words : wordsOf (next book s x .ledger) user ≡ wordsOf (s .ledger) user
-  unfolding next submitLedger
-  left-words = other-ledger (submitAnswer book (x .user) (x .plan) (s .ledger) (s .tally))
+  reply-same :
+      (c : Call) → replyOf book s user c ≡ accountReply book user c (eightAt c (eightHeld (s .holds))) a
+  unfolding replyOf accountReply eightAt askAnswer askTests ledgerTests countTests placeTests
+  reply-same (Ask plan) =
+      rw (
+        whole .ledger,
+        asked-same book user s a kept,
+        given-same book user s a kept,
+        mask-same-account book user s a kept plan,
+      )
+  reply-same (Commit n) = settled-same n
+  reply-same (Drop n) = settled-same n
 
-  left-counts : pairOf (next book s x .tally) user ≡ pairOf (s .tally) user
-  unfolding next submitTally
-  left-counts =
-      other-pair (x .user) (s .tally) (submitAnswer book (x .user) (x .plan) (s .ledger) (s .tally)) user
-      (λ e. apart (sym e))
+-- entries of a user, each with the reply of the account before it
+unfoldable Following : (book : List ℕ) (user : ℕ) → List Entry → Type 0
+Following book user [] = Unit {0}
+Following book user (e ∷ entries) =
+    (e .reply ≡ accountReply book user (e .made .call) (eightAt (e .made .call) (e .eight)) (account entries))
+    × Following book user entries
 
--- A submission of his
+following : (book : List ℕ) (user : ℕ) (list : List Made) → Following book user (entriesOf user (log book list))
+unfolding Following log entriesOf keep entryOf
+following book user [] = tt
+following book user (x ∷ earlier) =
+    let s = recordsAfter book earlier in
+    let k = kept book earlier in
+    by-user book s (log book earlier) k x (Following book) (
+      reply-same book (x .user) s (k .whole) (account (entriesOf (x .user) (log book earlier))) (k .users (x .user)) (x .call),
+      following book (x .user) earlier,
+    )
+    (λ u apart. following book u earlier) user
 
--- his words after a reply to him
-unfoldable wordsAfter : (book plan : List ℕ) (reply : Submitted) → List ℕ → List ℕ
-wordsAfter book plan Admitted words = joinedWords words (accessWords (headOf book) plan)
-wordsAfter book plan (Declined mask) words = words
-wordsAfter book plan (Refused refusal) words = words
+module _ (x y : Entry) (same : compared x ≡ compared y) where
+  same-call : x .made .call ≡ y .made .call
+  unfolding compared
+  same-call = ap (λ (c : Call × Bool). c .0) same
 
-module _ (book : List ℕ) (s : Records) (x : Submission) where
-  own-words-after :
-      length (s .ledger) ≡ 1024
-      → wordsOf (next book s x .ledger) (x .user)
-      ≡ wordsAfter book (x .plan) (replyTo book s x) (wordsOf (s .ledger) (x .user))
-  unfolding next submitLedger ledgerAfter replyTo wordsAfter
-  own-words-after long =
-      by-reply book (x .user) (x .plan) (s .ledger) (s .tally)
-      (λ reply.
-      wordsOf (ledgerAfter book (x .user) (x .plan) (s .ledger) reply) (x .user)
-      ≡ wordsAfter book (x .plan) reply (wordsOf (s .ledger) (x .user)))
-      (λ r e. refl)
-      (λ given none.
-      own-words (s .ledger) (x .user) (accessWords (headOf book) (x .plan))
-      (omega (arith, long, user-low book (x .user) (x .plan) (s .ledger) (s .tally) given)))
-      (λ given some. refl)
+  same-eight : eightAt (x .made .call) (x .eight) ≡ eightAt (y .made .call) (y .eight)
+  unfolding compared
+  same-eight = ap (λ (c : Call × Bool). c .1) same
 
-  own-pair-after :
-      Pairs (s .tally)
-      → pairOf (next book s x .tally) (x .user) ≡ pairAfter (replyTo book s x) (pairOf (s .tally) (x .user))
-  unfolding next submitTally tallyAfter replyTo pairAfter
-  own-pair-after pairs =
-      by-reply book (x .user) (x .plan) (s .ledger) (s .tally)
-      (λ reply.
-      pairOf (tallyAfter (x .user) reply (s .tally)) (x .user)
-      ≡ pairAfter reply (pairOf (s .tally) (x .user)))
-      (λ r e. refl)
-      (λ given none.
-      own-pair (x .user) (s .tally) Admitted pairs
-      (user-low book (x .user) (x .plan) (s .ledger) (s .tally) given))
-      (λ given some.
-      own-pair (x .user) (s .tally) (Declined (unionMask book (x .user) (x .plan) (s .ledger))) pairs
-      (user-low book (x .user) (x .plan) (s .ledger) (s .tally) given))
-
--- the reply depends on his words and counts alone
-same-reply :
-    (book : List ℕ) (s t : Records) (x : Submission)
-    → length (s .ledger) ≡ length (t .ledger)
-    → wordsOf (s .ledger) (x .user) ≡ wordsOf (t .ledger) (x .user)
-    → pairOf (s .tally) (x .user) ≡ pairOf (t .tally) (x .user)
-    → replyTo book s x ≡ replyTo book t x
-unfolding replyTo submitAnswer submitTests ledgerTests tallyTests unionMask joinedAccesses heldFor
-same-reply book s t x long words counts = rw (long, words, counts)
-
--- A list, and his own submissions of it
-
--- one submission of his more, after lists that gave him the same
-same-more :
-    (book : List ℕ) (x : Submission) (one two : List Submission)
-    → SameFor book (x .user) one two
-    → SameFor book (x .user) (x ∷ one) (x ∷ two)
-unfolding recordsAfter log
-same-more book x one two same =
-    let s = recordsAfter book one in
-    let t = recordsAfter book two in
-    let k = promise book one in
-    let l = promise book two in
-    let reply : replyTo book s x ≡ replyTo book t x =
-    same-reply book s t x (k .whole ∙ sym (l .whole)) (same .words) (same .counts) in
-    record {
-      replies =
-          own-entry (record { submission = x; reply = replyTo book s x }) (log book one) (x .user) refl
-          ∙ rw (reply, same .replies)
-          (sym (own-entry (record { submission = x; reply = replyTo book t x }) (log book two) (x .user) refl));
-      words =
-          own-words-after book s x (k .whole) ∙ rw (reply, same .words) (sym (own-words-after book t x (l .whole)));
-      counts =
-          own-pair-after book s x (k .pairs) ∙ rw (reply, same .counts) (sym (own-pair-after book t x (l .pairs)));
-    }
-
--- one of another more, after one of the lists
-same-other :
-    (book : List ℕ) (user : ℕ) (x : Submission) (one two : List Submission)
-    → (x .user ≡ user → ⊥)
-    → SameFor book user one two
-    → SameFor book user (x ∷ one) two
-unfolding recordsAfter log
-same-other book user x one two apart same =
-    let s = recordsAfter book one in
-    record {
-      replies =
-          other-entry (record { submission = x; reply = replyTo book s x }) (log book one) user apart
-          ∙ same .replies;
-      words = left-words book s x user apart ∙ same .words;
-      counts = left-counts book s x user apart ∙ same .counts;
-    }
-
-alone : (book : List ℕ) (user : ℕ) (list : List Submission) → SameFor book user list (submissionsOf user list)
-unfolding submissionsOf keep
-alone book user [] = record { replies = refl; words = refl; counts = refl }
-alone book user (x ∷ earlier) = go (alone book user earlier) (eqb (x .user) user) refl
+-- entries that follow are told by what is compared
+followed-same :
+    (book : List ℕ) (user : ℕ) (one two : List Entry)
+    → Following book user one
+    → Following book user two
+    → map compared one ≡ map compared two
+    → (map (λ e. e .reply) one ≡ map (λ e. e .reply) two) × (account one ≡ account two)
+unfolding Following account
+followed-same book user [] [] f g e = (refl, refl)
+followed-same book user [] (y ∷ two) f g e = let z : _≡_ {A = ℕ} 0 1 = cc in absurd (omega arith)
+followed-same book user (x ∷ one) [] f g e = let z : _≡_ {A = ℕ} 0 1 = cc in absurd (omega arith)
+followed-same book user (x ∷ one) (y ∷ two) f g e =
+    let head : compared x ≡ compared y = cc in
+    let tail : map compared one ≡ map compared two = cc in
+    let rest = followed-same book user one two (f .1) (g .1) tail in
+    let calls : x .made .call ≡ y .made .call = same-call x y head in
+    let eights : eightAt (x .made .call) (x .eight) ≡ eightAt (y .made .call) (y .eight) = same-eight x y head in
+    let replies : x .reply ≡ y .reply = same-reply calls eights (rest .1) (f .0) (g .0) in
+    (same-list replies (rest .0), same-account calls replies (rest .1))
   where
-    his : Submission → Bool
-    his x = eqb (x .user) user
+    same-reply :
+        x .made .call ≡ y .made .call
+        → eightAt (x .made .call) (x .eight) ≡ eightAt (y .made .call) (y .eight)
+        → account one ≡ account two
+        → x .reply ≡ accountReply book user (x .made .call) (eightAt (x .made .call) (x .eight)) (account one)
+        → y .reply ≡ accountReply book user (y .made .call) (eightAt (y .made .call) (y .eight)) (account two)
+        → x .reply ≡ y .reply
+    same-reply c b a f g = cc
 
-    go :
-        SameFor book user earlier (keep his earlier)
-        → (b : Bool)
-        → his x ≡ b
-        → SameFor book user (x ∷ earlier) (keep his (x ∷ earlier))
-    go rest true e =
-        let same : x .user ≡ user = eqb-true (x .user) user e in
-        rw (keep-in his x earlier e)
-        (subst (λ u. SameFor book u (x ∷ earlier) (x ∷ keep his earlier)) same
-        (same-more book x earlier (keep his earlier)
-        (subst (λ u. SameFor book u earlier (keep his earlier)) (sym same) rest)))
-    go rest false e =
-        rw (keep-out his x earlier e)
-        (same-other book user x earlier (keep his earlier) (eqb-false (x .user) user e) rest)
+    same-list :
+        x .reply ≡ y .reply
+        → map (λ e. e .reply) one ≡ map (λ e. e .reply) two
+        → map (λ e. e .reply) (x ∷ one) ≡ map (λ e. e .reply) (y ∷ two)
+    same-list r l = cc
+
+    same-account :
+        x .made .call ≡ y .made .call
+        → x .reply ≡ y .reply
+        → account one ≡ account two
+        → booked (x .made .call) (x .reply) (account one) ≡ booked (y .made .call) (y .reply) (account two)
+    same-account c r a = cc
 
 -- Two lists
 
-pub equal-histories : (book : List ℕ) (one : List Submission) → EqualHistories book one
+pub equal-histories : (book : List ℕ) (one : List Made) → EqualHistories book one
+unfolding countsOf
 equal-histories book one two user alike =
-    let a = alone book user one in
-    let b = alone book user two in
+    let same =
+    followed-same book user (entriesOf user (log book one)) (entriesOf user (log book two)) (following book user one)
+    (following book user two) alike in
+    let a : account (entriesOf user (log book one)) ≡ account (entriesOf user (log book two)) = same .1 in
+    let x = kept book one .users user in
+    let y = kept book two .users user in
+    let s = recordsAfter book one .tally in
+    let t = recordsAfter book two .tally in
+    let admits : countsOf s user .admitted ≡ countsOf t user .admitted = x .admits ∙ rw a (sym (y .admits)) in
+    let declines : countsOf s user .declined ≡ countsOf t user .declined = x .declines ∙ rw a (sym (y .declines)) in
+    let drops : countsOf s user .dropped ≡ countsOf t user .dropped = x .drops ∙ rw a (sym (y .drops)) in
     record {
-      replies = a .replies ∙ rw alike (sym (b .replies));
-      words = a .words ∙ rw alike (sym (b .words));
-      counts = a .counts ∙ rw alike (sym (b .counts));
+      replies = same .0;
+      words = x .words ∙ rw a (sym (y .words));
+      counts = λ i. record { admitted = admits i; declined = declines i; dropped = drops i };
+      held = x .holds .counted ∙ rw a (sym (y .holds .counted));
     }

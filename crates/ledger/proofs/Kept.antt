@@ -1,308 +1,420 @@
--- What every list of submissions from fresh keeps, in one record, and that a submission keeps it. Assumes nothing.
-use Prim.Native.Nat.{ℕ, _<_}
+-- What every list of calls from fresh keeps, in one record, that a call keeps it, and the promise of every list.
+-- Assumes nothing.
+use Prim.Native.Nat.{ℕ, zero, suc, _+_, _<_}
 use native.Mathlib.Omega.{arith}
-use mathlib.Core.Path.{_≡_, refl, sym, _∙_}
-use mathlib.Core.Bool.{Bool, true, false, _||_}
-use mathlib.Core.List.{List, [], _∷_}
-use lib.ListN.{length, length-replicate}
+use mathlib.Core.Path.{_≡_, refl, sym, subst, ap, _∙_}
+use mathlib.Core.Bool.{Bool, true, false, cond}
+use mathlib.Core.List.{List, [], _∷_, _++_}
+use lib.ListN.{length, replicate, length-replicate}
 use lib.Dec.{eqb}
 use borrow.Author.Tests.{eq-eqb, ne-eqb, eqb-true, eqb-false}
-use Rattle.book.specs.Lists.{any, keep}
+use Rattle.book.specs.Lists.{any, flat, from, keep, upTo}
 use Rattle.book.specs.Blocks.{headOf}
 use Rattle.book.specs.Refusals.{BookAccepted}
 use Rattle.book.specs.declared.Refusal.{Refusal}
-use Rattle.book.proofs.Lists.{keep-in, keep-out}
+use Rattle.book.proofs.Lists.{keep-in, keep-out, same-test}
 use Rattle.lineage.specs.Accesses.{accessWords}
-use Rattle.lineage.proofs.Steps.{getD-zeros}
-use Rattle.verdicts.specs.Accesses.{Access, accessesOf, union}
 use Rattle.verdicts.specs.Breaking.{brokenMask}
-use Rattle.verdicts.proofs.Held.{held-operations, held-zero}
 use Rattle.verdicts.proofs.DemandLaws.{query-demand}
-use Rattle.verdicts.proofs.Verdict.{broken-none, mask-same, nothing-broken}
-use Rattle.ledger.specs.Ledger.{heldFor, wordsOf}
-use Rattle.ledger.specs.Counts.{Pair, Pairs, pairOf}
-use Rattle.ledger.specs.Answers.{joinedAccesses, unionMask, ledgerAfter, submitLedger}
-use Rattle.ledger.specs.Answers.{tallyAfter, submitTally}
-use Rattle.ledger.specs.Histories.{Submission, Records, fresh, replyTo, next, Entry, recordsAfter, log}
-use Rattle.ledger.specs.Histories.{isAdmitted, isDeclined, notRefused, entriesOf, admittedPlans}
-use Rattle.ledger.specs.Demand.{SubmitAccepted, inSome, Holds, Counted, Promise, EveryList}
-use Rattle.ledger.specs.declared.Submitted.{Submitted}
-use Rattle.ledger.specs.declared.Submitted.the-variants.{Admitted, Declined, Refused}
-use Rattle.ledger.proofs.WordLaws.{words-zero, held-other, joined-length}
-use Rattle.ledger.proofs.CountLaws.{pairAfter, pairs-after, own-pair, other-pair}
-use Rattle.ledger.proofs.SubmitLaws.{admitted-holds, by-reply, user-low}
+use Rattle.verdicts.proofs.Verdict.{broken-none, mask-same}
+use Rattle.ledger.specs.Ledger.{wordsOf}
+use Rattle.ledger.specs.Counts.{WholeTally}
+use Rattle.ledger.specs.Counting.{count}
+use Rattle.ledger.specs.Places.{WholeHolds, taken, holdsNumber, eightHeld, emptyPlace, placeOf, placed, freed}
+use Rattle.ledger.specs.Answers.{givenTo, countedFor}
+use Rattle.ledger.specs.Histories.{Call, Ask, Commit, Drop, Made, Records, fresh, replyOf, recordsOf, Entry}
+use Rattle.ledger.specs.Histories.{recordsAfter, entryOf, log, entriesOf, besides, Account, booked}
+use Rattle.ledger.specs.Histories.{account, notRefused, answeredAsk, numberIn, takesPlace, freesPlace, downFrom}
+use Rattle.ledger.specs.Histories.{noneTwice}
+use Rattle.ledger.specs.Demand.{AskAccepted, SettleAccepted, Reserved, Counted, Promise, EveryList}
+use Rattle.ledger.specs.declared.Reply.the-variants.{Refused}
+use Rattle.ledger.proofs.WordLaws.{joined-length}
+use Rattle.ledger.proofs.CountLaws.{raised-length}
+use Rattle.ledger.proofs.Counting.{count-more, all-count}
+use Rattle.ledger.proofs.PlaceLaws.{whole-after, empty-place, number-place, number-held, held-user}
+use Rattle.ledger.proofs.PlaceLaws.{taken-there, taken-here}
+use Rattle.ledger.proofs.CallLaws.{counted-operations}
+use Rattle.ledger.proofs.HoldLaws.{falling-number, besides-length}
+use Rattle.ledger.proofs.Outcomes.{declining, holding, committing, dropping, every-outcome}
+use Rattle.ledger.proofs.UserKept.{given, accountAccesses, UserKept, Whole, given-same, asked-same, counted-same}
+use Rattle.ledger.proofs.UserKept.{own-after, other-after, kept-fresh}
 
--- the records agree with the replies, and nobody breaks a rule
-record Kept (book : List ℕ) (s : Records) (entries : List Entry) : Type 0 where
-  pub long : length (s .ledger) ≡ 1024
-  pub pairs : Pairs (s .tally)
-  pub counted : (u : ℕ) → Counted (pairOf (s .tally) u) (entriesOf u entries)
-  pub held :
-      (u : ℕ) (x : Access)
-      → heldFor (s .ledger) u x ≡ inSome (headOf book) (admittedPlans (entriesOf u entries)) x
-  pub lawful : BookAccepted book → (u : ℕ) → brokenMask book u (heldFor (s .ledger) u) ≡ 0
+-- Lengths, and how many places are taken
 
--- One entry more
+abbrev pub places : Records → ℕ
+places s = count (taken (s .holds)) (upTo 8)
+
+module _ (book : List ℕ) (user : ℕ) (s : Records) (whole : Whole s) where
+  whole-freed :
+      (n : ℕ) → WholeHolds (freed (s .holds) (placeOf (s .holds) user n))
+  unfolding freed
+  whole-freed n = whole-after (s .holds) (placeOf (s .holds) user n) 0 0 (replicate 32 0) (whole .holds)
+
+  pub whole-next : (c : Call) → Whole (recordsOf book s user c)
+  whole-next =
+      every-outcome book user s (λ c reply after. Whole after) (λ c r. whole) (λ plan ok. declined) (λ plan ok none. held plan)
+      (λ n ok. committed n) (λ n ok. dropped n)
+    where
+      t : WholeTally (s .tally)
+      t = whole .tally
+
+      declined : Whole (declining user s)
+      declined =
+          record {
+            ledger = whole .ledger;
+            tally =
+                record {
+                  admitted = t .admitted;
+                  declined = raised-length (s .tally .declined) user ∙ t .declined;
+                  dropped = t .dropped;
+                };
+            holds = whole .holds;
+          }
+
+      held : (plan : List ℕ) → Whole (holding user (accessWords (headOf book) plan) s)
+      held plan =
+          record {
+            ledger = whole .ledger;
+            tally = t;
+            holds =
+                whole-after (s .holds) (emptyPlace (s .holds)) user (givenTo user (s .tally) (s .holds) + 1)
+                (accessWords (headOf book) plan) (whole .holds);
+          }
+
+      committed : (n : ℕ) → Whole (committing user n s)
+      committed n =
+          record {
+            ledger =
+                joined-length (s .ledger) user (wordsOf (s .holds .words) (placeOf (s .holds) user n)) ∙ whole .ledger;
+            tally =
+                record {
+                  admitted = raised-length (s .tally .admitted) user ∙ t .admitted;
+                  declined = t .declined;
+                  dropped = t .dropped;
+                };
+            holds = whole-freed n;
+          }
+
+      dropped : (n : ℕ) → Whole (dropping user n s)
+      dropped n =
+          record {
+            ledger = whole .ledger;
+            tally =
+                record {
+                  admitted = t .admitted;
+                  declined = t .declined;
+                  dropped = raised-length (s .tally .dropped) user ∙ t .dropped;
+                };
+            holds = whole-freed n;
+          }
+
+  -- one place more
+  taken-more :
+      (plan : List ℕ)
+      → AskAccepted book user plan (s .ledger) (s .tally) (s .holds)
+      → places (holding user (accessWords (headOf book) plan) s) ≡ places s + 1
+  taken-more plan ok =
+      let p = emptyPlace (s .holds) in
+      let n = givenTo user (s .tally) (s .holds) + 1 in
+      let words = accessWords (headOf book) plan in
+      let spot = empty-place (s .holds) (ok .place-empty) in
+      count-more (taken (s .holds)) (taken (placed (s .holds) p user n words)) p (spot .0)
+      (taken-there (s .holds) p user n words (whole .holds))
+      (taken-here (s .holds) p user n words (whole .holds) (spot .1)
+      ∙ rw (ne-eqb n 0 (λ (z : givenTo user (s .tally) (s .holds) + 1 ≡ 0). omega arith)))
+      8 (spot .1)
+
+  -- one place less
+  taken-less :
+      (n : ℕ)
+      → SettleAccepted book user n (s .ledger) (s .holds)
+      → count (taken (freed (s .holds) (placeOf (s .holds) user n))) (upTo 8) + 1 ≡ places s
+  unfolding freed
+  taken-less n ok =
+      let p = placeOf (s .holds) user n in
+      let spot = number-place (s .holds) user n (ok .number-held) in
+      sym (count-more (taken (freed (s .holds) p)) (taken (s .holds)) p
+      (taken-here (s .holds) p 0 0 (replicate 32 0) (whole .holds) (spot .1))
+      (λ q d. sym (taken-there (s .holds) p 0 0 (replicate 32 0) (whole .holds) q d))
+      (held-user (s .holds) user p (number-held (s .holds) user n p (spot .0) .0) .0)
+      8 (spot .1))
+
+  places-next :
+      (c : Call)
+      → places (recordsOf book s user c) + cond (freesPlace (replyOf book s user c)) 1 0
+      ≡ cond (takesPlace (replyOf book s user c)) 1 0 + places s
+  unfolding freesPlace takesPlace
+  places-next =
+      every-outcome book user s
+      (λ c reply after. places after + cond (freesPlace reply) 1 0 ≡ cond (takesPlace reply) 1 0 + places s)
+      (λ c r. same (places s)) (λ plan ok. same (places s)) (λ plan ok none. more plan (taken-more plan ok))
+      (λ n ok. less (places (committing user n s)) (taken-less n ok))
+      (λ n ok. less (places (dropping user n s)) (taken-less n ok))
+    where
+      same : (m : ℕ) → m + 0 ≡ 0 + m
+      same m = omega arith
+
+      more :
+          (plan : List ℕ)
+          → places (holding user (accessWords (headOf book) plan) s) ≡ places s + 1
+          → places (holding user (accessWords (headOf book) plan) s) + 0 ≡ 1 + places s
+      more plan e = omega arith
+
+      less : (m : ℕ) → m + 1 ≡ places s → m + 1 ≡ 0 + places s
+      less m e = omega arith
+
+-- The sum and the numbers of a user
+
+down-more : (n : ℕ) → downFrom (n + 1) ≡ (n + 1) ∷ downFrom n
+unfolding downFrom
+down-more n =
+    let e : n + 1 ≡ suc n = omega arith in
+    rw e
+
+module _ (book : List ℕ) (user : ℕ) (s : Records) (a : Account) (kept : UserKept book user s a) where
+  -- one plan less is held
+  gone : (n : ℕ) → SettleAccepted book user n (s .ledger) (s .holds) → length (besides n (a .holds)) + 1 ≡ length (a .holds)
+  unfolding holdsNumber
+  gone n ok = besides-length n (a .holds) (sym (kept .holds .numbers n) ∙ ok .number-held)
+
+  -- an ask that is not refused is one more, any other call none
+  sum-next :
+      (c : Call)
+      → given (booked c (replyOf book s user c) a) + booked c (replyOf book s user c) a .declines
+      ≡ cond (answeredAsk c (replyOf book s user c)) 1 0 + (given a + a .declines)
+  unfolding booked answeredAsk notRefused
+  sum-next =
+      every-outcome book user s
+      (λ c reply after.
+      given (booked c reply a) + booked c reply a .declines ≡ cond (answeredAsk c reply) 1 0 + (given a + a .declines))
+      refused (λ plan ok. omega arith) (λ plan ok none. omega arith) (λ n ok. omega (arith, gone n ok))
+      (λ n ok. omega (arith, gone n ok))
+    where
+      refused :
+          (c : Call) (r : Refusal)
+          → given (booked c (Refused r) a) + booked c (Refused r) a .declines
+          ≡ cond (answeredAsk c (Refused r)) 1 0 + (given a + a .declines)
+      refused (Ask plan) r = omega arith
+      refused (Commit n) r = omega arith
+      refused (Drop n) r = omega arith
+
+  -- a new hold has the next number, and no other call changes how many were given
+  numbers-next :
+      (c : Call)
+      → numberIn (replyOf book s user c) ++ downFrom (given a) ≡ downFrom (given (booked c (replyOf book s user c) a))
+  unfolding booked numberIn
+  numbers-next =
+      every-outcome book user s
+      (λ c reply after. numberIn reply ++ downFrom (given a) ≡ downFrom (given (booked c reply a)))
+      refused (λ plan ok. refl) (λ plan ok none. held) (λ n ok. ap downFrom (omega (arith, gone n ok)))
+      (λ n ok. ap downFrom (omega (arith, gone n ok)))
+    where
+      refused :
+          (c : Call) (r : Refusal) → downFrom (given a) ≡ downFrom (given (booked c (Refused r) a))
+      refused (Ask plan) r = refl
+      refused (Commit n) r = refl
+      refused (Drop n) r = refl
+
+      held :
+          (givenTo user (s .tally) (s .holds) + 1) ∷ downFrom (given a)
+          ≡ downFrom (length (a .committed) + a .drops + suc (length (a .holds)))
+      held =
+          let e : length (a .committed) + a .drops + suc (length (a .holds)) ≡ given a + 1 = omega arith in
+          rw (given-same book user s a kept, e) (sym (down-more (given a)))
+
+-- The invariant
+
+pub record Kept (book : List ℕ) (s : Records) (entries : List Entry) : Type 0 where
+  pub whole : Whole s
+  -- as many places are taken as the replies say
+  pub places-kept :
+      places s + count (λ e. freesPlace (e .reply)) entries ≡ count (λ e. takesPlace (e .reply)) entries
+  -- the records say of each user what the replies to him say
+  pub users : (u : ℕ) → UserKept book u s (account (entriesOf u entries))
+  pub sums :
+      (u : ℕ)
+      → given (account (entriesOf u entries)) + account (entriesOf u entries) .declines
+      ≡ count (λ e. answeredAsk (e .made .call) (e .reply)) (entriesOf u entries)
+  pub numbers :
+      (u : ℕ)
+      → flat (λ e. numberIn (e .reply)) (entriesOf u entries) ≡ downFrom (given (account (entriesOf u entries)))
 
 module _ (e : Entry) (entries : List Entry) where
-  pub own-entry : (u : ℕ) → e .submission .user ≡ u → entriesOf u (e ∷ entries) ≡ e ∷ entriesOf u entries
+  pub own-entry : (u : ℕ) → e .made .user ≡ u → entriesOf u (e ∷ entries) ≡ e ∷ entriesOf u entries
   unfolding entriesOf
-  own-entry u z = keep-in (λ e. eqb (e .submission .user) u) e entries (eq-eqb (e .submission .user) u z)
+  own-entry u z = keep-in (λ e. eqb (e .made .user) u) e entries (eq-eqb (e .made .user) u z)
 
-  pub other-entry : (u : ℕ) → (e .submission .user ≡ u → ⊥) → entriesOf u (e ∷ entries) ≡ entriesOf u entries
+  pub other-entry : (u : ℕ) → (e .made .user ≡ u → ⊥) → entriesOf u (e ∷ entries) ≡ entriesOf u entries
   unfolding entriesOf
-  other-entry u n = keep-out (λ e. eqb (e .submission .user) u) e entries (ne-eqb (e .submission .user) u n)
+  other-entry u n = keep-out (λ e. eqb (e .made .user) u) e entries (ne-eqb (e .made .user) u n)
 
-  -- an entry that is not 'admitted' has no plan for anybody
-  plans-same :
-      isAdmitted (e .reply) ≡ false
+module _ (book : List ℕ) (s : Records) (entries : List Entry) (kept : Kept book s entries) (x : Made) where
+  -- what holds of the user who calls and of the others holds of all
+  pub by-user :
+      (P : ℕ → List Entry → Type 0)
+      → P (x .user) (entryOf book s x ∷ entriesOf (x .user) entries)
+      → ((u : ℕ) → (u ≡ x .user → ⊥) → P u (entriesOf u entries))
       → (u : ℕ)
-      → admittedPlans (entriesOf u (e ∷ entries)) ≡ admittedPlans (entriesOf u entries)
-  unfolding admittedPlans
-  plans-same left-out u = go (eqb (e .submission .user) u) refl
+      → P u (entriesOf u (entryOf book s x ∷ entries))
+  unfolding entryOf
+  by-user P own others u = go (eqb (x .user) u) refl
     where
-      go :
-          (b : Bool)
-          → eqb (e .submission .user) u ≡ b
-          → admittedPlans (entriesOf u (e ∷ entries)) ≡ admittedPlans (entriesOf u entries)
-      go true z =
-          rw (
-            own-entry u (eqb-true (e .submission .user) u z),
-            keep-out (λ e. isAdmitted (e .reply)) e (entriesOf u entries) left-out,
-          )
-      go false z = rw (other-entry u (eqb-false (e .submission .user) u z))
-
-  -- a reply more, and a pair after it
-  counted-more : (pair : Pair) → Counted pair entries → Counted (pairAfter (e .reply) pair) (e ∷ entries)
-  unfolding pairAfter isAdmitted isDeclined notRefused
-  counted-more pair k = go (e .reply) refl
-    where
-      go : (reply : Submitted) → e .reply ≡ reply → Counted (pairAfter reply pair) (e ∷ entries)
-      go Admitted z =
-          record {
-            admitted-count =
-                rw (keep-in (λ e. isAdmitted (e .reply)) e entries (rw z)) (omega (arith, k .admitted-count));
-            declined-count = rw (keep-out (λ e. isDeclined (e .reply)) e entries (rw z)) (k .declined-count);
-            sum = rw (keep-in (λ e. notRefused (e .reply)) e entries (rw z)) (omega (arith, k .sum));
-          }
-      go (Declined mask) z =
-          record {
-            admitted-count = rw (keep-out (λ e. isAdmitted (e .reply)) e entries (rw z)) (k .admitted-count);
-            declined-count =
-                rw (keep-in (λ e. isDeclined (e .reply)) e entries (rw z)) (omega (arith, k .declined-count));
-            sum = rw (keep-in (λ e. notRefused (e .reply)) e entries (rw z)) (omega (arith, k .sum));
-          }
-      go (Refused refusal) z =
-          record {
-            admitted-count = rw (keep-out (λ e. isAdmitted (e .reply)) e entries (rw z)) (k .admitted-count);
-            declined-count = rw (keep-out (λ e. isDeclined (e .reply)) e entries (rw z)) (k .declined-count);
-            sum = rw (keep-out (λ e. notRefused (e .reply)) e entries (rw z)) (k .sum);
-          }
-
--- One submission
-
-module _ (book : List ℕ) (s : Records) (entries : List Entry) (kept : Kept book s entries) (x : Submission) where
-  entry : Submitted → Entry
-  entry reply = record { submission = x; reply = reply }
-
-  after : Submitted → Records
-  after reply =
-      record {
-        ledger = ledgerAfter book (x .user) (x .plan) (s .ledger) reply;
-        tally = tallyAfter (x .user) reply (s .tally);
-      }
-
-  -- each pair counts the replies to its user, where this one's is his pair after the reply
-  counted-after :
-      (reply : Submitted)
-      → pairOf (after reply .tally) (x .user) ≡ pairAfter reply (pairOf (s .tally) (x .user))
-      → (u : ℕ)
-      → Counted (pairOf (after reply .tally) u) (entriesOf u (entry reply ∷ entries))
-  unfolding after entry
-  counted-after reply own u = go (eqb (x .user) u) refl
-    where
-      go :
-          (b : Bool)
-          → eqb (x .user) u ≡ b
-          → Counted (pairOf (tallyAfter (x .user) reply (s .tally)) u) (entriesOf u (entry reply ∷ entries))
-      go true z =
-          let same : x .user ≡ u = eqb-true (x .user) u z in
-          rw (← same, own, own-entry (entry reply) entries (x .user) refl)
-          (counted-more (entry reply) (entriesOf (x .user) entries) (pairOf (s .tally) (x .user))
-          (kept .counted (x .user)))
-      go false z =
-          let apart = eqb-false (x .user) u z in
-          rw (
-            other-pair (x .user) (s .tally) reply u (λ e. apart (sym e)),
-            other-entry (entry reply) entries u apart,
-          )
-          (kept .counted u)
-
-  refused-kept : (r : Refusal) → Kept book (after (Refused r)) (entry (Refused r) ∷ entries)
-  unfolding after entry ledgerAfter tallyAfter pairAfter isAdmitted
-  refused-kept r =
-      record {
-        long = kept .long;
-        pairs = kept .pairs;
-        counted = counted-after (Refused r) refl;
-        held = λ u y. rw (plans-same (entry (Refused r)) entries refl u) (kept .held u y);
-        lawful = kept .lawful;
-      }
-
-  declined-kept :
-      x .user < 32 → (mask : ℕ) → Kept book (after (Declined mask)) (entry (Declined mask) ∷ entries)
-  unfolding after entry ledgerAfter isAdmitted
-  declined-kept low mask =
-      record {
-        long = kept .long;
-        pairs = pairs-after (x .user) (s .tally) (Declined mask) (kept .pairs);
-        counted =
-            counted-after (Declined mask) (own-pair (x .user) (s .tally) (Declined mask) (kept .pairs) low);
-        held = λ u y. rw (plans-same (entry (Declined mask)) entries refl u) (kept .held u y);
-        lawful = kept .lawful;
-      }
-
-  module _
-      (given : SubmitAccepted book (x .user) (x .plan) (s .ledger) (s .tally))
-      (none : unionMask book (x .user) (x .plan) (s .ledger) ≡ 0)
-    where
-      -- the user holds the union
-      own-held :
-          (y : Access)
-          → heldFor (after Admitted .ledger) (x .user) y ≡ joinedAccesses book (x .user) (x .plan) (s .ledger) y
-      unfolding after ledgerAfter
-      own-held = admitted-holds book (x .user) (x .plan) (s .ledger) (s .tally) given
-
-      -- others what they held
-      other-held :
-          (u : ℕ)
-          → (x .user ≡ u → ⊥)
-          → (y : Access)
-          → heldFor (after Admitted .ledger) u y ≡ heldFor (s .ledger) u y
-      unfolding after ledgerAfter
-      other-held u n = held-other (s .ledger) (x .user) (accessWords (headOf book) (x .plan)) u (λ z. n (sym z))
-
-      own-plans :
-          admittedPlans (entriesOf (x .user) (entry Admitted ∷ entries))
-          ≡ x .plan ∷ admittedPlans (entriesOf (x .user) entries)
-      unfolding admittedPlans entry isAdmitted
-      own-plans =
-          rw (
-            own-entry (entry Admitted) entries (x .user) refl,
-            keep-in (λ e. isAdmitted (e .reply)) (entry Admitted) (entriesOf (x .user) entries) refl,
-          )
-
-      turned : (a b c : Bool) → a ≡ c → (a || b) ≡ (b || c)
-      turned true true c e = refl
-      turned true false c e = e
-      turned false true c e = refl
-      turned false false c e = e
-
-      held-after :
-          (u : ℕ) (b : Bool)
-          → eqb (x .user) u ≡ b
-          → (y : Access)
-          → heldFor (after Admitted .ledger) u y
-          ≡ inSome (headOf book) (admittedPlans (entriesOf u (entry Admitted ∷ entries))) y
-      unfolding inSome any joinedAccesses union entry
-      held-after u true e y =
+      go : (b : Bool) → eqb (x .user) u ≡ b → P u (entriesOf u (entryOf book s x ∷ entries))
+      go true e =
           let z : x .user ≡ u = eqb-true (x .user) u e in
-          rw (← z) (own-held y
-          ∙ rw own-plans
-          (turned (heldFor (s .ledger) (x .user) y) (accessesOf (headOf book) (x .plan) y)
-          (any (λ plan. accessesOf (headOf book) plan y) (admittedPlans (entriesOf (x .user) entries)))
-          (kept .held (x .user) y)))
-      held-after u false e y =
-          let n = eqb-false (x .user) u e in
-          other-held u n y ∙ kept .held u y ∙ rw (other-entry (entry Admitted) entries u n)
+          rw (own-entry (entryOf book s x) entries u z)
+          (subst (λ (v : ℕ). P v (entryOf book s x ∷ entriesOf v entries)) z own)
+      go false e =
+          let apart = eqb-false (x .user) u e in
+          rw (other-entry (entryOf book s x) entries u apart) (others u (λ z. apart (sym z)))
 
-      lawful-after :
-          BookAccepted book
-          → (u : ℕ) (b : Bool)
-          → eqb (x .user) u ≡ b
-          → brokenMask book u (heldFor (after Admitted .ledger) u) ≡ 0
-      unfolding unionMask
-      lawful-after accepted u true e =
-          let z : x .user ≡ u = eqb-true (x .user) u e in
-          rw (← z)
-          (mask-same book (x .user) (heldFor (after Admitted .ledger) (x .user))
-          (joinedAccesses book (x .user) (x .plan) (s .ledger)) (λ y k. own-held y)
-          ∙ none)
-      lawful-after accepted u false e =
-          mask-same book u (heldFor (after Admitted .ledger) u) (heldFor (s .ledger) u)
-          (λ y k. other-held u (eqb-false (x .user) u e) y)
-          ∙ kept .lawful accepted u
-
-      admitted-kept : Kept book (after Admitted) (entry Admitted ∷ entries)
-      unfolding after entry ledgerAfter
-      admitted-kept =
-          let low = user-low book (x .user) (x .plan) (s .ledger) (s .tally) given in
-          record {
-            long = joined-length (s .ledger) (x .user) (accessWords (headOf book) (x .plan)) ∙ kept .long;
-            pairs = pairs-after (x .user) (s .tally) Admitted (kept .pairs);
-            counted = counted-after Admitted (own-pair (x .user) (s .tally) Admitted (kept .pairs) low);
-            held = λ u y. held-after u (eqb (x .user) u) refl y;
-            lawful = λ accepted u. lawful-after accepted u (eqb (x .user) u) refl;
-          }
-
-  kept-after :
-      Kept book (next book s x) (record { submission = x; reply = replyTo book s x } ∷ entries)
-  unfolding next replyTo submitLedger submitTally after entry
-  kept-after =
-      by-reply book (x .user) (x .plan) (s .ledger) (s .tally)
-      (λ reply. Kept book (after reply) (entry reply ∷ entries)) (λ r e. refused-kept r) admitted-kept
-      (λ given some.
-      declined-kept (user-low book (x .user) (x .plan) (s .ledger) (s .tally) given)
-      (unionMask book (x .user) (x .plan) (s .ledger)))
+  pub kept-next : Kept book (recordsOf book s (x .user) (x .call)) (entryOf book s x ∷ entries)
+  unfolding entryOf account count flat
+  kept-next =
+      let mine = kept .users (x .user) in
+      let a = account (entriesOf (x .user) entries) in
+      record {
+        whole = whole-next book (x .user) s (kept .whole) (x .call);
+        places-kept =
+            let now = places-next book (x .user) s (kept .whole) (x .call) in
+            let before = kept .places-kept in
+            omega (arith, now, before);
+        users =
+            by-user (λ u own. UserKept book u (recordsOf book s (x .user) (x .call)) (account own))
+            (own-after book (x .user) s (kept .whole) a mine (x .call))
+            (λ u apart.
+            other-after book (x .user) s (kept .whole) u (account (entriesOf u entries)) apart (kept .users u) (x .call));
+        sums =
+            by-user
+            (λ u own.
+            given (account own) + account own .declines
+            ≡ count (λ e. answeredAsk (e .made .call) (e .reply)) own)
+            (sum-next book (x .user) s a mine (x .call) ∙ rw (kept .sums (x .user)))
+            (λ u apart. kept .sums u);
+        numbers =
+            by-user (λ u own. flat (λ e. numberIn (e .reply)) own ≡ downFrom (given (account own)))
+            (rw (kept .numbers (x .user)) (numbers-next book (x .user) s a mine (x .call))) (λ u apart. kept .numbers u);
+      }
 
 -- Fresh records, and every list
 
-nothing-held : (u : ℕ) (x : Access) → heldFor (fresh .ledger) u x ≡ false
-unfolding heldFor
-nothing-held u = held-zero (wordsOf (fresh .ledger) u) (words-zero 1024 u)
-
-kept-fresh : (book : List ℕ) → Kept book fresh []
-unfolding inSome any entriesOf admittedPlans keep pairOf
-kept-fresh book =
+whole-fresh : Whole fresh
+whole-fresh =
     record {
-      long = length-replicate {A = ℕ} 1024 0;
-      pairs = (length-replicate {A = ℕ} 32 0, length-replicate {A = ℕ} 32 0);
-      counted =
-          λ u.
-          let zero = getD-zeros 32 u in
-          record { admitted-count = zero; declined-count = zero; sum = rw zero };
-      held = nothing-held;
-      lawful = λ accepted u. nothing-broken (heldFor (fresh .ledger) u) (nothing-held u) book u accepted;
+      ledger = length-replicate {A = ℕ} 1024 0;
+      tally =
+          record {
+            admitted = length-replicate {A = ℕ} 32 0;
+            declined = length-replicate {A = ℕ} 32 0;
+            dropped = length-replicate {A = ℕ} 32 0;
+          };
+      holds =
+          record {
+            users = length-replicate {A = ℕ} 8 0;
+            numbers = length-replicate {A = ℕ} 8 0;
+            words = length-replicate {A = ℕ} 256 0;
+          };
     }
 
-kept : (book : List ℕ) (list : List Submission) → Kept book (recordsAfter book list) (log book list)
+nothing-kept : (book : List ℕ) → Kept book fresh []
+unfolding entriesOf keep count taken upTo from account flat downFrom
+nothing-kept book =
+    record {
+      whole = whole-fresh;
+      places-kept = refl;
+      users = λ u. kept-fresh book u;
+      sums = λ u. refl;
+      numbers = λ u. refl;
+    }
+
+pub kept : (book : List ℕ) (list : List Made) → Kept book (recordsAfter book list) (log book list)
 unfolding recordsAfter log
-kept book [] = kept-fresh book
-kept book (x ∷ earlier) = kept-after book (recordsAfter book earlier) (log book earlier) (kept book earlier) x
+kept book [] = nothing-kept book
+kept book (x ∷ earlier) = kept-next book (recordsAfter book earlier) (log book earlier) (kept book earlier) x
 
--- "For every list of submissions"
+-- "For every list of these calls"
 
-promised : (book : List ℕ) (s : Records) (entries : List Entry) → Kept book s entries → Promise book s entries
-unfolding heldFor
-promised book s entries k =
-    record {
-      whole = k .long;
-      pairs = k .pairs;
-      each = holds;
-      counted = k .counted;
-    }
-  where
-    holds : (user : ℕ) → Holds book user (heldFor (s .ledger) user) (entriesOf user entries)
-    holds user =
-        let mine = heldFor (s .ledger) user in
+none-above : (m n : ℕ) → n < m → any (eqb m) (downFrom n) ≡ false
+unfolding any downFrom
+none-above m zero l = refl
+none-above m (suc n) l = rw (ne-eqb m (suc n) (λ (e : m ≡ suc n). omega arith), none-above m n (omega arith))
+
+down-once : (n : ℕ) → noneTwice (downFrom n) ≡ true
+unfolding noneTwice downFrom
+down-once zero = refl
+down-once (suc n) = rw (none-above (suc n) n (omega arith)) (down-once n)
+
+module _ (book : List ℕ) (s : Records) (entries : List Entry) (k : Kept book s entries) where
+  module _ (user : ℕ) where
+    none-broken : BookAccepted book → brokenMask book user (countedFor (s .ledger) (s .holds) user) ≡ 0
+    none-broken accepted =
+        mask-same book user (countedFor (s .ledger) (s .holds) user)
+        (accountAccesses (headOf book) (account (entriesOf user entries)))
+        (λ x known. counted-same book user s (account (entriesOf user entries)) (k .users user) x)
+        ∙ k .users user .no-rule accepted
+
+    reserved : Reserved book user (s .ledger) (s .holds) (account (entriesOf user entries))
+    unfolding holdsNumber
+    reserved =
+        let mine = k .users user in
+        let held = countedFor (s .ledger) (s .holds) user in
         record {
-          union = k .held user;
-          breaks-none = λ accepted. broken-none book user mine (k .lawful accepted user);
+          union = mine .union;
+          breaks-none = λ accepted. broken-none book user held (none-broken accepted);
           satisfies =
               λ accepted.
-              query-demand book user mine (held-operations (wordsOf (s .ledger) user)) .zero-satisfies
-              (k .lawful accepted user);
+              query-demand book user held (counted-operations (s .ledger) (s .holds) user) .zero-satisfies
+              (none-broken accepted);
+          held-numbers = mine .holds .numbers;
+          held-words = mine .holds .words;
+          one-place = mine .holds .apart;
         }
+
+    counted : Counted user (s .tally) (s .holds) (entriesOf user entries)
+    unfolding holdsNumber
+    counted =
+        let mine = k .users user in
+        let a = account (entriesOf user entries) in
+        let given-now = given-same book user s a mine in
+        let asked-now = asked-same book user s a mine in
+        let numbers-now :
+        flat (λ e. numberIn (e .reply)) (entriesOf user entries) ≡ downFrom (givenTo user (s .tally) (s .holds)) =
+        rw given-now (k .numbers user) in
+        record {
+          admitted-count = mine .admits;
+          declined-count = mine .declines;
+          dropped-count = mine .drops;
+          held-count = mine .holds .counted;
+          sum = asked-now ∙ k .sums user;
+          few = rw asked-now (mine .few);
+          numbers = numbers-now;
+          once = rw numbers-now (down-once (givenTo user (s .tally) (s .holds)));
+          held-below =
+              λ n h.
+              let b = falling-number (given a) n (a .holds) (mine .falling) (sym (mine .holds .numbers n) ∙ h) in
+              (b .0, omega (arith, given-now, b .1));
+        }
+
+  promised : Promise book s entries
+  unfolding eightHeld
+  promised =
+      let c = all-count (taken (s .holds)) 8 in
+      let e = k .places-kept in
+      record {
+        whole = k .whole .ledger;
+        whole-tally = k .whole .tally;
+        whole-holds = k .whole .holds;
+        each = reserved;
+        counted = counted;
+        at-most-eight = omega (arith, c .1, e);
+        eight = c .0 ∙ eight-more (places s) _ _ e;
+      }
+    where
+      eight-more : (now frees takes : ℕ) → now + frees ≡ takes → eqb now 8 ≡ eqb takes (frees + 8)
+      eight-more now frees takes e =
+          same-test (eqb now 8) (eqb takes (frees + 8))
+          (λ t. eq-eqb takes (frees + 8) (omega (arith, e, eqb-true now 8 t)))
+          (λ t. eq-eqb now 8 (omega (arith, e, eqb-true takes (frees + 8) t)))
 
 pub promise : (book : List ℕ) → EveryList book
 promise book list = promised book (recordsAfter book list) (log book list) (kept book list)

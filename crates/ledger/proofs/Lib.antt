@@ -1,7 +1,13 @@
 pub mod WordLaws
 pub mod CountLaws
-pub mod SubmitLaws
+pub mod Counting
+pub mod PlaceLaws
+pub mod CallLaws
+pub mod HoldLaws
+pub mod HeldKept
+pub mod Outcomes
+pub mod UserKept
 pub mod Kept
 pub mod Alike
-pub mod CallLaws
+pub mod Promises
 pub mod Vectors

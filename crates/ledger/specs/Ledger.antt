@@ -1,4 +1,4 @@
--- The ledger: what is held for each user, and what an admitted plan adds. Document 02, N3. Assumes nothing.
+-- The ledger: the words of each user, and what an admitted plan adds. Document 02, N3 and N10. Assumes nothing.
 use Prim.Native.Nat.{ℕ, _+_, _*_, _/_, _%_}
 use mathlib.Core.Bool.{cond}
 use mathlib.Core.List.{List, map}
@@ -16,9 +16,9 @@ Ledger = List ℕ
 unfoldable pub wordsOf : Ledger → (user : ℕ) → List ℕ
 wordsOf ledger user = map (λ w. getD ledger (32 * user + w) 0) (upTo 32)
 
--- the accesses "held for its user"
-unfoldable pub heldFor : Ledger → (user : ℕ) → Accesses
-heldFor ledger user = heldBy (wordsOf ledger user)
+-- the accesses in a user's words: "The words stand for admitted plans only."
+unfoldable pub admittedFor : Ledger → (user : ℕ) → Accesses
+admittedFor ledger user = heldBy (wordsOf ledger user)
 
 -- 32 words joined to those of a user; the words of all others are as they were
 unfoldable pub joinedFor : Ledger → (user : ℕ) (words : List ℕ) → Ledger

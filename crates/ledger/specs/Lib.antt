@@ -1,5 +1,7 @@
 pub mod Ledger
 pub mod Counts
+pub mod Counting
+pub mod Places
 pub mod Answers
 pub mod Histories
 pub mod Alike

@@ -1,7 +1,8 @@
-// The accesses among a user's words in a ledger, as text. The words of Flows are those of user 0.
+// The accesses among 32 words, laid out as in Flows, as text.
 use crate::answers::Answer;
 use crate::answers::say;
 use book::sets::word_at;
+use std::num::wrapping_add_usize;
 
 // An access as text: p for projection or c for condition, the leaf and the operation.
 fn named(answer: Answer, n: usize) -> Answer {
@@ -12,10 +13,10 @@ fn named(answer: Answer, n: usize) -> Answer {
         .number((n % 16) as u64)
 }
 
-// With access n, where it is among the words: projections come first, then all goes by leaf, then by
-// operation.
-fn with_access(answer: Answer, words: &[u64], user: u32, n: usize) -> Answer {
-    let word = word_at(words, 32 * (user as usize) + n / 1024 * 16 + n % 16);
+// With access n, where it is among the words from start on: projections come first, then all goes by
+// leaf, then by operation.
+fn with_access(answer: Answer, words: &[u64], start: usize, n: usize) -> Answer {
+    let word = word_at(words, wrapping_add_usize(start, n / 1024 * 16 + n % 16));
     if (word >> (n / 16 % 64)) % 2 == 0 {
         return answer;
     }
@@ -29,10 +30,11 @@ fn or_none(accesses: Answer) -> Answer {
     accesses
 }
 
-pub fn accesses(words: &[u64], user: u32) -> Answer {
+// Those among the 32 words from start on.
+pub fn accesses(words: &[u64], start: usize) -> Answer {
     let mut answer = say(b"");
     for n in 0..2048usize {
-        let next = with_access(answer, words, user, n);
+        let next = with_access(answer, words, start, n);
         answer = next;
     }
     or_none(answer)

@@ -24,18 +24,13 @@ fn change(book: Space, edit: Numbers) -> Space {
     book.put_times(start, 1, edit.number(2), 0, edit.or(3, 1))
 }
 
-fn change_at(book: Space, edits: &[u8], i: usize) -> Space {
-    if !starts(edits, i, b',') {
-        return book;
-    }
-    change(book, numbers::read(piece(edits, i, b',')))
-}
-
 pub fn edited(book: Space, edits: &[u8]) -> Space {
     let mut space = book;
     for i in 0..edits.len() {
-        let next = change_at(space, edits, i);
-        space = next;
+        if starts(edits, i, b',') {
+            let next = change(space, numbers::read(piece(edits, i, b',')));
+            space = next;
+        }
     }
     space
 }

@@ -1,6 +1,6 @@
 // A file of cases, a line a case. A line that starts with # is a comment; one that starts with +
-// has edits for every case below it, up to the next such line; one that starts with @ sets the ledger
-// and the tally to submit to. What stands before = in a case is a label and what is tried, with bars
+// has edits for every case below it, up to the next such line; one that starts with @ sets the ledger,
+// the tally and the hold record. What stands before = in a case is a label and what is tried, with bars
 // between the parts; what stands after it is the answer expected.
 use crate::answers::Answer;
 use crate::answers::malformed;
@@ -18,11 +18,12 @@ use crate::numbers::Numbers;
 use crate::plans::plan_of;
 use crate::reading;
 use crate::records;
+use crate::reserving;
 use crate::sealing;
-use crate::submitting;
 use crate::text::after;
 use crate::text::before;
 use crate::text::piece;
+use crate::text::same;
 use crate::text::starts;
 use book::bytes::byte_at;
 use book::bytes::part;
@@ -36,7 +37,11 @@ pub enum Call {
     Idle,
     Blocked,
     Culprits,
-    Submit,
+    // Each case names its own call, one of the three that follow.
+    Reserve,
+    Ask,
+    Commit,
+    Drop,
     Tree,
     Readers,
 }
@@ -58,7 +63,10 @@ fn may_ask(call: Call, asked: Numbers) -> bool {
         Call::Idle => asked.within(1, 4),
         Call::Blocked => asked.within(1, 2),
         Call::Culprits => asked.within(1, 2),
-        Call::Submit => asked.within(1, 4),
+        Call::Reserve => false,
+        Call::Ask => asked.within(1, 4),
+        Call::Commit => asked.within(2, 4),
+        Call::Drop => asked.within(2, 4),
         Call::Tree => asked.within(1, 4),
         Call::Readers => asked.within(1, 4),
     }
@@ -72,7 +80,9 @@ fn answered(call: Call, asked: Numbers, book: &[u8], plan: &[u8], records: &mut 
         Call::Idle => idling::answered(asked, book),
         Call::Blocked => blocking::answered(asked, book),
         Call::Culprits => causing::answered(asked, book),
-        Call::Submit => submitting::answered(asked, book, plan, records),
+        Call::Ask => reserving::asked(asked, book, plan, records),
+        Call::Commit => reserving::committed(asked, book, records),
+        Call::Drop => reserving::dropped(asked, book, records),
         Call::Tree => drawing::answered(asked, book, plan),
         _ => reading::answered(asked, book),
     }
@@ -96,7 +106,7 @@ fn built(
 }
 
 // The rows of a plan stand before the edits.
-fn tried(call: Call, common: &[u8], parts: &[u8], records: &mut [u64]) -> Answer {
+fn called(call: Call, common: &[u8], parts: &[u8], records: &mut [u64]) -> Answer {
     let asked = numbers::read(before(parts, b'|'));
     let texts = after(parts, b'|');
     if !may_ask(call, asked) {
@@ -104,7 +114,7 @@ fn tried(call: Call, common: &[u8], parts: &[u8], records: &mut [u64]) -> Answer
     }
     match call {
         Call::Seal => sealing::answered(asked, texts),
-        Call::Flows | Call::Judge | Call::Submit | Call::Tree => built(
+        Call::Flows | Call::Judge | Call::Ask | Call::Tree => built(
             call,
             asked,
             before(texts, b'|'),
@@ -113,6 +123,32 @@ fn tried(call: Call, common: &[u8], parts: &[u8], records: &mut [u64]) -> Answer
             records,
         ),
         _ => built(call, asked, b"", common, texts, records),
+    }
+}
+
+fn named(text: &[u8]) -> Call {
+    if same(text, b" ask ") {
+        return Call::Ask;
+    }
+    if same(text, b" commit ") {
+        return Call::Commit;
+    }
+    if same(text, b" drop ") {
+        return Call::Drop;
+    }
+    Call::Reserve
+}
+
+// Where each case names its own call, that is the part before all others.
+fn tried(call: Call, common: &[u8], parts: &[u8], records: &mut [u64]) -> Answer {
+    match call {
+        Call::Reserve => called(
+            named(before(parts, b'|')),
+            common,
+            after(parts, b'|'),
+            records,
+        ),
+        _ => called(call, common, parts, records),
     }
 }
 
@@ -182,7 +218,7 @@ fn count_of(call: Call, file: &[u8]) -> Count {
         right: 0,
         common: file.len(),
     };
-    let mut records = [0u64; 2176];
+    let mut records = [0u64; 2480];
     for i in 0..file.len() {
         let next = line_at(count, call, file, i, &mut records);
         count = next;

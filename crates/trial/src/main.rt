@@ -15,10 +15,10 @@ mod judging; // Judge
 mod numbers; // reading numbers
 mod plans; // building plans to try
 mod reading; // what the crates above read in a book
-mod records; // a ledger and a tally to submit to
+mod records; // a ledger, a tally and a hold record to call on
+mod reserving; // Ask, commit and drop
 mod sealing; // Seal
 mod spaces; // bytes to build in
-mod submitting; // Submit
 mod text; // parts of a text
 mod words; // reading and writing words
 
@@ -33,7 +33,11 @@ fn main() {
     try_file(Call::Idle, b"idle.cases");
     try_file(Call::Blocked, b"blocked.cases");
     try_file(Call::Culprits, b"culprits.cases");
-    try_file(Call::Submit, b"submit.cases");
+    try_file(Call::Reserve, b"ledger.cases");
+    try_file(Call::Reserve, b"tally.cases");
+    try_file(Call::Reserve, b"holds.cases");
+    try_file(Call::Reserve, b"records.cases");
+    try_file(Call::Reserve, b"refusals.cases");
     try_file(Call::Tree, b"tree.cases");
     try_file(Call::Readers, b"readers.cases");
 }

@@ -1,9 +1,9 @@
-// Decimal numbers in a text: at most four, with spaces or line ends between them.
-// More than four, or something else than numbers.
-const MALFORMED: usize = 5;
+// Decimal numbers in a text: at most five, with spaces or line ends between them.
+// More than five, or something else than numbers.
+const MALFORMED: usize = 6;
 
 pub struct Numbers {
-    values: [u32; 4],
+    values: [u32; 5],
     // How many there are, or MALFORMED.
     count: usize,
     // Whether one more is being read.
@@ -12,7 +12,7 @@ pub struct Numbers {
 
 fn zeros(count: usize) -> Numbers {
     Numbers {
-        values: [0u32; 4],
+        values: [0u32; 5],
         count: count,
         open: false,
     }
@@ -26,7 +26,7 @@ fn longer(value: u32, digit: u8) -> u64 {
 impl Numbers {
     fn with_digit(mut self, digit: u8) -> Numbers {
         let at = self.count;
-        if 3 < at {
+        if 4 < at {
             return zeros(MALFORMED);
         }
         let value = longer(self.values[at], digit);
@@ -42,7 +42,7 @@ impl Numbers {
     fn closed(mut self) -> Numbers {
         let at = self.count;
         if self.open {
-            if at < 4 {
+            if at < 5 {
                 self.count = at + 1;
                 self.open = false;
             }
@@ -70,7 +70,7 @@ impl Numbers {
 
     // Number i; 0 where there is none.
     pub fn number(self, i: usize) -> u32 {
-        if i < 4 {
+        if i < 5 {
             return self.values[i];
         }
         0

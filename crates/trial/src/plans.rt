@@ -38,18 +38,13 @@ fn with_text(plan: Space, rows: &[u8]) -> Space {
     plan.malformed()
 }
 
-fn with_text_at(plan: Space, text: &[u8], i: usize) -> Space {
-    if !starts(text, i, b',') {
-        return plan;
-    }
-    with_text(plan, piece(text, i, b','))
-}
-
 pub fn plan_of(text: &[u8]) -> Space {
     let mut plan = zeros();
     for i in 0..text.len() {
-        let next = with_text_at(plan, text, i);
-        plan = next;
+        if starts(text, i, b',') {
+            let next = with_text(plan, piece(text, i, b','));
+            plan = next;
+        }
     }
     plan
 }

@@ -21,9 +21,21 @@ use Rattle.verdicts.specs.Answers.{userTests, judgeTests, judgeAnswer}
 use Rattle.verdicts.specs.Demand.{JudgeAccepted}
 use Rattle.verdicts.specs.declared.Judged.the-variants as judged
 
+-- the outcomes of book and user, joined. The user's counts only where the book is accepted, and there the number of users
+-- is small.
+pub user-joined :
+    (book : List ℕ) (user : ℕ) (x y both : Tested)
+    → x ≡ firstFailing (bookTests book)
+    → (userCount (headOf book) ≤ 64 → y ≡ firstFailing (userTests (headOf book) user))
+    → both ≡ orElse x y
+    → both ≡ firstFailing (bookTests book ++ userTests (headOf book) user)
+user-joined book user x y both ex ey eb =
+    joined-after (bookTests book) (userTests (headOf book) user) x y both ex
+    (λ accepted. let h = accepted-head book accepted in ey (omega (arith, h .users-most)))
+    eb
+
 module _ (book : List ℕ) (user : ℕ) (plan : List ℕ) where
-  -- the outcomes of the parts, joined in document 01's order. The user's counts only where the book is accepted, and there
-  -- the number of users is small.
+  -- the outcomes of the parts, joined in document 01's order
   pub judge-joined :
       (x y both z r : Tested)
       → x ≡ firstFailing (bookTests book)
@@ -35,10 +47,7 @@ module _ (book : List ℕ) (user : ℕ) (plan : List ℕ) where
   unfolding judgeTests
   judge-joined x y both z r ex ey eb ez er =
       joined (bookTests book ++ userTests (headOf book) user) (planTests (headOf book) plan) both z r
-      (joined-after (bookTests book) (userTests (headOf book) user) x y both ex
-      (λ accepted. let h = accepted-head book accepted in ey (omega (arith, h .users-most)))
-      eb)
-      ez er
+      (user-joined book user x y both ex ey eb) ez er
 
   -- what Judge has tested when it accepts
   pub judge-accepted : Passes (judgeTests book user plan) → JudgeAccepted book user plan

@@ -12,7 +12,7 @@ use Rattle.book.specs.Blocks.{headOf, ruleAt, ruleCount}
 use Rattle.book.specs.Rule.{coversUser, referenceCount}
 use Rattle.book.specs.Refusals.{BookAccepted}
 use Rattle.book.proofs.Accepted.{accepted-rule}
-use Rattle.book.proofs.Lists.{and-false, and-left}
+use Rattle.book.proofs.Lists.{and-both, and-false, and-left, and-true}
 use Rattle.book.proofs.Members.{has-zero, same-members}
 use Rattle.lineage.proofs.Words.{word-of}
 use Rattle.verdicts.specs.Accesses.{Access, Accesses}
@@ -22,7 +22,7 @@ use Rattle.verdicts.proofs.Accesses.{known}
 use Rattle.verdicts.proofs.Quantifiers.{any-at}
 use Rattle.verdicts.proofs.Offers.{found-offers}
 use Rattle.verdicts.proofs.Choices.{someChosen, choice-operations}
-use Rattle.verdicts.proofs.Monotone.{refused-same}
+use Rattle.verdicts.proofs.Monotone.{refused-same, refused-wider}
 
 module _ (book : List ℕ) (user : ℕ) where
   -- "bit r for rule r"
@@ -67,6 +67,30 @@ module _ (book : List ℕ) (user : ℕ) where
       → breaks (headOf book) (ruleAt book r) user query ≡ false
   broken-none query e r l =
       sym (rw (lt-ltb r (ruleCount book) l) at (mask-bit query r)) ∙ rw (e, has-zero r)
+
+  -- fewer accesses break no more
+  pub mask-fewer :
+      (D E : Accesses)
+      → ((x : Access) → D x ≡ true → E x ≡ true)
+      → brokenMask book user E ≡ 0
+      → brokenMask book user D ≡ 0
+  unfolding breaks
+  mask-fewer D E more e =
+      none-broken D (λ r l. go r (broken-none E e r l) (breaks (headOf book) (ruleAt book r) user D) refl)
+    where
+      go :
+          (r : ℕ)
+          → breaks (headOf book) (ruleAt book r) user E ≡ false
+          → (b : Bool)
+          → breaks (headOf book) (ruleAt book r) user D ≡ b
+          → b ≡ false
+      go r kept true h =
+          let covered = coversUser (headOf book) (ruleAt book r) user in
+          let b = and-both covered (someChoiceRefused (headOf book) (ruleAt book r) D) h in
+          sym (and-true covered (someChoiceRefused (headOf book) (ruleAt book r) E) (b .0)
+          (refused-wider (headOf book) (ruleAt book r) D E (λ x k. more x) (b .1)))
+          ∙ kept
+      go r kept false h = refl
 
 -- No access, no choice
 

@@ -50,7 +50,7 @@ pub fn broken_by(book: &[u8], t: &[u64], user: u32, words: [u64; 32]) -> u32
     (found % 4294967296) as u32
 }
 
-fn test_user(t: &[u64], user: u32) -> Tested
+pub fn test_user(t: &[u64], user: u32) -> Tested
     ensures { λ r. ⌜ UserTested (now (t .entry)) user r ⌝ }
 {
     test(NO_USER, 0, contains(users(t), user as usize))

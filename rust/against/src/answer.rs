@@ -1,6 +1,8 @@
 //! What an engine answers to a case.
 
 use crate::engine::{nodes_and_length, unpacked, Engine};
+use books::records::Records;
+use books::reserve::Settle;
 use books::Case;
 use second::Refusal;
 use std::fmt;
@@ -26,10 +28,14 @@ pub enum Answer {
     Unblocked,
     /// Culprits: the mask of the rules that close the data, the asking one among them.
     Few(u32),
-    /// Submit: the plan is admitted.
-    Admitted,
-    /// Submit: the plan is declined, and the mask of broken rules.
+    /// Ask: the plan is held, and the number of the hold.
+    Held(u32),
+    /// Ask: the plan is declined, and the mask of broken rules.
     Declined(u32),
+    /// Ask: an answer that says neither.
+    Neither(u64),
+    /// Commit and Drop: the number given.
+    Settled(u32),
     /// Tree: the nodes and the text's length, as they are packed.
     Written(u32),
     /// The call is refused.
@@ -38,8 +44,8 @@ pub enum Answer {
     NotIdle,
     /// No engine's answer: what Blocked may say of a rule whose data some plan opens.
     NotClosed,
-    /// No engine's answer: what the documents state of every list of submissions, of two lists that are
-    /// alike for a user, or of every answer.
+    /// No engine's answer: what the documents state of every list of asks, commits and drops, of two lists
+    /// that are alike for a user, or of every answer.
     Stated(&'static str),
     /// The engine gave up; nothing can be compared.
     GaveUp,
@@ -57,8 +63,10 @@ impl fmt::Display for Answer {
             Answer::Closed(value) => closed(f, *value),
             Answer::Unblocked => write!(f, "not blocked"),
             Answer::Few(mask) => few(f, *mask),
-            Answer::Admitted => write!(f, "admitted"),
+            Answer::Held(number) => write!(f, "held under {number}"),
             Answer::Declined(mask) => write!(f, "declined, broken {mask:#x}"),
+            Answer::Neither(value) => write!(f, "neither held nor declined ({value:#x})"),
+            Answer::Settled(number) => write!(f, "settled {number}"),
             Answer::Written(value) => written(f, *value),
             Answer::Refused(Refusal { number, place }) => write!(f, "refused {number} at {place}"),
             Answer::NotIdle => write!(f, "not idle, as a user and a plan break it alone"),
@@ -89,39 +97,71 @@ fn few(f: &mut fmt::Formatter<'_>, mask: u32) -> fmt::Result {
     rules.try_for_each(|rule| write!(f, " {rule}"))
 }
 
-/// Calls the engine. The case is changed as the call changes its buffers.
+/// What an answer of Ask that refuses nothing says.
+fn asked(value: u64) -> Answer {
+    match value >> 32 {
+        0 => Answer::Declined(value as u32),
+        1 => Answer::Held(value as u32),
+        _ => Answer::Neither(value),
+    }
+}
+
+/// Calls the engine. The case is changed as the call changes its buffers and records.
 pub fn of(engine: &dyn Engine, case: &mut Case) -> Answer {
     let answer = match case {
         Case::Check { book } => engine.check(book).map(Answer::Rules),
         Case::Seal { block } => engine.seal(block).map(|()| Answer::Done),
         Case::Flows { book, plan, words } => engine.flows(book, plan, words).map(|()| Answer::Done),
         Case::Judge { book, user, plan } => engine.judge(book, *user, plan).map(Answer::Broken),
-        Case::Idle { book, rule, buffer } => match engine.idle(book, *rule, buffer) {
-            None => Ok(Answer::GaveUp),
-            Some(answer) => answer.map(|shown| match shown {
+        Case::Idle { book, rule, buffer } => {
+            searched(engine.idle(book, *rule, buffer), |shown| match shown {
                 None => Answer::Idle,
                 Some((user, rows)) => Answer::Needed(user, rows),
-            }),
-        },
-        Case::Blocked { book, rule } => match engine.blocked(book, *rule) {
-            None => Ok(Answer::GaveUp),
-            Some(answer) => answer.map(|value| match value {
+            })
+        }
+        Case::Blocked { book, rule } => {
+            searched(engine.blocked(book, *rule), |value| match value {
                 0 => Answer::Open,
                 _ => Answer::Closed(value),
-            }),
-        },
-        Case::Culprits { book, rule } => match engine.culprits(book, *rule) {
-            None => Ok(Answer::GaveUp),
-            Some(answer) => answer.map(|mask| match mask {
+            })
+        }
+        Case::Culprits { book, rule } => {
+            searched(engine.culprits(book, *rule), |mask| match mask {
                 0 => Answer::Unblocked,
                 _ => Answer::Few(mask),
-            }),
-        },
-        Case::Submit(given) => engine.submit(given).map(|mask| match mask {
-            0 => Answer::Admitted,
-            _ => Answer::Declined(mask),
+            })
+        }
+        Case::Ask(given) => {
+            let (book, plan) = (&given.book, &given.plan);
+            let answer = engine.ask(book, given.user, plan, &mut given.records);
+            answer.map(asked)
+        }
+        Case::Commit(given) => settled(given, |book, user, number, records| {
+            engine.commit(book, user, number, records)
+        }),
+        Case::Drop(given) => settled(given, |book, user, number, records| {
+            engine.drop_hold(book, user, number, records)
         }),
         Case::Tree(given) => engine.tree(given).map(Answer::Written),
     };
     answer.unwrap_or_else(Answer::Refused)
+}
+
+fn settled(
+    given: &mut Settle,
+    call: impl FnOnce(&[u8], u32, u32, &mut Records) -> Result<u32, Refusal>,
+) -> Result<Answer, Refusal> {
+    let answer = call(&given.book, given.user, given.number, &mut given.records);
+    answer.map(Answer::Settled)
+}
+
+/// What a search says that may have been given up.
+fn searched<T>(
+    answer: Option<Result<T, Refusal>>,
+    says: impl FnOnce(T) -> Answer,
+) -> Result<Answer, Refusal> {
+    match answer {
+        None => Ok(Answer::GaveUp),
+        Some(answer) => answer.map(says),
+    }
 }

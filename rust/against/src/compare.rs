@@ -3,8 +3,9 @@
 use crate::answer::{self, Answer};
 use crate::engine::Engine;
 use crate::reached::Reached;
+use crate::records::{counts, places};
 use crate::text;
-use books::submissions::{Submit, USERS};
+use books::records::{Records, PLACES, USERS};
 use books::Case;
 use std::fmt;
 
@@ -30,27 +31,39 @@ impl fmt::Display for Difference {
     }
 }
 
-/// What a call changed: the words of a ledger and the counts of users one by one, else the whole buffer.
+/// What a call changed: of records the words, the counts of users and the places one by one, else the whole
+/// buffer.
 fn left(before: &Case, after: &Case) -> Vec<String> {
-    if let (Case::Submit(before), Case::Submit(after)) = (before, after) {
-        return left_of_submit(before, after);
+    if let (Some(before), Some(after)) = (before.records(), after.records()) {
+        return left_of_records(before, after);
     }
     let lines = text::write(after);
     let buffer = lines.lines().last().filter(|_| before != after);
     buffer.into_iter().map(str::to_string).collect()
 }
 
-fn left_of_submit(before: &Submit, after: &Submit) -> Vec<String> {
+fn left_of_records(before: &Records, after: &Records) -> Vec<String> {
     let words = before.ledger.iter().zip(&after.ledger).enumerate();
     let changed = words.filter(|(_, (word, left))| word != left);
     let mut lines: Vec<String> = changed
         .map(|(i, (_, left))| format!("word {i} {left:016x}"))
         .collect();
-    let counts = |of: &Submit, user: usize| [of.admitted[user], of.declined[user]];
-    let counted = (0..USERS).filter(|&user| counts(before, user) != counts(after, user));
+    let of = |records: &Records, user: usize| counts(&records.tally, user);
+    let counted = (0..USERS).filter(|&user| of(before, user) != of(after, user));
     lines.extend(counted.map(|user| {
-        let [admitted, declined] = counts(after, user);
-        format!("user {user} admitted {admitted} declined {declined}")
+        let of = of(after, user);
+        let (admitted, declined, dropped) = (of.admitted, of.declined, of.dropped);
+        format!("user {user} admitted {admitted} declined {declined} dropped {dropped}")
+    }));
+    let [before, after] = [before, after].map(|records| places(&records.holds).places);
+    let changed = (0..PLACES).filter(|&place| before[place] != after[place]);
+    lines.extend(changed.map(|place| {
+        let of = after[place];
+        let words: String = of.words.iter().map(|word| format!(" {word:x}")).collect();
+        format!(
+            "place {place} user {} number {} words{words}",
+            of.user, of.number
+        )
     }));
     lines
 }
@@ -102,20 +115,27 @@ pub fn wrong(
 mod tests {
     use super::*;
 
-    /// Of a ledger the words that differ are said, of a tally the users' counts, not all of them.
+    /// Of a ledger the words that differ are said, of a tally the users' counts, of a hold record the places,
+    /// not all of them.
     #[test]
-    fn what_a_submission_leaves() {
-        let before = Submit::fresh(&[]);
+    fn what_a_call_leaves() {
+        let before = Records::fresh();
         let mut after = before.clone();
-        assert!(left_of_submit(&before, &after).is_empty());
+        assert!(left_of_records(&before, &after).is_empty());
         (after.ledger[33], after.ledger[1_023]) = (16, 1 << 63);
-        (after.declined[1], after.admitted[31]) = (1, 5);
+        (after.tally.declined[1], after.tally.admitted[31]) = (1, 5);
+        after.tally.dropped[31] = 6;
+        (after.holds.users[2], after.holds.numbers[7]) = (40, 9);
+        after.holds.words[255] = 31;
+        let zeros = " 0".repeat(31);
         let lines = [
             "word 33 0000000000000010",
             "word 1023 8000000000000000",
-            "user 1 admitted 0 declined 1",
-            "user 31 admitted 5 declined 0",
+            "user 1 admitted 0 declined 1 dropped 0",
+            "user 31 admitted 5 declined 0 dropped 6",
+            &format!("place 2 user 40 number 0 words 0{zeros}"),
+            &format!("place 7 user 0 number 9 words{zeros} 1f"),
         ];
-        assert_eq!(left_of_submit(&before, &after), lines);
+        assert_eq!(left_of_records(&before, &after), lines);
     }
 }

@@ -1,12 +1,13 @@
 //! The engines that can be tried.
 
-use books::submissions::Submit;
+use crate::records;
+use books::records::Records;
 use books::trees::Tree;
 #[cfg(feature = "engine")]
 use pspec::raw;
 use second::access::Action;
 use second::blocked::Datum;
-use second::{idle, reading, Counts, Refusal, Tally};
+use second::{idle, reading, Asked, Refusal};
 
 /// What Idle answers: nothing where the engine gave up, else idle (`None`) or a user and rows.
 pub type Idleness = Option<Result<Option<(u32, u32)>, Refusal>>;
@@ -19,7 +20,11 @@ pub type Blocking = Option<Result<u32, Refusal>>;
 /// among the others and 0 for a rule that is not blocked.
 pub type Causes = Option<Result<u32, Refusal>>;
 
-/// The nine calls of an engine.
+/// What Ask answers where nothing is refused: the answer as C has it, 2^32 + the number of a held plan, or the
+/// mask of a declined one. So every bit of it is compared.
+pub type Reply = u64;
+
+/// The eleven calls of an engine.
 pub trait Engine {
     /// What it is called in reports.
     fn name(&self) -> &'static str;
@@ -37,8 +42,30 @@ pub trait Engine {
     fn blocked(&self, book: &[u8], rule: u32) -> Blocking;
     /// Culprits.
     fn culprits(&self, book: &[u8], rule: u32) -> Causes;
-    /// Submit: the ledger and the counts are changed as the call changes them.
-    fn submit(&self, given: &mut Submit) -> Result<u32, Refusal>;
+    /// Ask: the records are changed as the call changes them.
+    fn ask(
+        &self,
+        book: &[u8],
+        user: u32,
+        plan: &[u8],
+        records: &mut Records,
+    ) -> Result<Reply, Refusal>;
+    /// Commit: the number given.
+    fn commit(
+        &self,
+        book: &[u8],
+        user: u32,
+        number: u32,
+        records: &mut Records,
+    ) -> Result<u32, Refusal>;
+    /// Drop: the number given.
+    fn drop_hold(
+        &self,
+        book: &[u8],
+        user: u32,
+        number: u32,
+        records: &mut Records,
+    ) -> Result<u32, Refusal>;
     /// Tree: the value as C has it, so that every bit of it is compared. The memory is changed as the
     /// call changes it.
     fn tree(&self, given: &mut Tree) -> Result<u32, Refusal>;
@@ -103,13 +130,39 @@ impl Engine for Second {
         };
         Some(answer.map(|others| others.map_or(0, |mask| with_asking(mask, rule))))
     }
-    fn submit(&self, given: &mut Submit) -> Result<u32, Refusal> {
-        let mut tally = tally(given);
-        let ledger = &mut given.ledger;
-        let answer = second::submit(&given.book, given.user, &given.plan, ledger, &mut tally);
-        given.admitted = tally.pairs.map(|pair| pair.admitted);
-        given.declined = tally.pairs.map(|pair| pair.declined);
-        answer
+    fn ask(
+        &self,
+        book: &[u8],
+        user: u32,
+        plan: &[u8],
+        records: &mut Records,
+    ) -> Result<Reply, Refusal> {
+        let answer = records::by_second(records, |ledger, tally, holds| {
+            second::ask(book, user, plan, ledger, tally, holds)
+        });
+        answer.map(reply)
+    }
+    fn commit(
+        &self,
+        book: &[u8],
+        user: u32,
+        number: u32,
+        records: &mut Records,
+    ) -> Result<u32, Refusal> {
+        records::by_second(records, |ledger, tally, holds| {
+            second::commit(book, user, number, ledger, tally, holds)
+        })
+    }
+    fn drop_hold(
+        &self,
+        book: &[u8],
+        user: u32,
+        number: u32,
+        records: &mut Records,
+    ) -> Result<u32, Refusal> {
+        records::by_second(records, |ledger, tally, holds| {
+            second::drop_hold(book, user, number, ledger, tally, holds)
+        })
     }
     fn tree(&self, given: &mut Tree) -> Result<u32, Refusal> {
         let buffer = &mut given.memory[..given.lent];
@@ -118,15 +171,17 @@ impl Engine for Second {
     }
 }
 
-/// The tally of a submission, pair by pair.
-pub fn tally(given: &Submit) -> Tally {
-    let pair = |user: usize| Counts {
-        admitted: given.admitted[user],
-        declined: given.declined[user],
-    };
-    Tally {
-        pairs: std::array::from_fn(pair),
+/// What an ask replies as the header packs it.
+fn reply(asked: Asked) -> Reply {
+    match asked.mask {
+        0 => held(asked.number),
+        mask => u64::from(mask),
     }
+}
+
+/// The reply that a plan is held under a number, as the header packs it: 2^32 + number.
+pub fn held(number: u32) -> Reply {
+    (1 << 32) + u64::from(number)
 }
 
 /// A user and an association as the header packs them: user × 2^24, and for reference i
@@ -212,15 +267,39 @@ impl Engine for Proved {
     fn culprits(&self, book: &[u8], rule: u32) -> Causes {
         Some(value(raw::culprits(book, rule)))
     }
-    fn submit(&self, given: &mut Submit) -> Result<u32, Refusal> {
-        let mut tally = raw::Tally {
-            admitted: given.admitted,
-            declined: given.declined,
-        };
-        let ledger = &mut given.ledger;
-        let answer = raw::submit(&given.book, given.user, &given.plan, ledger, &mut tally);
-        (given.admitted, given.declined) = (tally.admitted, tally.declined);
-        value(answer)
+    fn ask(
+        &self,
+        book: &[u8],
+        user: u32,
+        plan: &[u8],
+        records: &mut Records,
+    ) -> Result<Reply, Refusal> {
+        let answer = records::by_engine(records, |ledger, tally, holds| {
+            raw::ask(book, user, plan, ledger, tally, holds)
+        });
+        value(answer).map(|_| answer)
+    }
+    fn commit(
+        &self,
+        book: &[u8],
+        user: u32,
+        number: u32,
+        records: &mut Records,
+    ) -> Result<u32, Refusal> {
+        value(records::by_engine(records, |ledger, tally, holds| {
+            raw::commit(book, user, number, ledger, tally, holds)
+        }))
+    }
+    fn drop_hold(
+        &self,
+        book: &[u8],
+        user: u32,
+        number: u32,
+        records: &mut Records,
+    ) -> Result<u32, Refusal> {
+        value(records::by_engine(records, |ledger, tally, holds| {
+            raw::drop_hold(book, user, number, ledger, tally, holds)
+        }))
     }
     fn tree(&self, given: &mut Tree) -> Result<u32, Refusal> {
         let buffer = &mut given.memory[..given.lent];

@@ -1,4 +1,4 @@
-//! Tries one engine against another on random books: all nine calls, answers and buffers.
+//! Tries one engine against another on random books: all eleven calls, answers, buffers and records.
 #![forbid(unsafe_code)]
 #![warn(missing_docs)]
 
@@ -10,12 +10,14 @@ pub mod closed;
 pub mod compare;
 pub mod culprits;
 pub mod engine;
+pub mod histories;
+pub mod hold_counts;
 pub mod kinds;
 pub mod mixing;
 pub mod reached;
+pub mod records;
 pub mod run;
-pub mod submissions;
-pub mod submit_counts;
+pub mod steps;
 pub mod text;
 pub mod tree;
 pub mod tree_counts;

@@ -1,7 +1,8 @@
 //! The sentences by which an Apply with two rows ends what counts on a path (document 02, N5), each
-//! part of them misread: which flows, verdicts and submissions depend on it.
+//! part of them misread: which flows, verdicts and asks depend on it.
 
-use books::submissions::Submit;
+use crate::records::places;
+use books::reserve::Ask;
 use second::access::{Access, Action};
 use second::book::Book;
 use second::ledger::{self, WORDS_OF_A_USER};
@@ -155,16 +156,18 @@ pub fn verdict_depends(book: &[u8], user: usize, plan: &[u8]) -> Option<[bool; 6
     })
 }
 
-/// For each misreading, does the reply to a submission depend on it, or what the user then holds?
-pub fn submission_depends(given: &Submit) -> Option<[bool; 6]> {
+/// For each misreading, does the reply to an ask depend on it, or what is then held?
+pub fn ask_depends(given: &Ask) -> Option<[bool; 6]> {
     let user = given.user as usize;
-    let held = given.ledger.chunks(WORDS_OF_A_USER).nth(user)?;
-    let held = ledger::accesses(held);
+    let words = given.records.ledger.chunks(WORDS_OF_A_USER).nth(user)?;
+    let mut before = ledger::accesses(words);
+    for hold in places(&given.records.holds).of_user(user) {
+        before.extend(hold.accesses());
+    }
     depends(&given.book, &given.plan, |book, accesses| {
-        let union = &held | accesses;
-        let broken = breaking::broken(book, user, &union);
-        let admitted = broken.is_empty().then_some(union);
-        (broken, admitted)
+        let broken = breaking::broken(book, user, &(&before | accesses));
+        let held = broken.is_empty().then_some(accesses.clone());
+        (broken, held)
     })
 }
 

@@ -3,8 +3,8 @@
 use crate::actions::{self, PAIRS};
 use crate::answer::Answer;
 use crate::engine::unpacked;
+use crate::hold_counts::HoldCounts;
 use crate::mixing::{self, MISREADINGS};
-use crate::submit_counts::SubmitCounts;
 use crate::tree_counts::TreeCounts;
 use crate::withdrawn_counts::WithdrawnCounts;
 use books::draft::BLOCK;
@@ -16,15 +16,18 @@ use std::collections::BTreeMap;
 use std::fmt;
 
 /// Every refusal number that the calls have.
-pub const REFUSALS: [u32; 21] = [
-    1, 2, 3, 4, 5, 6, 7, 8, 9, 10, 20, 21, 22, 23, 24, 25, 26, 27, 28, 29, 30,
+pub const REFUSALS: [u32; 23] = [
+    1, 2, 3, 4, 5, 6, 7, 8, 9, 10, 20, 21, 22, 23, 24, 25, 26, 27, 28, 29, 30, 31, 32,
 ];
 
 /// Those of Blocked, "book refusals, 24, then 26 if the rule forbids", and of Culprits.
 pub const BLOCKED_REFUSALS: [u32; 11] = [1, 2, 3, 4, 5, 6, 7, 8, 9, 24, 26];
 
-/// Those of Submit: "Judge's refusals, then 27 [..] then 28".
-pub const SUBMIT_REFUSALS: [u32; 14] = [1, 2, 3, 4, 5, 6, 7, 8, 9, 20, 21, 22, 27, 28];
+/// Those of Ask: "Judge's refusals, then 27 [..] then 28", "then 31".
+pub const ASK_REFUSALS: [u32; 15] = [1, 2, 3, 4, 5, 6, 7, 8, 9, 20, 21, 22, 27, 28, 31];
+
+/// Those of Commit and of Drop: "book refusals, 20 and 27, then 32".
+pub const SETTLE_REFUSALS: [u32; 12] = [1, 2, 3, 4, 5, 6, 7, 8, 9, 20, 27, 32];
 
 /// Those of Tree: "Flows' refusals 1 to 22, then 29 [..] then 30".
 pub const TREE_REFUSALS: [u32; 13] = [1, 2, 3, 4, 5, 6, 7, 8, 9, 21, 22, 29, 30];
@@ -72,10 +75,10 @@ pub struct Reached {
     pub flows_misread: [u64; 6],
     /// Judged plans whose verdict depends on each of them.
     pub verdicts_misread: [u64; 6],
-    /// Submitted plans whose reply, or what their users then hold, depends on each of them.
-    pub submissions_misread: [u64; 6],
-    /// What was reached of Submit.
-    pub submissions: SubmitCounts,
+    /// Asks whose reply, or what is then held, depends on each of them.
+    pub asks_misread: [u64; 6],
+    /// What was reached of Ask, Commit and Drop.
+    pub holds: HoldCounts,
     /// What was reached of Tree.
     pub trees: TreeCounts,
     /// What was reached of withdrawn operations.
@@ -98,10 +101,9 @@ impl Reached {
         self.cases += 1;
         *self.calls.entry(case.call()).or_default() += 1;
         self.withdrawn.count(case, answer);
-        match case {
-            Case::Submit(given) => self.submissions.count(given, answer),
-            Case::Tree(given) => self.trees.count(given, answer),
-            _ => {}
+        self.holds.count(case, answer);
+        if let Case::Tree(given) = case {
+            self.trees.count(given, answer);
         }
         match answer {
             Answer::Refused(refusal) => {
@@ -116,9 +118,10 @@ impl Reached {
             Answer::Closed(value) => self.count_closed(case, value),
             Answer::Unblocked => self.unblocked += 1,
             Answer::Few(mask) => self.count_causes(case, mask),
-            Answer::Admitted | Answer::Declined(_) => self.count_submitted(case),
+            Answer::Held(_) | Answer::Declined(_) => self.count_asked(case),
             Answer::Done => self.count_flows(case),
             Answer::Rules(_) | Answer::Written(_) => {}
+            Answer::Settled(_) | Answer::Neither(_) => {}
             Answer::NotIdle | Answer::NotClosed | Answer::Stated(_) => {}
         }
     }
@@ -182,10 +185,10 @@ impl Reached {
         }
     }
 
-    fn count_submitted(&mut self, case: &Case) {
-        if let Case::Submit(given) = case {
-            let by_misreading = mixing::submission_depends(given);
-            count_each(&mut self.submissions_misread, by_misreading);
+    fn count_asked(&mut self, case: &Case) {
+        if let Case::Ask(given) = case {
+            let by_misreading = mixing::ask_depends(given);
+            count_each(&mut self.asks_misread, by_misreading);
         }
     }
 
@@ -196,15 +199,15 @@ impl Reached {
         each.collect::<Vec<_>>().join(", ")
     }
 
-    /// The flows, verdicts and submissions that depend on each misreading, in words.
+    /// The flows, verdicts and asks that depend on each misreading, in words.
     fn by_misreading(&self) -> String {
         let each = MISREADINGS.iter().enumerate().map(|(i, misreading)| {
             let flows = self.flows_misread[i];
-            let (verdicts, submissions) = (self.verdicts_misread[i], self.submissions_misread[i]);
-            format!("{misreading:?}: {flows}, {verdicts}, {submissions}")
+            let (verdicts, asks) = (self.verdicts_misread[i], self.asks_misread[i]);
+            format!("{misreading:?}: {flows}, {verdicts}, {asks}")
         });
         let each = each.collect::<Vec<_>>().join("; ");
-        format!("flows, verdicts and submissions that depend on {each}")
+        format!("flows, verdicts and asks that depend on {each}")
     }
 
     /// The rules behind the blocks, in words.
@@ -349,7 +352,7 @@ impl fmt::Display for Reached {
         )?;
         writeln!(f, "; {} searches given up", self.given_up)?;
         writeln!(f, "{}", self.by_others())?;
-        writeln!(f, "{}", self.submissions)?;
+        writeln!(f, "{}", self.holds)?;
         writeln!(f, "{}", self.trees)?;
         write!(f, "{}", self.withdrawn)
     }

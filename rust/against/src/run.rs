@@ -8,9 +8,11 @@ use crate::culprits::try_causes;
 use crate::engine::Engine;
 use crate::kinds::try_kinds;
 use crate::reached::Reached;
-use crate::submissions::try_submission;
+use crate::records::BySecond;
+use crate::steps::try_step;
 use crate::tree::try_tree;
-use books::{case, submissions, Case, Random};
+use books::alike::histories;
+use books::{case, Case, Random};
 use std::time::{Duration, Instant};
 
 /// When to stop.
@@ -45,7 +47,7 @@ pub fn run(
             try_case(engines, &case, &mut reached)?;
         }
         if random.chance(1, HISTORIES) {
-            let alike = submissions::histories(&mut random, size);
+            let alike = histories::<BySecond>(&mut random, size);
             try_alike(engines, &alike, &mut reached)?;
         }
         progress(&reached);
@@ -54,9 +56,9 @@ pub fn run(
 }
 
 /// Compares a case. Then what Idle shows is judged, and what Blocked says is closed; what Culprits says is
-/// held against both Blocked and Judge; a rule that a plan breaks alone is asked for; a submission is gone
-/// through by its sentences; and the text of a tree is read back. Books that say the same otherwise are
-/// answered alike.
+/// held against both Blocked and Judge; a rule that a plan breaks alone is asked for; an ask, a commit or a
+/// drop is gone through by its sentences; and the text of a tree is read back. Books that say the same
+/// otherwise are answered alike.
 pub fn try_case(
     engines: [&dyn Engine; 2],
     case: &Case,
@@ -75,7 +77,7 @@ pub fn try_case(
             try_closed(engines, case, book, value)
         }
         (Case::Culprits { book, rule }, answer) => try_causes(engines, book, *rule, answer),
-        (Case::Submit(given), answer) => try_submission(engines, given, answer),
+        (Case::Ask(_) | Case::Commit(_) | Case::Drop(_), answer) => try_step(engines, case, answer),
         (Case::Tree(given), answer) => try_tree(engines, given, answer),
         _ => Ok(()),
     }

@@ -1,7 +1,9 @@
 //! Cases as text, one word and its value a line, bytes in hexadecimal digits. The counts of a tally are
-//! decimal numbers, one for each user.
+//! decimal numbers, one for each user, and so are the users and the numbers of a hold record, one for each
+//! place.
 
-use books::submissions::{Submit, USERS};
+use books::records::{Holds, Records, Tally};
+use books::reserve::{Ask, Settle};
 use books::trees::Tree;
 use books::Case;
 use std::collections::BTreeMap;
@@ -28,7 +30,9 @@ pub fn write(case: &Case) -> String {
         }
         Case::Blocked { book, rule } => ("blocked", rule_fields(book, *rule)),
         Case::Culprits { book, rule } => ("culprits", rule_fields(book, *rule)),
-        Case::Submit(given) => ("submit", submit_fields(given)),
+        Case::Ask(given) => ("ask", ask_fields(given)),
+        Case::Commit(given) => ("commit", settle_fields(given)),
+        Case::Drop(given) => ("drop", settle_fields(given)),
         Case::Tree(given) => ("tree", tree_fields(given)),
     };
     let mut text = format!("call {call}\n");
@@ -42,19 +46,43 @@ fn rule_fields(book: &[u8], rule: u32) -> Vec<(&'static str, String)> {
     vec![("book", hex(book)), ("rule", rule.to_string())]
 }
 
-fn submit_fields(given: &Submit) -> Vec<(&'static str, String)> {
-    vec![
+fn ask_fields(given: &Ask) -> Vec<(&'static str, String)> {
+    let fields = vec![
         ("book", hex(&given.book)),
         ("user", given.user.to_string()),
         ("plan", hex(&given.plan)),
-        ("ledger", hex_words(&given.ledger)),
-        ("admitted", numbers(&given.admitted)),
-        ("declined", numbers(&given.declined)),
+    ];
+    [fields, record_fields(&given.records)].concat()
+}
+
+fn settle_fields(given: &Settle) -> Vec<(&'static str, String)> {
+    let fields = vec![
+        ("book", hex(&given.book)),
+        ("user", given.user.to_string()),
+        ("number", given.number.to_string()),
+    ];
+    [fields, record_fields(&given.records)].concat()
+}
+
+fn record_fields(records: &Records) -> Vec<(&'static str, String)> {
+    let Records {
+        ledger,
+        tally,
+        holds,
+    } = records;
+    vec![
+        ("ledger", hex_words(ledger)),
+        ("admitted", numbers(&tally.admitted)),
+        ("declined", numbers(&tally.declined)),
+        ("dropped", numbers(&tally.dropped)),
+        ("users", numbers(&holds.users)),
+        ("numbers", numbers(&holds.numbers)),
+        ("held", hex_words(&holds.words)),
     ]
 }
 
-fn numbers(counts: &[u32]) -> String {
-    let each: Vec<String> = counts.iter().map(u32::to_string).collect();
+fn numbers(numbers: &[u32]) -> String {
+    let each: Vec<String> = numbers.iter().map(u32::to_string).collect();
     each.join(" ")
 }
 
@@ -71,87 +99,134 @@ fn tree_fields(given: &Tree) -> Vec<(&'static str, String)> {
 /// Reads a case. Lines that start with '#' are remarks.
 pub fn read(text: &str) -> Result<Case, String> {
     let lines = text.lines().map(str::trim);
-    let fields: BTreeMap<&str, &str> = lines
-        .filter(|line| !line.is_empty() && !line.starts_with('#'))
-        .map(|line| line.split_once(' ').unwrap_or((line, "")))
-        .collect();
-    let field = |name: &str| fields.get(name).copied().ok_or(format!("no {name}"));
-    let bytes = |name: &str| unhex(field(name)?).ok_or(format!("{name} is not hexadecimal"));
-    let number = |name: &str| field(name)?.parse().map_err(|e| format!("{name}: {e}"));
-    let counts = |name: &str| counts(field(name)?).map_err(|e| format!("{name}: {e}"));
-    let of_rule = |case: fn(Vec<u8>, u32) -> Case| Ok(case(bytes("book")?, number("rule")?));
-    match field("call")? {
-        "check" => Ok(Case::Check {
-            book: bytes("book")?,
-        }),
-        "seal" => Ok(Case::Seal {
-            block: bytes("block")?,
-        }),
-        "flows" => Ok(Case::Flows {
-            book: bytes("book")?,
-            plan: bytes("plan")?,
-            words: words(&bytes("words")?)?,
-        }),
-        "judge" => Ok(Case::Judge {
-            book: bytes("book")?,
-            user: number("user")?,
-            plan: bytes("plan")?,
-        }),
-        "idle" => Ok(Case::Idle {
-            book: bytes("book")?,
-            rule: number("rule")?,
-            buffer: bytes("buffer")?,
-        }),
-        "blocked" => of_rule(|book, rule| Case::Blocked { book, rule }),
-        "culprits" => of_rule(|book, rule| Case::Culprits { book, rule }),
-        "submit" => Ok(submit(bytes, number, counts)?.into()),
-        "tree" => Ok(Case::Tree(tree(bytes, number)?)),
-        other => Err(format!("no call {other}")),
+    let fields = Fields(
+        lines
+            .filter(|line| !line.is_empty() && !line.starts_with('#'))
+            .map(|line| line.split_once(' ').unwrap_or((line, "")))
+            .collect(),
+    );
+    fields.case()
+}
+
+/// The fields of a case, by their names.
+struct Fields<'a>(BTreeMap<&'a str, &'a str>);
+
+impl Fields<'_> {
+    fn case(&self) -> Result<Case, String> {
+        match self.field("call")? {
+            "check" => Ok(Case::Check {
+                book: self.bytes("book")?,
+            }),
+            "seal" => Ok(Case::Seal {
+                block: self.bytes("block")?,
+            }),
+            "flows" => Ok(Case::Flows {
+                book: self.bytes("book")?,
+                plan: self.bytes("plan")?,
+                words: self.words("words")?,
+            }),
+            "judge" => Ok(Case::Judge {
+                book: self.bytes("book")?,
+                user: self.number("user")?,
+                plan: self.bytes("plan")?,
+            }),
+            "idle" => Ok(Case::Idle {
+                book: self.bytes("book")?,
+                rule: self.number("rule")?,
+                buffer: self.bytes("buffer")?,
+            }),
+            "blocked" => self.of_rule(|book, rule| Case::Blocked { book, rule }),
+            "culprits" => self.of_rule(|book, rule| Case::Culprits { book, rule }),
+            "ask" => Ok(self.ask()?.into()),
+            "commit" => Ok(Case::Commit(Box::new(self.settle()?))),
+            "drop" => Ok(Case::Drop(Box::new(self.settle()?))),
+            "tree" => Ok(Case::Tree(self.tree()?)),
+            other => Err(format!("no call {other}")),
+        }
     }
-}
 
-/// A submission, by its fields of bytes, of numbers and of counts.
-fn submit(
-    bytes: impl Fn(&str) -> Result<Vec<u8>, String>,
-    number: impl Fn(&str) -> Result<u32, String>,
-    counts: impl Fn(&str) -> Result<[u32; USERS], String>,
-) -> Result<Submit, String> {
-    Ok(Submit {
-        book: bytes("book")?,
-        user: number("user")?,
-        plan: bytes("plan")?,
-        ledger: words(&bytes("ledger")?)?,
-        admitted: counts("admitted")?,
-        declined: counts("declined")?,
-    })
-}
-
-/// A number for each user.
-fn counts(text: &str) -> Result<[u32; USERS], String> {
-    let each = text.split_whitespace().map(str::parse);
-    let counts: Result<Vec<u32>, _> = each.collect();
-    let counts = counts.map_err(|e| e.to_string())?;
-    let fixed = counts.try_into();
-    fixed.map_err(|counts: Vec<u32>| format!("{} numbers for {USERS} users", counts.len()))
-}
-
-/// A call of Tree, by its fields. No more is lent than there is.
-fn tree(
-    bytes: impl Fn(&str) -> Result<Vec<u8>, String>,
-    number: impl Fn(&str) -> Result<u32, String>,
-) -> Result<Tree, String> {
-    let memory = bytes("memory")?;
-    let lent = number("lent")? as usize;
-    if lent > memory.len() {
-        return Err(format!("{lent} bytes are lent of {}", memory.len()));
+    fn of_rule(&self, case: fn(Vec<u8>, u32) -> Case) -> Result<Case, String> {
+        Ok(case(self.bytes("book")?, self.number("rule")?))
     }
-    Ok(Tree {
-        book: bytes("book")?,
-        plan: bytes("plan")?,
-        row: number("row")?,
-        lent,
-        memory,
-    })
+
+    fn ask(&self) -> Result<Ask, String> {
+        Ok(Ask {
+            book: self.bytes("book")?,
+            user: self.number("user")?,
+            plan: self.bytes("plan")?,
+            records: self.records()?,
+        })
+    }
+
+    /// A commit or a drop.
+    fn settle(&self) -> Result<Settle, String> {
+        Ok(Settle {
+            book: self.bytes("book")?,
+            user: self.number("user")?,
+            number: self.number("number")?,
+            records: self.records()?,
+        })
+    }
+
+    fn records(&self) -> Result<Records, String> {
+        let held = self.words("held")?;
+        let cut = |held: Vec<u64>| format!("held: {} words", held.len());
+        Ok(Records {
+            ledger: self.words("ledger")?,
+            tally: Tally {
+                admitted: self.numbers("admitted")?,
+                declined: self.numbers("declined")?,
+                dropped: self.numbers("dropped")?,
+            },
+            holds: Holds {
+                users: self.numbers("users")?,
+                numbers: self.numbers("numbers")?,
+                words: held.try_into().map_err(cut)?,
+            },
+        })
+    }
+
+    /// A call of Tree. No more is lent than there is.
+    fn tree(&self) -> Result<Tree, String> {
+        let memory = self.bytes("memory")?;
+        let lent = self.number("lent")? as usize;
+        if lent > memory.len() {
+            return Err(format!("{lent} bytes are lent of {}", memory.len()));
+        }
+        Ok(Tree {
+            book: self.bytes("book")?,
+            plan: self.bytes("plan")?,
+            row: self.number("row")?,
+            lent,
+            memory,
+        })
+    }
+
+    fn field(&self, name: &str) -> Result<&str, String> {
+        self.0.get(name).copied().ok_or(format!("no {name}"))
+    }
+
+    fn bytes(&self, name: &str) -> Result<Vec<u8>, String> {
+        unhex(self.field(name)?).ok_or(format!("{name} is not hexadecimal"))
+    }
+
+    fn words(&self, name: &str) -> Result<Vec<u64>, String> {
+        words(&self.bytes(name)?)
+    }
+
+    fn number(&self, name: &str) -> Result<u32, String> {
+        let number = self.field(name)?.parse();
+        number.map_err(|e| format!("{name}: {e}"))
+    }
+
+    /// A number for each user, or for each place.
+    fn numbers<const N: usize>(&self, name: &str) -> Result<[u32; N], String> {
+        let each = self.field(name)?.split_whitespace().map(str::parse);
+        let numbers: Result<Vec<u32>, _> = each.collect();
+        let numbers = numbers.map_err(|e| format!("{name}: {e}"))?;
+        let fixed = numbers.try_into();
+        fixed.map_err(|found: Vec<u32>| format!("{name}: {} numbers for {N}", found.len()))
+    }
 }
 
 fn words(bytes: &[u8]) -> Result<Vec<u64>, String> {
@@ -187,6 +262,7 @@ fn digit(digit: char) -> Option<u8> {
 #[cfg(test)]
 mod tests {
     use super::*;
+    use books::records::{PLACES, USERS};
     use books::{case, Random};
 
     #[test]
@@ -207,16 +283,6 @@ mod tests {
         assert!(read("call check\nbook 0").is_err());
         assert!(read("call check\nbook 0g").is_err());
         assert!(read("call flows\nbook\nplan\nwords 00").is_err());
-        let submit = |declined: &str| {
-            let admitted = ["4294967295"; USERS].join(" ");
-            let fields = format!("book\nuser 1\nplan\nledger\nadmitted {admitted}");
-            read(&format!("call submit\n{fields}\ndeclined {declined}"))
-        };
-        let last = |last: &str| [&["7"; USERS - 1][..], &[last]].concat().join(" ");
-        assert!(submit(&last("4294967295")).is_ok());
-        assert!(submit(&last("4294967296")).is_err() && submit(&last("-1")).is_err());
-        assert!(submit(&last("")).is_err() && submit(&last("7 7")).is_err());
-        assert!(submit("").is_err());
         let tree = |lent| {
             read(&format!(
                 "call tree\nbook\nplan\nrow 0\nlent {lent}\nmemory 0a0b"
@@ -224,6 +290,32 @@ mod tests {
         };
         assert!(tree("0").is_ok() && tree("2").is_ok());
         assert!(tree("3").is_err() && tree("-1").is_err());
+    }
+
+    /// A commit with these counts of dropped plans, numbers and words.
+    fn commit(dropped: &str, numbers: &str, held: &str) -> Result<Case, String> {
+        let all = ["4294967295"; USERS].join(" ");
+        let users = ["0"; PLACES].join(" ");
+        read(&format!(
+            "call commit\nbook\nuser 1\nnumber 4\nledger\nadmitted {all}\ndeclined {all}\n\
+             dropped {dropped}\nusers {users}\nnumbers {numbers}\nheld {held}"
+        ))
+    }
+
+    #[test]
+    fn bad_records_are_said_to_be_bad() {
+        let last = |n: usize, last: &str| [&vec!["7"; n - 1][..], &[last]].concat().join(" ");
+        let [dropped, numbers] = [last(USERS, "4294967295"), last(PLACES, "0")];
+        let held = "0f".repeat(8 * PLACES * 32);
+        assert!(commit(&dropped, &numbers, &held).is_ok());
+        for bad in ["4294967296", "-1", "", "7 7"] {
+            assert!(commit(&last(USERS, bad), &numbers, &held).is_err());
+            assert!(commit(&dropped, &last(PLACES, bad), &held).is_err());
+        }
+        assert!(commit("", &numbers, &held).is_err() && commit(&dropped, "", &held).is_err());
+        for bad in ["", &held[16..], &held[2..], &held.repeat(2)] {
+            assert!(commit(&dropped, &numbers, bad).is_err());
+        }
     }
 
     #[test]

@@ -12,12 +12,12 @@ use std::fmt;
 
 /// The calls whose answers depend on what a category supports; Check by refusal 9.
 pub const DEPENDING: [&str; 7] = [
-    "check", "flows", "judge", "idle", "blocked", "culprits", "submit",
+    "check", "flows", "judge", "idle", "blocked", "culprits", "ask",
 ];
 
 /// The calls that are given a book.
-const WITH_BOOK: [&str; 8] = [
-    "check", "flows", "judge", "idle", "blocked", "culprits", "submit", "tree",
+const WITH_BOOK: [&str; 10] = [
+    "check", "flows", "judge", "idle", "blocked", "culprits", "ask", "commit", "drop", "tree",
 ];
 
 /// How often each thing happened. A book is counted once for each call that it is given to.

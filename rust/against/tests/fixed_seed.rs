@@ -1,7 +1,7 @@
 //! A fixed seed: no difference, and everything reached.
 
 use against::engine::{by_name, USUAL};
-use against::reached::{BLOCKED_REFUSALS, SUBMIT_REFUSALS, TREE_REFUSALS};
+use against::reached::{ASK_REFUSALS, BLOCKED_REFUSALS, SETTLE_REFUSALS, TREE_REFUSALS};
 use against::{run, Limit, Reached};
 
 /// What is to be reached more than once or twice.
@@ -29,12 +29,12 @@ fn often(reached: &Reached) -> Vec<u64> {
         reached.pairs,
         reached.flows_misread,
         reached.verdicts_misread,
-        reached.submissions_misread,
+        reached.asks_misread,
     ];
-    let [submissions, trees] = [&reached.submissions.often()[..], &reached.trees.often()];
+    let [holds, trees] = [&reached.holds.often()[..], &reached.trees.often()];
     let withdrawn = &reached.withdrawn.often();
     let parts = for_each_part.as_flattened();
-    [&singly, parts, submissions, trees, withdrawn].concat()
+    [&singly, parts, holds, trees, withdrawn].concat()
 }
 
 #[test]
@@ -44,7 +44,7 @@ fn no_difference_and_everything_reached() {
     let cases = if cfg!(debug_assertions) {
         4_000
     } else {
-        100_000
+        125_000
     };
     let reached = match run(engines, 20_240_501, Limit::Cases(cases), &mut |_| ()) {
         Ok(reached) => reached,
@@ -59,7 +59,9 @@ fn no_difference_and_everything_reached() {
     assert!(reached.fewer_functions * 100 > reached.needed, "{reached}");
     assert_eq!(reached.refusals_of("blocked"), BLOCKED_REFUSALS);
     assert_eq!(reached.refusals_of("culprits"), BLOCKED_REFUSALS);
-    assert_eq!(reached.refusals_of("submit"), SUBMIT_REFUSALS);
+    assert_eq!(reached.refusals_of("ask"), ASK_REFUSALS);
+    assert_eq!(reached.refusals_of("commit"), SETTLE_REFUSALS);
+    assert_eq!(reached.refusals_of("drop"), SETTLE_REFUSALS);
     assert_eq!(reached.refusals_of("tree"), TREE_REFUSALS);
     assert_eq!(reached.trees.most, 4_096, "{reached}");
     let closed: u64 = reached.closed.iter().chain(&reached.causes).sum();

@@ -6,7 +6,8 @@ use against::categories::{WITHOUT_WITHDRAWN, WITH_WITHDRAWN};
 use against::engine::{by_name, Engine};
 use against::kinds::{more_withdrawn, try_alike, turned, NOTHING, NOT_INHERITED};
 use books::draft::BLOCK;
-use books::submissions::Submit;
+use books::histories::{Act, Call};
+use books::records::Records;
 use books::trees::Tree;
 use books::{case, named, plans, Case, Draft, Random};
 use std::collections::BTreeMap;
@@ -28,7 +29,7 @@ fn alike(
     Some(answer.unwrap_or_else(|difference| panic!("{difference}")))
 }
 
-/// Eight calls, each answered and refused for its book many times, for either other book.
+/// Ten calls, each answered and refused for its book many times, for either other book.
 #[test]
 fn random_books() {
     for engine in engines() {
@@ -48,20 +49,26 @@ fn random_books() {
                 }
             }
         }
-        assert_eq!(counts.len(), 8 * 4, "{}: {counts:?}", engine.name());
+        assert_eq!(counts.len(), 10 * 4, "{}: {counts:?}", engine.name());
         assert!(counts.values().all(|&n| n >= 20), "{counts:?}");
     }
+}
+
+/// An ask from fresh, and an ask, a commit and a drop where the user holds a plan.
+fn on_records(book: &[u8], plan: &[u8]) -> Vec<Case> {
+    let mut held = Records::fresh();
+    (held.holds.users[5], held.holds.numbers[5]) = (1, 9);
+    held.holds.words_of_mut(5).fill(u64::MAX);
+    let mut cases = vec![Call::ask(1, plan.to_vec()).with(book, &Records::fresh())];
+    let acts = [Act::Ask(plan.to_vec()), Act::Commit(9), Act::Drop(9)];
+    cases.extend(acts.map(|act| Call { user: 1, act }.with(book, &held)));
+    cases
 }
 
 /// Each call with a book, the plan of 64 rows.
 fn cases(draft: &Draft, rule: u32) -> Vec<Case> {
     let book = draft.bytes();
     let plan = plans::full(&mut Random::new(3), draft);
-    let submit = Submit {
-        user: 1,
-        plan: plan.clone(),
-        ..Submit::fresh(&book)
-    };
     let tree = Tree {
         book: book.clone(),
         plan: plan.clone(),
@@ -70,7 +77,8 @@ fn cases(draft: &Draft, rule: u32) -> Vec<Case> {
         memory: vec![7; 24],
     };
     let of_book = |case: fn(Vec<u8>, u32) -> Case| case(book.clone(), rule);
-    vec![
+    let mut cases = on_records(&book, &plan);
+    cases.extend([
         of_book(|book, _| Case::Check { book }),
         of_book(|book, rule| Case::Blocked { book, rule }),
         of_book(|book, rule| Case::Culprits { book, rule }),
@@ -84,14 +92,14 @@ fn cases(draft: &Draft, rule: u32) -> Vec<Case> {
             plan: plan.clone(),
             words: vec![1; 32],
         },
-        Case::from(submit),
         Case::Tree(tree),
         Case::Judge {
             book,
             user: 1,
             plan,
         },
-    ]
+    ]);
+    cases
 }
 
 /// The named books of kind 2, but for those that are hard to search.

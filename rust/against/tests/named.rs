@@ -5,7 +5,8 @@ use against::answer::Answer;
 use against::compare::compare;
 use against::engine::{by_name, nodes_and_length, packed, with_asking, USUAL};
 use books::blocked::{hard, Found};
-use books::submissions::{Submit, LEDGER};
+use books::histories::{Act, Call};
+use books::records::{Records, Tally, LEDGER};
 use books::trees::{self, extents, Tree, MOST, ROOM};
 use books::{named, plans, Case, Draft, Random};
 use second::access::Action;
@@ -30,30 +31,40 @@ fn cases(draft: &Draft) -> Vec<Case> {
         });
         // The second implementation is slow with so many accesses.
         if user % 8 == 1 {
-            cases.extend(submissions(&book, user, &plan));
+            cases.extend(on_records(&book, user, &plan));
         }
     }
     cases
 }
 
-/// A submission where nothing is held, every access, or all accesses by one operation.
-fn submissions(book: &[u8], user: u32, plan: &[u8]) -> [Case; 3] {
+/// An ask, a commit and a drop where the user has seen nothing, every access, or all accesses by one operation, and
+/// where he and others hold nothing, or plans of any accesses.
+fn on_records(book: &[u8], user: u32, plan: &[u8]) -> Vec<Case> {
     let one_operation = |i: usize| if i % 16 == 3 { u64::MAX } else { 0 };
     let ledgers = [
         vec![0; LEDGER],
         vec![u64::MAX; LEDGER],
         (0..LEDGER).map(one_operation).collect(),
     ];
-    ledgers.map(|ledger| {
-        Case::from(Submit {
-            book: book.to_vec(),
-            user,
-            plan: plan.to_vec(),
-            ledger,
+    let mut cases = vec![];
+    for ledger in ledgers {
+        let mut records = Records::fresh();
+        records.ledger = ledger;
+        records.tally = Tally {
             admitted: std::array::from_fn(|user| 5 * user as u32),
             declined: std::array::from_fn(|user| 7 * user as u32),
-        })
-    })
+            dropped: std::array::from_fn(|user| 9 * user as u32),
+        };
+        cases.push(Call::ask(user, plan.to_vec()).with(book, &records));
+        for place in 1..7 {
+            records.holds.users[place] = user + place as u32 % 3;
+            records.holds.numbers[place] = 3;
+            records.holds.words_of_mut(place)[place] = u64::MAX;
+        }
+        let acts = [Act::Ask(plan.to_vec()), Act::Commit(3), Act::Drop(3)];
+        cases.extend(acts.map(|act| Call { user, act }.with(book, &records)));
+    }
+    cases
 }
 
 fn idle(draft: &Draft, rule: u32) -> Case {

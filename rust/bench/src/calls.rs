@@ -12,6 +12,7 @@ pub use without::*;
 mod with_engine {
     use super::{Duration, Range};
     use crate::clock::best;
+    use crate::reserve::Reserve;
     use crate::trees::Asked;
     use books::trees::ROOM;
     use pspec::raw;
@@ -34,12 +35,53 @@ mod with_engine {
         Some(best(|| raw::judge(book, user, black_box(plan))))
     }
 
-    pub fn submit(book: &[u8], user: u32, plan: &[u8], ledger: &mut [u64]) -> Option<Duration> {
-        let mut submit = || {
-            let tally = &mut raw::Tally::default();
-            raw::submit(book, user, black_box(plan), ledger, tally)
+    pub fn ask(book: &[u8], user: u32, reserve: &Reserve) -> Option<Duration> {
+        let (plan, ledger) = (&reserve.plan, &reserve.ledger);
+        let start = records(user, reserve);
+        let mut ask = || {
+            let (mut tally, mut holds) = start;
+            raw::ask(book, user, black_box(plan), ledger, &mut tally, &mut holds)
         };
-        Some(best(&mut submit))
+        Some(best(&mut ask))
+    }
+
+    pub fn commit(book: &[u8], user: u32, reserve: &Reserve) -> Option<Duration> {
+        let (mut ledger, number) = (reserve.ledger.clone(), reserve.number());
+        let start = records(user, reserve);
+        let mut commit = || {
+            let (mut tally, mut holds) = start;
+            let number = black_box(number);
+            raw::commit(book, user, number, &mut ledger, &mut tally, &mut holds)
+        };
+        Some(best(&mut commit))
+    }
+
+    pub fn drop_hold(book: &[u8], user: u32, reserve: &Reserve) -> Option<Duration> {
+        let (ledger, number) = (&reserve.ledger, reserve.number());
+        let start = records(user, reserve);
+        let mut drop_hold = || {
+            let (mut tally, mut holds) = start;
+            raw::drop_hold(
+                book,
+                user,
+                black_box(number),
+                ledger,
+                &mut tally,
+                &mut holds,
+            )
+        };
+        Some(best(&mut drop_hold))
+    }
+
+    /// A fresh tally, and the hold record.
+    fn records(user: u32, reserve: &Reserve) -> (raw::Tally, raw::Holds) {
+        let mut holds = raw::Holds::default();
+        let words = holds.words.chunks_exact_mut(raw::WORDS);
+        for (place, words) in words.enumerate().take(reserve.taken) {
+            (holds.users[place], holds.numbers[place]) = (user, place as u32 + 1);
+            words.copy_from_slice(&reserve.words);
+        }
+        (raw::Tally::default(), holds)
     }
 
     pub fn idle(book: &[u8], rules: Range<u32>) -> Option<Duration> {
@@ -81,10 +123,35 @@ mod with_engine {
         black_box(raw::judge(book, user, black_box(plan)));
     }
 
-    pub fn submit_once(book: &[u8], user: u32, plan: &[u8]) {
-        let mut ledger = vec![0; raw::LEDGER];
-        let tally = &mut raw::Tally::default();
-        black_box(raw::submit(book, user, black_box(plan), &mut ledger, tally));
+    // Ask, Commit and Drop are made ready first, with their records on the heap, so that what is measured is
+    // theirs alone.
+
+    pub fn ask_once(book: &[u8], user: u32, reserve: Reserve) -> impl FnOnce() + Send + '_ {
+        let mut records = Box::new(records(user, &reserve));
+        move || {
+            let (tally, holds) = &mut *records;
+            let (plan, ledger) = (black_box(&reserve.plan), &reserve.ledger);
+            black_box(raw::ask(book, user, plan, ledger, tally, holds));
+        }
+    }
+
+    pub fn commit_once(book: &[u8], user: u32, reserve: Reserve) -> impl FnOnce() + Send + '_ {
+        let mut records = Box::new(records(user, &reserve));
+        let (number, mut ledger) = (reserve.number(), reserve.ledger);
+        move || {
+            let (tally, holds) = &mut *records;
+            let number = black_box(number);
+            black_box(raw::commit(book, user, number, &mut ledger, tally, holds));
+        }
+    }
+
+    pub fn drop_once(book: &[u8], user: u32, reserve: Reserve) -> impl FnOnce() + Send + '_ {
+        let mut records = Box::new(records(user, &reserve));
+        move || {
+            let (tally, holds) = &mut *records;
+            let (number, ledger) = (black_box(reserve.number()), &reserve.ledger);
+            black_box(raw::drop_hold(book, user, number, ledger, tally, holds));
+        }
     }
 
     pub fn idle_once(book: &[u8], rule: u32) {
@@ -109,6 +176,7 @@ mod with_engine {
 #[cfg(not(feature = "engine"))]
 mod without {
     use super::{Duration, Range};
+    use crate::reserve::Reserve;
     use crate::trees::Asked;
 
     pub fn check(_: &[u8]) -> Option<Duration> {
@@ -127,7 +195,15 @@ mod without {
         None
     }
 
-    pub fn submit(_: &[u8], _: u32, _: &[u8], _: &mut [u64]) -> Option<Duration> {
+    pub fn ask(_: &[u8], _: u32, _: &Reserve) -> Option<Duration> {
+        None
+    }
+
+    pub fn commit(_: &[u8], _: u32, _: &Reserve) -> Option<Duration> {
+        None
+    }
+
+    pub fn drop_hold(_: &[u8], _: u32, _: &Reserve) -> Option<Duration> {
         None
     }
 
@@ -153,7 +229,17 @@ mod without {
 
     pub fn judge_once(_: &[u8], _: u32, _: &[u8]) {}
 
-    pub fn submit_once(_: &[u8], _: u32, _: &[u8]) {}
+    pub fn ask_once(_: &[u8], _: u32, _: Reserve) -> impl FnOnce() + Send + '_ {
+        || ()
+    }
+
+    pub fn commit_once(_: &[u8], _: u32, _: Reserve) -> impl FnOnce() + Send + '_ {
+        || ()
+    }
+
+    pub fn drop_once(_: &[u8], _: u32, _: Reserve) -> impl FnOnce() + Send + '_ {
+        || ()
+    }
 
     pub fn idle_once(_: &[u8], _: u32) {}
 

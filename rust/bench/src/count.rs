@@ -1,12 +1,13 @@
 //! Counts the instructions of one call with callgrind, which do not depend on what else the machine
 //! is doing. The program runs itself under valgrind, one call each time.
 
+use crate::reserve::Reserve;
 use crate::{calls, check_sums, trees, Input};
 use std::hint::black_box;
 use std::process::Command;
 
 /// A call to count: its name, the symbol that it is counted in, and how many rows it takes of the book's plan.
-/// Tree has plans of its own, by the call's name.
+/// Ask and Tree have plans of their own, by the call's name.
 pub struct Counted {
     pub name: &'static str,
     symbol: &'static str,
@@ -14,13 +15,16 @@ pub struct Counted {
 }
 
 /// The plain loop over the sums comes first: the others are given as its multiples.
-pub const CALLS: [Counted; 13] = [
+pub const CALLS: [Counted; 16] = [
     counted("sums", "*check_sums*", 0),
     counted("check", "pspec_check", 0),
     counted("flows, 64 rows", "pspec_flows", 64),
     counted("judge, 8 rows", "pspec_judge", 8),
     counted("judge, 64 rows", "pspec_judge", 64),
-    counted("submit, 64 rows", "pspec_submit", 64),
+    counted("ask, held", "pspec_ask", 0),
+    counted("ask, declined", "pspec_ask", 0),
+    counted("commit", "pspec_commit", 0),
+    counted("drop", "pspec_drop", 0),
     counted("idle", "pspec_idle", 0),
     counted("blocked", "pspec_blocked", 0),
     counted("culprits", "pspec_culprits", 0),
@@ -62,8 +66,20 @@ pub fn instructions(call: &Counted, book: &str) -> Option<u64> {
     line.rsplit(':').next()?.trim().parse().ok()
 }
 
-/// Makes the one call that is counted.
-pub fn once(name: &str, input: &Input) {
+/// The one call that is counted, with its records made before it where it has some.
+pub fn ready<'a>(name: &'a str, input: &'a Input) -> Box<dyn FnOnce() + Send + 'a> {
+    let (book, user) = (&input.book, input.user);
+    match name {
+        "ask, held" => Box::new(calls::ask_once(book, user, Reserve::held(input))),
+        "ask, declined" => Box::new(calls::ask_once(book, user, Reserve::declined(input))),
+        "commit" => Box::new(calls::commit_once(book, user, Reserve::full(input))),
+        "drop" => Box::new(calls::drop_once(book, user, Reserve::full(input))),
+        _ => Box::new(move || once(name, input)),
+    }
+}
+
+/// Makes a call that has no records.
+fn once(name: &str, input: &Input) {
     let Some(call) = CALLS.iter().find(|call| call.name == name) else {
         return;
     };
@@ -72,7 +88,6 @@ pub fn once(name: &str, input: &Input) {
         "pspec_check" => calls::check_once(&input.book),
         "pspec_flows" => calls::flows_once(&input.book, plan),
         "pspec_judge" => calls::judge_once(&input.book, input.user, plan),
-        "pspec_submit" => calls::submit_once(&input.book, input.user, plan),
         "pspec_idle" => calls::idle_once(&input.book, input.rules.start),
         "pspec_blocked" => calls::blocked_once(&input.book, input.rules.start),
         "pspec_culprits" => calls::culprits_once(&input.book, input.rules.start),

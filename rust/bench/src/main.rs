@@ -7,14 +7,15 @@
 mod calls;
 mod clock;
 mod count;
+mod reserve;
 mod stack;
 mod table;
 mod trees;
 
-use books::submissions::LEDGER;
 use books::trees::ROOM;
 use books::{named, plans, Draft, Random};
 use clock::best;
+use reserve::Reserve;
 use second::{reading, Tally};
 use std::hint::black_box;
 use std::ops::Range;
@@ -36,7 +37,7 @@ fn main() {
         [] => times(),
         ["count"] => instructions(),
         ["stack"] => stack::print(),
-        ["once", call, book] => count::once(call, &input_named(book)),
+        ["once", call, book] => count::ready(call, &input_named(book))(),
         ["on", bytes, call, book] => stack::run(bytes, call, &input_named(book)),
         _ => {
             eprintln!("bench [count | stack]");
@@ -171,7 +172,8 @@ fn times() {
             seal(&input);
             flows(&input);
             judge(&input);
-            submit(&input);
+            ask(&input);
+            settle(&input);
             tree(&input);
         }
         // A book that is hard for Idle is so for one rule.
@@ -278,24 +280,51 @@ fn judge(input: &Input) {
     });
 }
 
-/// To a fresh ledger, and to one in which the user holds every access, so that most is judged. A plan
-/// that is admitted stays in the ledger for the next call, which then judges the same accesses. The tally
-/// is fresh each time, as the user's counts would be full soon.
-fn submit(input: &Input) {
-    let (book, user, plan) = (&input.book, input.user, &input.plan);
-    for (held, word) in [("fresh", 0), ("full", u64::MAX)] {
-        let mut ledger = vec![word; LEDGER];
-        let engine = calls::submit(book, user, plan, &mut ledger.clone());
-        let mut submit = || {
-            let tally = &mut Tally::default();
-            second::submit(book, user, black_box(plan), &mut ledger, tally)
+/// Each call begins from the same tally and hold record.
+fn ask(input: &Input) {
+    let (book, user) = (&input.book, input.user);
+    for (call, reserve) in [
+        ("ask, held", Reserve::held(input)),
+        ("ask, declined", Reserve::declined(input)),
+    ] {
+        assert_eq!(reserve.is_held(input), call == "ask, held");
+        let (plan, ledger) = (&reserve.plan, &reserve.ledger);
+        let start = reserve.holds(user);
+        let mut ask = || {
+            let (mut tally, mut holds) = (Tally::default(), start);
+            second::ask(book, user, black_box(plan), ledger, &mut tally, &mut holds)
         };
         table::row(&Line {
-            engine,
-            second: Some(best(&mut submit)),
-            ..input.line(format!("submit, {held} ledger"))
+            engine: calls::ask(book, user, &reserve),
+            second: Some(best(&mut ask)),
+            ..input.line(call)
         });
     }
+}
+
+/// Commit and Drop of the last of eight plans, each from the same tally and hold record.
+fn settle(input: &Input) {
+    let (book, user, reserve) = (&input.book, input.user, Reserve::full(input));
+    let (number, start) = (reserve.number(), reserve.holds(user));
+    let mut ledger = reserve.ledger.clone();
+    let mut commit = || {
+        let (mut tally, mut holds) = (Tally::default(), start);
+        second::commit(book, user, number, &mut ledger, &mut tally, &mut holds)
+    };
+    table::row(&Line {
+        engine: calls::commit(book, user, &reserve),
+        second: Some(best(&mut commit)),
+        ..input.line("commit")
+    });
+    let mut drop_hold = || {
+        let (mut tally, mut holds) = (Tally::default(), start);
+        second::drop_hold(book, user, number, &reserve.ledger, &mut tally, &mut holds)
+    };
+    table::row(&Line {
+        engine: calls::drop_hold(book, user, &reserve),
+        second: Some(best(&mut drop_hold)),
+        ..input.line("drop")
+    });
 }
 
 fn tree(input: &Input) {

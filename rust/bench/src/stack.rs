@@ -49,10 +49,11 @@ fn runs(kib: usize, call: &str, book: &str) -> bool {
 /// Makes one call on a thread with a stack of so many KiB.
 pub fn run(kib: &str, call: &str, input: &Input) {
     let kib: usize = kib.parse().expect("a number of KiB");
+    let call = count::ready(call, input);
     let thread = std::thread::Builder::new().stack_size(1024 * kib);
     std::thread::scope(|scope| {
         thread
-            .spawn_scoped(scope, || count::once(call, input))
+            .spawn_scoped(scope, call)
             .expect("a thread")
             .join()
             .expect("it returns");

@@ -6,7 +6,8 @@ use crate::draft::{Draft, BLOCK};
 use crate::numbers;
 use crate::plans;
 use crate::random::Random;
-use crate::submissions::{self, Submit};
+use crate::records::Records;
+use crate::reserve::{self, Ask, Settle};
 use crate::trees::{self, Tree};
 use crate::valid::{self, Size};
 
@@ -64,8 +65,12 @@ pub enum Case {
         /// The rule's number.
         rule: u32,
     },
-    /// Submit, boxed as its counts take more room than other calls.
-    Submit(Box<Submit>),
+    /// Ask, boxed as the records take more room than other calls.
+    Ask(Box<Ask>),
+    /// Commit.
+    Commit(Box<Settle>),
+    /// Drop.
+    Drop(Box<Settle>),
     /// Tree.
     Tree(Tree),
 }
@@ -81,7 +86,9 @@ impl Case {
             Case::Idle { .. } => "idle",
             Case::Blocked { .. } => "blocked",
             Case::Culprits { .. } => "culprits",
-            Case::Submit(_) => "submit",
+            Case::Ask(_) => "ask",
+            Case::Commit(_) => "commit",
+            Case::Drop(_) => "drop",
             Case::Tree(_) => "tree",
         }
     }
@@ -96,7 +103,8 @@ impl Case {
             | Case::Idle { book, .. }
             | Case::Blocked { book, .. }
             | Case::Culprits { book, .. } => Some(book),
-            Case::Submit(given) => Some(&given.book),
+            Case::Ask(given) => Some(&given.book),
+            Case::Commit(given) | Case::Drop(given) => Some(&given.book),
             Case::Tree(given) => Some(&given.book),
         }
     }
@@ -112,21 +120,42 @@ impl Case {
             | Case::Idle { book, .. }
             | Case::Blocked { book, .. }
             | Case::Culprits { book, .. } => book,
-            Case::Submit(given) => &mut given.book,
+            Case::Ask(given) => &mut given.book,
+            Case::Commit(given) | Case::Drop(given) => &mut given.book,
             Case::Tree(given) => &mut given.book,
         };
         *book = other;
         Some(case)
     }
-}
 
-impl From<Submit> for Case {
-    fn from(given: Submit) -> Case {
-        Case::Submit(Box::new(given))
+    /// The records that the call is given, if it is given some.
+    pub fn records(&self) -> Option<&Records> {
+        match self {
+            Case::Ask(given) => Some(&given.records),
+            Case::Commit(given) | Case::Drop(given) => Some(&given.records),
+            _ => None,
+        }
+    }
+
+    /// The same call with other records.
+    pub fn with_records(&self, other: Records) -> Case {
+        let mut case = self.clone();
+        match &mut case {
+            Case::Ask(given) => given.records = other,
+            Case::Commit(given) | Case::Drop(given) => given.records = other,
+            _ => {}
+        }
+        case
     }
 }
 
-/// The calls of one round: one book of the given size, sound or changed, and all nine calls.
+impl From<Ask> for Case {
+    fn from(given: Ask) -> Case {
+        Case::Ask(Box::new(given))
+    }
+}
+
+/// The calls of one round: one book of the given size, sound or changed, and all eleven calls.
 pub fn round(random: &mut Random, size: Size) -> Vec<Case> {
     let draft = valid::draft(random, size);
     let book = book(random, &draft);
@@ -140,7 +169,7 @@ pub fn round(random: &mut Random, size: Size) -> Vec<Case> {
         cases.push(flows(random, &draft, &book));
         cases.push(judge(random, &draft, &book));
         cases.push(judge(random, &draft, &book));
-        cases.push(submissions::single(random, &draft, &book).into());
+        cases.push(reserve::ask(random, &draft, &book).into());
     }
     let rules = draft.rules.len().min(4);
     for _ in 0..rules.max(1) {
@@ -149,6 +178,7 @@ pub fn round(random: &mut Random, size: Size) -> Vec<Case> {
     cases.extend(closed(random, &draft, &book));
     cases.extend(trees(random, &draft, &book));
     cases.extend(changed(random, &draft));
+    cases.extend(settles(random, &draft, &book));
     cases
 }
 
@@ -263,6 +293,19 @@ fn trees(random: &Random, draft: &Draft, book: &[u8]) -> Vec<Case> {
     let count = if book == draft.bytes() { 4 } else { 1 };
     let tree = |_| Case::Tree(trees::any(&mut own, draft, book));
     (0..count).map(tree).collect()
+}
+
+/// Two calls of Commit and two of Drop. They have a generator of their own, so that the other calls of a seed
+/// don't depend on them.
+fn settles(random: &Random, draft: &Draft, book: &[u8]) -> [Case; 4] {
+    let mut own = Random::new(random.clone().bits());
+    let mut settle = || Box::new(reserve::settle(&mut own, draft, book));
+    [
+        Case::Commit(settle()),
+        Case::Drop(settle()),
+        Case::Commit(settle()),
+        Case::Drop(settle()),
+    ]
 }
 
 /// Seal of block 1, and Check of the same book with changes that withdrawn operations brought: more of them

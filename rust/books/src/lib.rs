@@ -12,20 +12,23 @@
 #![warn(missing_docs)]
 
 pub mod addresses;
+pub mod alike;
 pub mod blocked;
 pub mod case;
 pub mod change;
 pub mod change_withdrawn;
 pub mod culprits;
 pub mod draft;
+pub mod histories;
 pub mod named;
 pub mod needed;
 pub mod numbers;
 pub mod plans;
 pub mod random;
+pub mod records;
 pub mod relatives;
+pub mod reserve;
 pub mod shop;
-pub mod submissions;
 pub mod trees;
 pub mod valid;
 pub mod withdrawn;

@@ -34,6 +34,13 @@ impl Accesses {
         Accesses { words }
     }
 
+    /// Those of 32 words in a slice.
+    pub(crate) fn of(slice: &[u64]) -> Accesses {
+        let mut words = [0; WORDS];
+        words.copy_from_slice(slice);
+        Accesses { words }
+    }
+
     /// The words as the engine writes them: bit d of word 16 × s + k is the access to leaf d by
     /// operation k, s being 0 for projection and 1 for condition.
     pub fn words(&self) -> &[u64; WORDS] {

@@ -1,7 +1,7 @@
 //! A book, and the calls that ask it something.
 
 use crate::{raw, Accesses, Blocking, Broken, Causes, Idleness, Plan, Refusal, Tree, Verdict};
-use crate::{Ledger, Reply, Tally};
+use crate::{Asked, Holds, Ledger, Tally};
 use std::fmt;
 
 /// The bytes of a block.
@@ -138,49 +138,136 @@ impl Book {
         }
     }
 
-    /// Admits a user's plan, or declines it: exactly when it breaks a rule together with what the
-    /// ledger holds for the user. An admitted plan's accesses are joined to what the user holds, and
-    /// either is counted in the tally for its user; a refusal changes nothing.
+    /// Checks a user's plan before it is run, and holds it or declines it. It is declined exactly when it
+    /// breaks a rule together with the user's accesses in the ledger and all his held plans, which count
+    /// as already admitted; the words and the held plans of others do not count. A declined plan is
+    /// counted in the tally for its user; a held one takes the lowest empty place of the hold record,
+    /// with a number of its own, and is counted when it is [committed](Book::commit) or
+    /// [dropped](Book::drop_hold). The ledger is not changed, and by a refusal nothing is. What `judge`
+    /// refuses is refused, and so is every plan of a user whose counts are full
+    /// ([`Refusal::CountsFull`]) and, while eight plans are held, every plan
+    /// ([`Refusal::PlacesFull`]), also one that would be declined.
     ///
-    /// From a fresh ledger and tally, and with one book throughout, each user holds exactly what his
-    /// admitted plans gave him and breaks no rule with it, and his two counts add up to the number of
-    /// his submissions that were not refused. The replies to him depend on the book, his plans and his own
-    /// earlier submissions, whatever others submit between. The engine does not ask which book filled a
-    /// ledger: keep a ledger and its tally with their book.
+    /// From a fresh ledger, tally and hold record, and with one book throughout, this holds after every
+    /// list of `ask`, `commit` and `drop_hold`. The ledger has for each user exactly the accesses of his
+    /// committed plans, and together with his held plans they break no rule. His admitted, dropped, held
+    /// and declined plans add up to his asks that were not refused. No number is given to him twice. At
+    /// most eight plans are held. The replies to him depend on the book, his own calls and, as the eight
+    /// places are for all users, on whether eight plans were held at each of his asks; on nothing else that
+    /// others do. The engine does not ask which book filled a ledger: keep the three with their book.
     ///
     /// ```
-    /// use pspec::{Book, Ledger, Plan, Refusal, Reply, Tally};
+    /// use pspec::{Asked, Book, Holds, Ledger, Plan, Refusal, Tally};
     ///
     /// # let bytes = books::named::small_shop().bytes();
     /// let book = Book::new(bytes)?; // the small shop
     /// let state = Plan::new([1, 0, 0, 0, 4, 0, 0, 0]);
     /// let price = Plan::new([1, 2, 0, 0, 4, 0, 0, 0]);
     /// let average = Plan::new([1, 2, 0, 0, 2, 1, 0, 255, 4, 1, 0, 0]); // of prices
-    /// let (mut ledger, mut tally) = (Ledger::new(), Tally::new());
-    /// let mut submit = |user, plan| book.submit(user, plan, &mut ledger, &mut tally);
+    /// let (ledger, mut tally, mut holds) = (Ledger::new(), Tally::new(), Holds::new());
+    /// let mut ask = |user, plan| book.ask(user, plan, &ledger, &mut tally, &mut holds);
     ///
-    /// assert_eq!(submit(2, &state), Reply::Admitted); // on Monday
-    /// match submit(2, &price) { // on Tuesday
-    ///     // By itself a price breaks rule 1; beside the state of Monday rule 0 too.
-    ///     Reply::Declined(broken) => assert!(broken.rules().eq([0, 1])),
+    /// assert_eq!(ask(2, &state), Asked::Held { number: 1 }); // on Monday
+    /// match ask(2, &price) { // on Tuesday
+    ///     // By itself a price breaks rule 1; beside the held state rule 0 too.
+    ///     Asked::Declined(broken) => assert!(broken.rules().eq([0, 1])),
     ///     other => panic!("{other:?}"),
     /// }
-    /// assert!(submit(1, &state).opens()); // on Wednesday, by another user
-    /// assert!(submit(2, &average).opens()); // on Thursday
+    /// assert_eq!(ask(1, &state), Asked::Held { number: 1 }); // on Wednesday, by another user
+    /// assert_eq!(ask(2, &average), Asked::Held { number: 2 }); // on Thursday
     ///
-    /// assert_eq!((tally.admitted(2), tally.declined(2)), (2, 1));
-    /// assert_eq!((tally.admitted(1), tally.declined(1)), (1, 0));
-    /// assert_eq!(ledger.held(2).iter().count(), 2); // the state and the average
+    /// assert_eq!((tally.admitted(2), tally.declined(2), tally.dropped(2)), (0, 1, 0));
+    /// let held: Vec<_> = holds.iter().map(|hold| (hold.user, hold.number)).collect();
+    /// assert_eq!(held, [(2, 1), (1, 1), (2, 2)]);
     /// # Ok::<(), Refusal>(())
     /// ```
-    pub fn submit(&self, user: u32, plan: &Plan, ledger: &mut Ledger, tally: &mut Tally) -> Reply {
-        let (words, counts) = (ledger.words_mut(), tally.counts_mut());
-        let answer = raw::submit(&self.bytes, user, plan.bytes(), words, counts);
-        match raw::value(answer) {
-            Ok(0) => Reply::Admitted,
-            Ok(mask) => Reply::Declined(Broken::new(mask)),
-            Err(refusal) => Reply::Refused(refusal),
-        }
+    pub fn ask(
+        &self,
+        user: u32,
+        plan: &Plan,
+        ledger: &Ledger,
+        tally: &mut Tally,
+        holds: &mut Holds,
+    ) -> Asked {
+        let (words, counts, record) = (ledger.words(), tally.counts_mut(), holds.record_mut());
+        let answer = raw::ask(&self.bytes, user, plan.bytes(), words, counts, record);
+        Asked::of(answer)
+    }
+
+    /// Admits the plan that a user holds under this number: its accesses are joined to the user's in the
+    /// ledger, it is counted in the tally for him, and its place is empty again. No rule is tested, as
+    /// the ask did. `Ok` has the number given, and nothing else opens the gate: store the ledger, the
+    /// tally and the hold record, then run the plan that was asked about under this number, and no other.
+    /// Where the user does not hold the number, also because it is committed already, it is refused
+    /// ([`Refusal::NotHeld`]), and nothing is changed. On a hold record that no list from fresh leaves, the
+    /// lowest place with that user and number is meant.
+    ///
+    /// ```
+    /// use pspec::{Book, Holds, Ledger, Plan, Refusal, Tally};
+    ///
+    /// # let bytes = books::named::small_shop().bytes();
+    /// let book = Book::new(bytes)?; // the small shop
+    /// let state = Plan::new([1, 0, 0, 0, 4, 0, 0, 0]);
+    /// let (mut ledger, mut tally, mut holds) = (Ledger::new(), Tally::new(), Holds::new());
+    /// let number = book.ask(2, &state, &ledger, &mut tally, &mut holds).number();
+    ///
+    /// let mut commit = |user| book.commit(user, number, &mut ledger, &mut tally, &mut holds);
+    /// assert_eq!(commit(1), Err(Refusal::NotHeld)); // another user
+    /// assert_eq!(commit(2), Ok(number));
+    /// assert_eq!(commit(2), Err(Refusal::NotHeld)); // twice
+    ///
+    /// assert_eq!((tally.admitted(2), tally.dropped(2)), (1, 0));
+    /// assert_eq!(ledger.accesses(2), book.flows(&state)?);
+    /// assert_eq!(holds, Holds::new());
+    /// # Ok::<(), Refusal>(())
+    /// ```
+    pub fn commit(
+        &self,
+        user: u32,
+        number: u32,
+        ledger: &mut Ledger,
+        tally: &mut Tally,
+        holds: &mut Holds,
+    ) -> Result<u32, Refusal> {
+        let (words, counts, record) = (ledger.words_mut(), tally.counts_mut(), holds.record_mut());
+        let answer = raw::commit(&self.bytes, user, number, words, counts, record);
+        raw::value(answer)
+    }
+
+    /// Forgets the plan that a user holds under this number: it is counted in the tally for him as
+    /// dropped, and its place is empty again. `Ok` has the number given, which is not used again. It
+    /// refuses what [`commit`](Book::commit) refuses and means the same place. The ledger is not changed.
+    ///
+    /// ```
+    /// use pspec::{Asked, Book, Holds, Ledger, Plan, Refusal, Tally};
+    ///
+    /// # let bytes = books::named::small_shop().bytes();
+    /// let book = Book::new(bytes)?; // the small shop
+    /// let state = Plan::new([1, 0, 0, 0, 4, 0, 0, 0]);
+    /// let price = Plan::new([1, 2, 0, 0, 4, 0, 0, 0]);
+    /// let (ledger, mut tally, mut holds) = (Ledger::new(), Tally::new(), Holds::new());
+    ///
+    /// assert_eq!(book.ask(2, &state, &ledger, &mut tally, &mut holds).number(), 1);
+    /// assert_eq!(book.ask(2, &price, &ledger, &mut tally, &mut holds).mask(), 0b11);
+    /// assert_eq!(book.drop_hold(2, 1, &ledger, &mut tally, &mut holds)?, 1);
+    /// // Without the state the price breaks rule 1 alone; and the next hold has another number.
+    /// assert_eq!(book.ask(2, &price, &ledger, &mut tally, &mut holds).mask(), 0b10);
+    /// let held = Asked::Held { number: 2 };
+    /// assert_eq!(book.ask(2, &state, &ledger, &mut tally, &mut holds), held);
+    /// assert_eq!((tally.admitted(2), tally.declined(2), tally.dropped(2)), (0, 2, 1));
+    /// # Ok::<(), Refusal>(())
+    /// ```
+    pub fn drop_hold(
+        &self,
+        user: u32,
+        number: u32,
+        ledger: &Ledger,
+        tally: &mut Tally,
+        holds: &mut Holds,
+    ) -> Result<u32, Refusal> {
+        let (words, counts, record) = (ledger.words(), tally.counts_mut(), holds.record_mut());
+        let answer = raw::drop_hold(&self.bytes, user, number, words, counts, record);
+        raw::value(answer)
     }
 
     /// Whether a rule could go without letting anything more through; if not, the first user who

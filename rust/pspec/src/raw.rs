@@ -3,7 +3,7 @@
 //!
 //! A slice goes over as its pointer and its length in elements; the pointer of an empty slice is not
 //! null, as in Rust. An answer is number × 2^40 + place × 2^32 + value, where number is 0 if nothing
-//! is refused.
+//! is refused. In that of `ask` for a held plan 1 stands in the field of the place: see [`held`].
 
 use crate::Refusal;
 
@@ -11,12 +11,14 @@ use crate::Refusal;
 pub const WORDS: usize = 32;
 /// The bytes that `idle` asks of its buffer.
 pub const BUFFER: usize = 36;
-/// The words of the ledger of `submit`: [`WORDS`] for each user number.
+/// The words of a ledger: [`WORDS`] for each user number.
 pub const LEDGER: usize = 1_024;
+/// The places of a hold record.
+pub const PLACES: usize = 8;
 /// Bytes with room for every text that `tree` writes: 4,096 nodes of at most 136 bytes.
 pub const TREE: usize = 4_096 * 136;
 
-/// The tally of `submit` as C has it: two counts for each user number.
+/// The tally as C has it: three counts for each user number.
 #[repr(C)]
 #[derive(Clone, Copy, Debug, Default, PartialEq, Eq, Hash)]
 pub struct Tally {
@@ -24,6 +26,32 @@ pub struct Tally {
     pub admitted: [u32; 32],
     /// The plans declined, by user number.
     pub declined: [u32; 32],
+    /// The plans dropped, by user number.
+    pub dropped: [u32; 32],
+}
+
+/// The hold record as C has it: a user, a number and [`WORDS`] words for each place. A place whose number
+/// is 0 is empty, whatever else it has.
+#[repr(C)]
+#[derive(Clone, Copy, Debug, PartialEq, Eq, Hash)]
+pub struct Holds {
+    /// The user of each place.
+    pub users: [u32; PLACES],
+    /// The number that was given to each place.
+    pub numbers: [u32; PLACES],
+    /// The accesses of each place, laid out as `flows` does.
+    pub words: [u64; PLACES * WORDS],
+}
+
+/// All zero: every place is empty.
+impl Default for Holds {
+    fn default() -> Holds {
+        Holds {
+            users: [0; PLACES],
+            numbers: [0; PLACES],
+            words: [0; PLACES * WORDS],
+        }
+    }
 }
 
 mod c {
@@ -54,15 +82,36 @@ mod c {
         ) -> u64;
         pub fn pspec_blocked(book: *const u8, book_len: usize, rule: u32) -> u64;
         pub fn pspec_culprits(book: *const u8, book_len: usize, rule: u32) -> u64;
-        pub fn pspec_submit(
+        pub fn pspec_ask(
             book: *const u8,
             book_len: usize,
             user: u32,
             plan: *const u8,
             plan_len: usize,
+            ledger: *const u64,
+            ledger_len: usize,
+            tally: *mut super::Tally,
+            holds: *mut super::Holds,
+        ) -> u64;
+        pub fn pspec_commit(
+            book: *const u8,
+            book_len: usize,
+            user: u32,
+            number: u32,
             ledger: *mut u64,
             ledger_len: usize,
             tally: *mut super::Tally,
+            holds: *mut super::Holds,
+        ) -> u64;
+        pub fn pspec_drop(
+            book: *const u8,
+            book_len: usize,
+            user: u32,
+            number: u32,
+            ledger: *const u64,
+            ledger_len: usize,
+            tally: *mut super::Tally,
+            holds: *mut super::Holds,
         ) -> u64;
         pub fn pspec_tree(
             book: *const u8,
@@ -129,21 +178,77 @@ pub fn culprits(book: &[u8], rule: u32) -> u64 {
     unsafe { c::pspec_culprits(book.as_ptr(), book.len(), rule) }
 }
 
-/// Admits a user's plan or declines it. Value: the mask of the rules that it breaks with what the
-/// ledger holds for the user; 0 where it is admitted.
-pub fn submit(book: &[u8], user: u32, plan: &[u8], ledger: &mut [u64], tally: &mut Tally) -> u64 {
-    let (to, room) = (ledger.as_mut_ptr(), ledger.len());
-    // SAFETY: as above; the tally is laid out as in C, and it and the ledger are lent alone.
+/// Holds a user's plan or declines it. The answer of a held plan is 2^32 + its number: see [`held`]. The
+/// value of a declined one is the mask of the rules that it breaks with the user's words and held plans.
+pub fn ask(
+    book: &[u8],
+    user: u32,
+    plan: &[u8],
+    ledger: &[u64],
+    tally: &mut Tally,
+    holds: &mut Holds,
+) -> u64 {
+    // SAFETY: as above; the tally and the hold record are laid out as in C, and each is lent alone.
     unsafe {
-        c::pspec_submit(
+        c::pspec_ask(
             book.as_ptr(),
             book.len(),
             user,
             plan.as_ptr(),
             plan.len(),
+            ledger.as_ptr(),
+            ledger.len(),
+            tally,
+            holds,
+        )
+    }
+}
+
+/// Admits the plan that a user holds under this number. Value: the number.
+pub fn commit(
+    book: &[u8],
+    user: u32,
+    number: u32,
+    ledger: &mut [u64],
+    tally: &mut Tally,
+    holds: &mut Holds,
+) -> u64 {
+    let (to, room) = (ledger.as_mut_ptr(), ledger.len());
+    // SAFETY: as above; the ledger may be written too, and is lent alone.
+    unsafe {
+        c::pspec_commit(
+            book.as_ptr(),
+            book.len(),
+            user,
+            number,
             to,
             room,
             tally,
+            holds,
+        )
+    }
+}
+
+/// Forgets the plan that a user holds under this number. Value: the number.
+pub fn drop_hold(
+    book: &[u8],
+    user: u32,
+    number: u32,
+    ledger: &[u64],
+    tally: &mut Tally,
+    holds: &mut Holds,
+) -> u64 {
+    // SAFETY: as above; the ledger is only read.
+    unsafe {
+        c::pspec_drop(
+            book.as_ptr(),
+            book.len(),
+            user,
+            number,
+            ledger.as_ptr(),
+            ledger.len(),
+            tally,
+            holds,
         )
     }
 }
@@ -165,7 +270,8 @@ pub fn tree(book: &[u8], plan: &[u8], row: u32, buffer: &mut [u8]) -> u64 {
     }
 }
 
-/// The value of an answer, or its refusal.
+/// The value of an answer, or its refusal. Of `ask` only where [`held`] is none: the value is then the
+/// mask, and else the number.
 pub fn value(answer: u64) -> Result<u32, Refusal> {
     let number = (answer >> 40) as u32;
     let place = (answer >> 32) as u32 & 255;
@@ -204,6 +310,12 @@ pub fn others(value: u32, rule: u32) -> Option<u32> {
     }
 }
 
+/// The number of the hold in an answer of `ask`; none where the plan is declined or something is refused,
+/// as a mask is below 2^32 and a refusal 2^40 or more.
+pub fn held(answer: u64) -> Option<u32> {
+    (answer >> 32 == 1).then_some(answer as u32)
+}
+
 /// The nodes and the text's bytes in a value of `tree`. A tree has at least one node, so the value has
 /// one less.
 pub fn drawn(value: u32) -> (u32, u32) {
@@ -217,9 +329,18 @@ mod tests {
 
     #[test]
     fn a_tally_is_laid_out_as_in_c() {
-        assert_eq!((size_of::<Tally>(), align_of::<Tally>()), (256, 4));
+        assert_eq!((size_of::<Tally>(), align_of::<Tally>()), (384, 4));
         assert_eq!(offset_of!(Tally, admitted), 0);
         assert_eq!(offset_of!(Tally, declined), 128);
+        assert_eq!(offset_of!(Tally, dropped), 256);
+    }
+
+    #[test]
+    fn a_hold_record_is_laid_out_as_in_c() {
+        assert_eq!((size_of::<Holds>(), align_of::<Holds>()), (2_112, 8));
+        assert_eq!(offset_of!(Holds, users), 0);
+        assert_eq!(offset_of!(Holds, numbers), 32);
+        assert_eq!(offset_of!(Holds, words), 64);
     }
 
     #[test]
@@ -229,6 +350,24 @@ mod tests {
         let refusal = Refusal::FaultyRow { row: 63 };
         assert_eq!(value((22 << 40) + (63 << 32)), Err(refusal));
         assert!(value(1 << 63).is_err());
+    }
+
+    /// At both ends of a number, of a mask and of a refusal.
+    #[test]
+    fn numbers_of_holds() {
+        assert_eq!(held((1 << 32) + 1), Some(1));
+        assert_eq!(held((1 << 32) + 1_000_000), Some(1_000_000));
+        assert_eq!(held((1 << 33) - 1), Some(u32::MAX));
+        for declined in [1, 1_000_000, (1 << 32) - 1] {
+            assert_eq!(
+                (held(declined), value(declined)),
+                (None, Ok(declined as u32))
+            );
+        }
+        for refusal in [1 << 40, (22 << 40) + (1 << 32), 31 << 40] {
+            assert_eq!(held(refusal), None);
+            assert!(value(refusal).is_err());
+        }
     }
 
     #[test]

@@ -95,9 +95,11 @@ refusals! {
     25 BufferLength "the buffer is under 36 bytes",
     26 RuleForbids "the rule forbids: it has no restriction",
     27 LedgerLength "the ledger is not 1,024 words",
-    28 CountsFull "the user's admitted or declined plans, or both together, are already 1,000,000 or more",
+    28 CountsFull "the user's admitted, dropped, held and declined plans together are already 1,000,000 or more",
     29 NoValueRow "the row is absent, or no Column, Apply or Choose",
     30 TreeSize "the tree has above 4,096 nodes, or its text exceeds the buffer",
+    31 PlacesFull "eight plans are held already, over all users",
+    32 NotHeld "the user holds no plan under this number",
 }
 
 impl fmt::Display for Refusal {

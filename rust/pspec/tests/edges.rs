@@ -1,8 +1,7 @@
 //! Empty slices, slices in the middle of other bytes, and both ends of numbers and fields.
 
 use books::named::{opposed_shop, small_shop};
-use pspec::{raw, seal, Book, Causes, Ledger, Node, Plan, Refusal, Reply, Tally, Verdict, BLOCK};
-use std::array::from_fn;
+use pspec::{raw, seal, Book, Causes, Node, Plan, Refusal, Verdict, BLOCK};
 
 fn refusal(answer: u64) -> Refusal {
     raw::value(answer).expect_err("it is refused")
@@ -21,11 +20,6 @@ fn empty_slices() {
     assert_eq!(refusal(raw::idle(&book, 0, &mut [])), Refusal::BufferLength);
     assert_eq!(refusal(raw::blocked(&[], 0)), Refusal::BookLength);
     assert_eq!(refusal(raw::culprits(&[], 0)), Refusal::BookLength);
-    let mut tally = raw::Tally::default();
-    let mut submit = |book: &[u8]| raw::submit(book, 1, &[], &mut [], &mut tally);
-    assert_eq!(refusal(submit(&[])), Refusal::BookLength);
-    assert_eq!(refusal(submit(&book)), Refusal::LedgerLength);
-    assert_eq!(tally, raw::Tally::default());
     let tree = |book: &[u8], plan: &[u8]| refusal(raw::tree(book, plan, 0, &mut []));
     assert_eq!(tree(&[], &[]), Refusal::BookLength);
     assert_eq!(tree(&book, &[]), Refusal::NoValueRow);
@@ -59,31 +53,6 @@ fn nothing_outside_a_buffer_is_written() {
     bytes[3] = 4;
     assert_eq!(seal(&mut bytes[3..515]), Ok(()));
     assert_eq!(bytes[513..], [0, 4, 0, 0, 0, 0, 0]);
-}
-
-/// Neither around the ledger and the tally nor at other users in them.
-#[test]
-fn nothing_but_the_users_own_is_written() {
-    let book = small_shop().bytes();
-    let [state, price] = [0, 2].map(|column| [1, column, 0, 0, 4, 0, 0, 0]);
-    let mut ledger = vec![1 << 63; 1_030];
-    let around = raw::Tally {
-        admitted: from_fn(|user| 100 + user as u32),
-        declined: from_fn(|user| 200 + user as u32),
-    };
-    let mut tallies = [around; 3];
-    let mut submit = |plan: &[u8]| {
-        let answer = raw::submit(&book, 2, plan, &mut ledger[4..1_028], &mut tallies[1]);
-        (answer, ledger.clone(), tallies)
-    };
-    let mut held = vec![1 << 63; 1_030];
-    held[4 + 64] |= 1 << 2;
-    let mut raised = around;
-    raised.admitted[2] = 103;
-    let kept = (0, held.clone(), [around, raised, around]);
-    assert_eq!(submit(&state), kept);
-    raised.declined[2] = 203;
-    assert_eq!(submit(&price), (0b11, held, [around, raised, around]));
 }
 
 #[test]
@@ -228,179 +197,6 @@ fn refused_users_and_plans_open_nothing() {
     assert_eq!(book.flows(&short), Err(Refusal::PlanLength));
     assert_eq!(short.to_string(), "010200");
     assert_eq!(short.rows().count(), 0);
-}
-
-/// A gate that keeps a ledger and a tally stays shut for a declined and for a refused plan, and a
-/// refusal changes neither.
-#[test]
-fn what_is_not_admitted_opens_nothing() {
-    let book = Book::new(small_shop().with_rules(&[0, 2]).bytes()).expect("it is sound");
-    let [state, price] = [0, 2].map(|column| Plan::new([1, column, 0, 0, 4, 0, 0, 0]));
-    let (mut ledger, mut tally) = (Ledger::new(), Tally::new());
-    let mut submit = |user, plan| {
-        let reply = book.submit(user, plan, &mut ledger, &mut tally);
-        (reply, tally.admitted(user), tally.declined(user))
-    };
-    assert!(book.judge(1, &price).opens());
-    assert_eq!(submit(1, &state), (Reply::Admitted, 1, 0));
-    let (declined, ..) = submit(1, &price);
-    let Reply::Declined(broken) = declined else {
-        panic!("{declined:?}");
-    };
-    assert_eq!(broken.mask(), 0b11);
-    assert_eq!(submit(2, &price), (Reply::Admitted, 1, 0));
-    for (user, plan, refusal) in [
-        (0, &price, Refusal::NoUser),
-        (1, &Plan::new([1, 2, 0]), Refusal::PlanLength),
-        (1, &Plan::new([4, 0, 0, 0]), Refusal::FaultyRow { row: 0 }),
-    ] {
-        let (reply, ..) = submit(user, plan);
-        assert_eq!((reply, reply.opens()), (Reply::Refused(refusal), false));
-    }
-    let counts = |user| (tally.admitted(user), tally.declined(user));
-    assert_eq!([0, 1, 2].map(counts), [(0, 0), (1, 1), (1, 0)]);
-    assert!((3..40).all(|user| counts(user) == (0, 0)));
-    let leaves = |user| ledger.held(user).iter().map(|access| access.leaf).collect();
-    let held: Vec<Vec<u8>> = (0..32).map(leaves).collect();
-    assert_eq!((&held[1][..], &held[2][..]), (&[2][..], &[4][..]));
-    assert_eq!(held.concat().len(), 2);
-}
-
-/// The tally with these counts for one user, admitted first, and these for every other number.
-fn counted(user: usize, own: [u32; 2], others: u32) -> Tally {
-    let counts = own.map(|count| from_fn(|i| if i == user { count } else { others }));
-    let counts: [[u32; 32]; 2] = counts;
-    let bytes = counts.concat().into_iter().flat_map(u32::to_le_bytes);
-    let bytes: Vec<u8> = bytes.collect();
-    Tally::from_bytes(&bytes).expect("it is 256 bytes")
-}
-
-/// Counts at the limit, their sum past 32 bits, and the limit itself, whatever others have.
-#[test]
-fn full_counts() {
-    let book = Book::new(small_shop().bytes()).expect("it is sound");
-    let full = Reply::Refused(Refusal::CountsFull);
-    let empty = Plan::default();
-    for (admitted, declined, reply) in [
-        (999_999, 0, Reply::Admitted),
-        (499_999, 500_000, Reply::Admitted),
-        (500_000, 500_000, full),
-        (0, 1_000_000, full),
-        (u32::MAX, 1, full),
-        (u32::MAX, u32::MAX, full),
-    ] {
-        for others in [0, 999_999, 1_000_000, u32::MAX] {
-            let mut tally = counted(1, [admitted, declined], others);
-            let mut ledger = Ledger::new();
-            assert_eq!(book.submit(1, &empty, &mut ledger, &mut tally), reply);
-            let raised = u32::from(reply.opens());
-            assert_eq!(tally, counted(1, [admitted + raised, declined], others));
-            assert_eq!(ledger, Ledger::new());
-        }
-    }
-}
-
-/// One user comes to his million, and another goes on.
-#[test]
-fn full_for_one_user() {
-    let book = Book::new(small_shop().bytes()).expect("it is sound");
-    let [state, price] = [0, 2].map(|column| Plan::new([1, column, 0, 0, 4, 0, 0, 0]));
-    let declined = book.submit(1, &price, &mut Ledger::new(), &mut Tally::new());
-    let full = Reply::Refused(Refusal::CountsFull);
-    let (mut ledger, mut tally) = (Ledger::new(), counted(1, [400_000, 599_999], 0));
-    for (user, plan, reply, counts) in [
-        (1, &price, declined, (400_000, 600_000)),
-        (2, &price, declined, (0, 1)),
-        (1, &price, full, (400_000, 600_000)),
-        (2, &state, Reply::Admitted, (1, 1)),
-        (1, &state, full, (400_000, 600_000)),
-        (2, &state, Reply::Admitted, (2, 1)),
-    ] {
-        assert_eq!(book.submit(user, plan, &mut ledger, &mut tally), reply);
-        assert_eq!((tally.admitted(user), tally.declined(user)), counts);
-    }
-    assert_eq!(ledger.held(1), Ledger::new().held(1));
-}
-
-/// The same submissions of a user, alone and with those of others between.
-#[test]
-fn others_change_nothing_for_a_user() {
-    let book = Book::new(small_shop().bytes()).expect("it is sound");
-    let [state, price] = [0, 2].map(|column| Plan::new([1, column, 0, 0, 4, 0, 0, 0]));
-    let average = Plan::new([1, 2, 0, 0, 2, 1, 0, 255, 4, 1, 0, 0]);
-    let given = |between: &[(u32, &Plan)]| {
-        let (mut ledger, mut tally) = (Ledger::new(), Tally::new());
-        let replies = [&state, &price, &average].map(|plan| {
-            for (user, plan) in between {
-                let _ = book.submit(*user, plan, &mut ledger, &mut tally);
-            }
-            book.submit(1, plan, &mut ledger, &mut tally)
-        });
-        let counts = (tally.admitted(1), tally.declined(1));
-        (replies, ledger.held(1), counts, tally.admitted(2))
-    };
-    let (replies, held, counts, others) = given(&[]);
-    let opened = replies.map(Reply::opens);
-    assert_eq!((opened, others), ([true, false, true], 0));
-    let between = [(2, &price), (2, &state), (0, &price)];
-    assert_eq!(given(&between), (replies, held, counts, 3));
-}
-
-/// What is stored comes back, and the low byte comes first.
-#[test]
-fn a_ledger_is_stored_and_read_again() {
-    let book = Book::new(small_shop().bytes()).expect("it is sound");
-    let state = Plan::new([1, 0, 0, 0, 4, 0, 0, 0]);
-    let (mut ledger, mut tally) = (Ledger::default(), Tally::default());
-    assert!(book.submit(2, &state, &mut ledger, &mut tally).opens());
-    let stored = ledger.to_bytes();
-    let set: Vec<usize> = (0..stored.len()).filter(|&i| stored[i] != 0).collect();
-    assert_eq!((set, stored[8 * 64]), (vec![8 * 64], 1 << 2));
-    assert_eq!(Ledger::from_bytes(&stored), Ok(ledger));
-
-    let bytes: Vec<u8> = (0..Ledger::BYTES).map(|i| (i % 251) as u8).collect();
-    let any = Ledger::from_bytes(&bytes).expect("it is as long");
-    assert_eq!(any.to_bytes(), bytes);
-    assert_eq!(any.held(0).words()[1], 0x0F0E_0D0C_0B0A_0908);
-    assert_eq!(any.held(31).words()[31].to_le_bytes(), bytes[8_184..]);
-    assert!((32..40).all(|user| any.held(user).iter().next().is_none()));
-    assert!(any.held(u32::MAX).iter().next().is_none());
-    for length in [0, 1, Ledger::BYTES - 8, Ledger::BYTES - 1] {
-        assert!(Ledger::from_bytes(&bytes[..length]).is_err());
-    }
-    assert!(Ledger::from_bytes(&[&bytes[..], &[0]].concat()).is_err());
-}
-
-/// The admitted counts come before the declined ones, by user number; the last user has the last of
-/// both.
-#[test]
-fn a_tally_is_stored_and_read_again() {
-    let mut shop = small_shop();
-    shop.users = vec![0; 32];
-    let book = Book::new(shop.bytes()).expect("it is sound");
-    let [state, price] = [0, 2].map(|column| Plan::new([1, column, 0, 0, 4, 0, 0, 0]));
-    let (mut ledger, mut tally) = (Ledger::new(), Tally::new());
-    let mut submit = |user, plan| book.submit(user, plan, &mut ledger, &mut tally).opens();
-    assert!(submit(31, &state) && submit(31, &state) && !submit(31, &price));
-    assert!(submit(2, &state));
-    let mut stored = [0; 256];
-    (stored[4 * 31], stored[128 + 4 * 31], stored[4 * 2]) = (2, 1, 1);
-    assert_eq!(tally.to_bytes(), stored);
-    assert_eq!(Tally::from_bytes(&stored), Ok(tally));
-
-    let bytes: Vec<u8> = (0..=255).collect();
-    let any = Tally::from_bytes(&bytes).expect("it is as long");
-    assert_eq!(any.to_bytes(), bytes[..]);
-    let counts = |user| (any.admitted(user), any.declined(user));
-    assert_eq!(counts(0), (0x0302_0100, 0x8382_8180));
-    assert_eq!(counts(31), (0x7F7E_7D7C, 0xFFFE_FDFC));
-    for past in [32, 33, 63, 64, u32::MAX] {
-        assert_eq!(counts(past), (0, 0));
-    }
-    for length in [0, 8, 128, 255] {
-        assert!(Tally::from_bytes(&bytes[..length]).is_err());
-    }
-    assert!(Tally::from_bytes(&[&bytes[..], &[0]].concat()).is_err());
 }
 
 /// The small shop with another block, sealed: these bytes, then zeros.

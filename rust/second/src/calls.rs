@@ -1,9 +1,10 @@
-//! The nine calls: what is refused, in the documents' order, and what is answered.
+//! The eleven calls: what is refused, in the documents' order, and what is answered.
 
 use crate::access::Access;
 use crate::blocked::{self, Datum};
 use crate::book::Book;
 use crate::culprits::{self, Others};
+use crate::holds::{Holds, Place};
 use crate::idle::{self, Found};
 use crate::ledger::{self, Tally};
 use crate::plan::Row;
@@ -44,7 +45,7 @@ pub fn judge(book: &[u8], user: u32, plan: &[u8]) -> Result<u32, Refusal> {
     Ok(judged.mask(&judged.accesses))
 }
 
-/// What Judge and Submit have once Judge refuses nothing.
+/// What Judge and Ask have once Judge refuses nothing.
 struct Judged {
     book: Book,
     user: usize,
@@ -204,34 +205,105 @@ fn masked(others: Others) -> Causes {
     others.map(|rules| mask(&rules))
 }
 
-/// **Submit** (document 02, N3 and N8). "A plan is declined exactly when its accesses joined with those
-/// held for its user break a rule; the mask of that union is the reply." It is counted in its user's
-/// pair.
-pub fn submit(
+/// "An ask replies with the mask and that number, 0 if declined".
+#[derive(Clone, Copy, Debug, PartialEq, Eq)]
+pub struct Asked {
+    /// The mask of the rules that the union breaks, 0 for a plan that is held.
+    pub mask: u32,
+    /// The number of the new hold, 0 for a plan that is declined.
+    pub number: u32,
+}
+
+/// **Ask** (document 02, N10). "asking checks the plan and holds or declines it": by N3, "A plan is declined
+/// exactly when its accesses joined with those held for its user break a rule; the mask of that union is the
+/// reply", and "Asking counts the user's held plans as already admitted".
+pub fn ask(
     book: &[u8],
     user: u32,
     plan: &[u8],
-    ledger: &mut [u64],
+    ledger: &[u64],
     tally: &mut Tally,
-) -> Result<u32, Refusal> {
+    holds: &mut Holds,
+) -> Result<Asked, Refusal> {
     let judged = judged(book, user, plan)?;
-    if ledger.len() != ledger::WORDS {
-        return Err(Refusal::of(LEDGER_LENGTH));
-    }
-    if tally.is_full(judged.user) {
+    is_whole(ledger)?;
+    let counts = &mut tally.users[judged.user];
+    let held = holds.of_user(judged.user).count();
+    if counts.are_full(held) {
         return Err(Refusal::of(COUNTS_FULL));
     }
-    let held = ledger::of_user(ledger, judged.user);
-    let union = &judged.accesses | &ledger::accesses(held);
-    let mask = judged.mask(&union);
-    let counts = &mut tally.pairs[judged.user];
-    if mask == 0 {
-        ledger::write(&union, held);
-        counts.admitted += 1;
-    } else {
-        counts.declined += 1;
+    let place = holds.lowest_empty().ok_or(Refusal::of(EIGHT_HELD))?;
+    let words = ledger::words_of(ledger, judged.user);
+    let mut union = &judged.accesses | &ledger::accesses(words);
+    for hold in holds.of_user(judged.user) {
+        union.extend(hold.accesses());
     }
-    Ok(mask)
+    let mask = judged.mask(&union);
+    if mask != 0 {
+        ledger::raise(&mut counts.declined);
+        return Ok(Asked { mask, number: 0 });
+    }
+    let number = u32::try_from(counts.next_number(held)).expect("it is at most 1,000,000");
+    holds.places[place] = Place::of(judged.user, number, &judged.accesses);
+    Ok(Asked { mask, number })
+}
+
+/// **Commit** (document 02, N10). "committing admits a held plan", "and committing tests none": its accesses
+/// join its user's words.
+pub fn commit(
+    book: &[u8],
+    user: u32,
+    number: u32,
+    ledger: &mut [u64],
+    tally: &mut Tally,
+    holds: &mut Holds,
+) -> Result<u32, Refusal> {
+    let (user, place) = a_hold(book, user, number, ledger, holds)?;
+    let hold = holds.free(place);
+    let words = ledger::words_of_mut(ledger, user);
+    let union = &ledger::accesses(words) | &hold.accesses();
+    ledger::write(&union, words);
+    ledger::raise(&mut tally.users[user].admitted);
+    Ok(number)
+}
+
+/// **Drop** (document 02, N10). "dropping forgets it", and "The tally counts each user's dropped plans too."
+pub fn drop_hold(
+    book: &[u8],
+    user: u32,
+    number: u32,
+    ledger: &[u64],
+    tally: &mut Tally,
+    holds: &mut Holds,
+) -> Result<u32, Refusal> {
+    let (user, place) = a_hold(book, user, number, ledger, holds)?;
+    holds.free(place);
+    ledger::raise(&mut tally.users[user].dropped);
+    Ok(number)
+}
+
+/// "27 for a ledger not of 1,024 words"
+fn is_whole(ledger: &[u64]) -> Result<(), Refusal> {
+    match ledger.len() {
+        ledger::WORDS => Ok(()),
+        _ => Err(Refusal::of(LEDGER_LENGTH)),
+    }
+}
+
+/// "committing or dropping has book refusals, 20 and 27, then 32 for a number that user doesn't hold", else
+/// the user and the place that is meant.
+fn a_hold(
+    book: &[u8],
+    user: u32,
+    number: u32,
+    ledger: &[u64],
+    holds: &Holds,
+) -> Result<(usize, usize), Refusal> {
+    let book = reading::read(book)?;
+    let user = a_user(&book, user).ok_or(Refusal::of(NO_USER))?;
+    is_whole(ledger)?;
+    let place = holds.lowest_with(user, number);
+    Ok((user, place.ok_or(Refusal::of(NOT_HELD))?))
 }
 
 /// **Tree** (document 02, N7). "The tree of a value row is written to the front of a lent buffer, the

@@ -1,4 +1,4 @@
-//! What users already hold, and the counts beside it (document 02, N3 and N8).
+//! What users have already seen, and the counts beside it (document 02, N3, N8 and N10).
 
 use crate::access::{Access, Action, ACTIONS};
 use std::collections::BTreeSet;
@@ -11,37 +11,44 @@ pub const WORDS_OF_A_USER: usize = 32;
 /// The user numbers, by the words that a ledger holds for each.
 pub const USERS: usize = WORDS / WORDS_OF_A_USER;
 
-/// "The tally becomes one pair of counts for each user number". The default is fresh.
+/// "The tally becomes one pair of counts for each user number" (N8), and "counts each user's dropped
+/// plans too" (N10). The default is fresh.
 #[derive(Clone, Copy, Debug, Default, PartialEq, Eq)]
 pub struct Tally {
-    /// The pair of each user number.
-    pub pairs: [Counts; USERS],
+    /// The counts of each user number.
+    pub users: [Counts; USERS],
 }
 
-/// How many plans of a user were admitted, and how many declined.
+/// How many plans of a user were admitted, how many declined, and how many dropped.
 #[derive(Clone, Copy, Debug, Default, PartialEq, Eq)]
 pub struct Counts {
     /// The plans admitted.
     pub admitted: u32,
     /// The plans declined.
     pub declined: u32,
-}
-
-impl Tally {
-    /// "28 looks at that user's pair alone."
-    pub fn is_full(&self, user: usize) -> bool {
-        self.pairs[user].is_full()
-    }
+    /// The plans dropped.
+    pub dropped: u32,
 }
 
 impl Counts {
-    /// "28 when either count or their sum is already 1,000,000 or more"
-    pub fn is_full(&self) -> bool {
-        let [admitted, declined] = [u64::from(self.admitted), u64::from(self.declined)];
-        [admitted, declined, admitted + declined]
-            .into_iter()
-            .any(|count| count >= 1_000_000)
+    /// "28 is now for an ask when that sum is 1,000,000 or more": "admitted + dropped + held + declined".
+    pub fn are_full(&self, held: usize) -> bool {
+        self.settled() + held as u64 + u64::from(self.declined) >= 1_000_000
     }
+
+    /// "A new hold's number is 1 + its user's admitted + dropped + held"
+    pub fn next_number(&self, held: usize) -> u64 {
+        1 + self.settled() + held as u64
+    }
+
+    fn settled(&self) -> u64 {
+        u64::from(self.admitted) + u64::from(self.dropped)
+    }
+}
+
+/// One more, but "a count at its top value stays there".
+pub fn raise(count: &mut u32) {
+    *count = count.saturating_add(1);
 }
 
 /// "word 16 × s + k"
@@ -79,7 +86,12 @@ pub fn write(accesses: &BTreeSet<Access>, words: &mut [u64]) {
 }
 
 /// A user's words of a ledger.
-pub fn of_user(ledger: &mut [u64], user: usize) -> &mut [u64] {
+pub fn words_of(ledger: &[u64], user: usize) -> &[u64] {
+    &ledger[WORDS_OF_A_USER * user..WORDS_OF_A_USER * (user + 1)]
+}
+
+/// A user's words of a ledger, to be changed.
+pub fn words_of_mut(ledger: &mut [u64], user: usize) -> &mut [u64] {
     &mut ledger[WORDS_OF_A_USER * user..WORDS_OF_A_USER * (user + 1)]
 }
 
@@ -124,29 +136,61 @@ mod tests {
         }
     }
 
+    /// Whichever count has it, and held plans count too.
     #[test]
     fn full_counts() {
-        let full = |admitted, declined| Counts { admitted, declined }.is_full();
-        assert!(!full(0, 0) && !full(999_999, 0) && !full(0, 999_999) && !full(499_999, 500_000));
-        assert!(full(1_000_000, 0) && full(0, 1_000_000) && full(500_000, 500_000));
-        assert!(full(999_999, 1) && full(1, 999_999) && full(u32::MAX, 1));
-        assert!(full(u32::MAX, u32::MAX) && full(1 << 31, 1 << 31));
+        let full = |admitted, declined, dropped, held| {
+            let counts = Counts {
+                admitted,
+                declined,
+                dropped,
+            };
+            counts.are_full(held)
+        };
+        assert!(!full(0, 0, 0, 8) && !full(333_333, 333_333, 333_333, 0));
+        assert!(full(333_333, 333_333, 333_333, 1) && full(333_334, 333_333, 333_333, 0));
+        let most = u32::MAX;
+        for [a, b, c] in [[0, 1, 2], [1, 2, 0], [2, 0, 1]] {
+            let one = |counts: [u32; 3], held| full(counts[a], counts[b], counts[c], held);
+            assert!(!one([999_999, 0, 0], 0) && !one([499_999, 499_999, 1], 0));
+            assert!(one([1_000_000, 0, 0], 0) && one([999_999, 1, 0], 0));
+            assert!(one([999_999, 0, 0], 1) && one([999_992, 0, 0], 8) && !one([999_991, 0, 0], 8));
+            assert!(one([500_000, 500_000, 0], 0) && one([499_999, 499_999, 2], 0));
+            // Sums that are small when cut to 32 bits.
+            assert!(one([most, 1, 0], 0) && one([1 << 31, 1 << 31, 0], 0) && one([most, 0, 0], 8));
+            assert!(one([most, most, most], 8) && one([most, most, 2], 0));
+        }
     }
 
-    /// Each pair is full by itself, whatever the others.
+    /// Declined plans have no number.
     #[test]
-    fn full_pairs() {
-        let full = Counts {
-            admitted: 0,
-            declined: 1_000_000,
+    fn next_numbers() {
+        let next = |admitted, declined, dropped, held| {
+            let counts = Counts {
+                admitted,
+                declined,
+                dropped,
+            };
+            counts.next_number(held)
         };
-        for user in 0..USERS {
-            let mut tally = Tally::default();
-            tally.pairs[user] = full;
-            assert!((0..USERS).all(|any| tally.is_full(any) == (any == user)));
-            tally.pairs = [full; USERS];
-            tally.pairs[user] = Counts::default();
-            assert!((0..USERS).all(|any| tally.is_full(any) == (any != user)));
+        assert_eq!(next(0, 0, 0, 0), 1);
+        assert_eq!(next(0, 900, 0, 0), 1);
+        assert_eq!(next(5, 900, 30, 7), 43);
+        assert_eq!(next(999_999, 0, 0, 0), 1_000_000);
+    }
+
+    #[test]
+    fn raised_counts() {
+        for (before, after) in [
+            (0, 1),
+            (999_999, 1_000_000),
+            (1_000_000, 1_000_001),
+            (u32::MAX - 1, u32::MAX),
+            (u32::MAX, u32::MAX),
+        ] {
+            let mut count = before;
+            raise(&mut count);
+            assert_eq!(count, after);
         }
     }
 }

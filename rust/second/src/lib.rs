@@ -1,4 +1,4 @@
-//! A second implementation of the nine calls of the policy engine.
+//! A second implementation of the eleven calls of the policy engine.
 //!
 //! It is written from the sentences of documents 01 and 02, each quoted where it is followed, with
 //! ordinary sets, explicit paths and explicit choices. It is made to be read and believed, not to be quick:
@@ -20,6 +20,7 @@ pub mod breaking;
 pub mod choice;
 pub mod culprits;
 pub mod hierarchy;
+pub mod holds;
 pub mod idle;
 pub mod ledger;
 pub mod operation;
@@ -34,8 +35,9 @@ pub mod tree;
 mod calls;
 
 pub use calls::{
-    blocked, blocked_naive, blocked_within, check, culprits, culprits_naive, culprits_within,
-    flows, idle, idle_naive, idle_within, judge, seal, submit, tree,
+    ask, blocked, blocked_naive, blocked_within, check, commit, culprits, culprits_naive,
+    culprits_within, drop_hold, flows, idle, idle_naive, idle_within, judge, seal, tree, Asked,
 };
+pub use holds::{Holds, Place};
 pub use ledger::{Counts, Tally};
 pub use refusal::Refusal;

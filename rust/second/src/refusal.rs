@@ -59,9 +59,13 @@ pub const SHORT_BUFFER: u32 = 25;
 pub const RULE_FORBIDS: u32 = 26;
 /// "27 for a ledger not of 1,024 words"
 pub const LEDGER_LENGTH: u32 = 27;
-/// "28 when either count or their sum is already 1,000,000 or more"
+/// "28 is now for an ask when that sum is 1,000,000 or more"
 pub const COUNTS_FULL: u32 = 28;
 /// "29 if the row is absent or not of kind 1 to 3"
 pub const NO_VALUE_ROW: u32 = 29;
 /// "30 if the tree has above 4,096 nodes or its text exceeds the buffer"
 pub const TREE_SIZE: u32 = 30;
+/// "31 exactly while eight are held"
+pub const EIGHT_HELD: u32 = 31;
+/// "32 for a number that user doesn't hold"
+pub const NOT_HELD: u32 = 32;

@@ -8,7 +8,7 @@ use books::shop::{rule, ANALYST, REPORT};
 use books::{named, Draft};
 use second::access::{Access, Action};
 use second::blocked::Datum;
-use second::{reading, Refusal, Tally};
+use second::{reading, Asked, Holds, Refusal, Tally};
 
 const COLUMN_HOUSE: [u8; 4] = [1, 0, 0, 0];
 const COLUMN_LANE: [u8; 4] = [1, 1, 0, 0];
@@ -212,8 +212,12 @@ fn what_is_held() {
     let bytes = book(&[]).bytes();
     let mut ledger = [0; 1_024];
     let plan = [COLUMN_LANE, truncate(0), output(1)].concat();
-    let said = second::submit(&bytes, 2, &plan, &mut ledger, &mut Tally::default());
-    assert_eq!(said, Ok(0));
+    let (mut tally, mut holds) = (Tally::default(), Holds::default());
+    let said = second::ask(&bytes, 2, &plan, &ledger, &mut tally, &mut holds);
+    assert_eq!(said, Ok(Asked { mask: 0, number: 1 }));
+    assert_eq!(holds.places[0].words[..2], [1 << LANE, 0]);
+    let said = second::commit(&bytes, 2, 1, &mut ledger, &mut tally, &mut holds);
+    assert_eq!(said, Ok(1));
     assert_eq!(ledger[64..66], [1 << LANE, 0]);
 }
 

@@ -2,35 +2,38 @@
 //! of a difference shows it again.
 
 mod actions;
+mod asks;
 mod base;
 mod blocked;
 mod culprits;
 mod mixing;
 mod order;
-mod submit;
+mod settles;
+mod steps;
 mod tally;
 mod tree;
 mod withdrawn;
 mod withdrawn_masks;
 
 use against::actions::PAIRS;
-use against::engine::{Blocking, Causes, Idleness, Search, Second, STEPS};
+use against::engine::{Blocking, Causes, Idleness, Reply, Search, Second, STEPS};
 use against::mixing::MISREADINGS;
 use against::run::try_case;
 use against::withdrawn_counts::DEPENDING;
 use against::{run, text, Difference, Engine, Limit, Reached};
-use books::submissions::Submit;
+use books::records::Records;
 use books::trees::Tree;
 use second::access::Access;
 use second::book::Book;
 use second::{shown, Refusal};
 use std::fmt::Debug;
+use steps::{ByStep, Right};
 
 const GOOD: Second = Second {
     search: Search::Skipping(STEPS),
 };
 
-/// The nine calls of a faulty engine: those that it does not get wrong are the good one's.
+/// The eleven calls of a faulty engine: those that it does not get wrong are the good one's.
 trait Faulty {
     fn check(&self, book: &[u8]) -> Result<u32, Refusal> {
         GOOD.check(book)
@@ -60,8 +63,34 @@ trait Faulty {
         GOOD.culprits(book, rule)
     }
 
-    fn submit(&self, given: &mut Submit) -> Result<u32, Refusal> {
-        GOOD.submit(given)
+    fn ask(
+        &self,
+        book: &[u8],
+        user: u32,
+        plan: &[u8],
+        records: &mut Records,
+    ) -> Result<Reply, Refusal> {
+        GOOD.ask(book, user, plan, records)
+    }
+
+    fn commit(
+        &self,
+        book: &[u8],
+        user: u32,
+        number: u32,
+        records: &mut Records,
+    ) -> Result<u32, Refusal> {
+        GOOD.commit(book, user, number, records)
+    }
+
+    fn drop_hold(
+        &self,
+        book: &[u8],
+        user: u32,
+        number: u32,
+        records: &mut Records,
+    ) -> Result<u32, Refusal> {
+        GOOD.drop_hold(book, user, number, records)
     }
 
     fn tree(&self, given: &mut Tree) -> Result<u32, Refusal> {
@@ -105,8 +134,34 @@ impl<F: Faulty> Engine for FaultyEngine<F> {
         self.0.culprits(book, rule)
     }
 
-    fn submit(&self, given: &mut Submit) -> Result<u32, Refusal> {
-        self.0.submit(given)
+    fn ask(
+        &self,
+        book: &[u8],
+        user: u32,
+        plan: &[u8],
+        records: &mut Records,
+    ) -> Result<Reply, Refusal> {
+        self.0.ask(book, user, plan, records)
+    }
+
+    fn commit(
+        &self,
+        book: &[u8],
+        user: u32,
+        number: u32,
+        records: &mut Records,
+    ) -> Result<u32, Refusal> {
+        self.0.commit(book, user, number, records)
+    }
+
+    fn drop_hold(
+        &self,
+        book: &[u8],
+        user: u32,
+        number: u32,
+        records: &mut Records,
+    ) -> Result<u32, Refusal> {
+        self.0.drop_hold(book, user, number, records)
     }
 
     fn tree(&self, given: &mut Tree) -> Result<u32, Refusal> {
@@ -127,7 +182,7 @@ fn is_found_and_shown_again(fault: impl Faulty + Copy + Debug) {
     let engines: [&dyn Engine; 2] = [&FaultyEngine(fault), &GOOD];
     let mut cases = 0;
     let mut count = |reached: &Reached| cases = reached.cases;
-    let difference = run(engines, 7, Limit::Cases(100_000), &mut count);
+    let difference = run(engines, 7, Limit::Cases(125_000), &mut count);
     let difference = difference
         .err()
         .unwrap_or_else(|| panic!("{fault:?} not found"));
@@ -182,7 +237,7 @@ fn each_fault_of_mixing_is_found_and_shown_again() {
     for misreading in MISREADINGS {
         is_found_and_shown_again(mixing::InFlows(misreading));
         is_found_and_shown_again(mixing::InJudge(misreading));
-        is_found_and_shown_again(mixing::InSubmit(misreading));
+        is_found_and_shown_again(mixing::InAsk(misreading));
     }
 }
 
@@ -192,28 +247,40 @@ fn each_fault_of_the_order_is_found_and_shown_again() {
 }
 
 #[test]
-fn each_fault_of_submit_is_found_and_shown_again() {
-    let faults = submit::AGAINST_LISTS.into_iter();
-    let faults = faults.chain(submit::OF_THE_LIMIT).chain(submit::OTHERS);
-    faults.for_each(is_found_and_shown_again);
+fn each_fault_of_ask_is_found_and_shown_again() {
+    let faults = asks::AGAINST_LISTS.into_iter().chain(asks::OTHERS);
+    let faults = faults.chain(asks::BEFORE);
+    faults.map(ByStep).for_each(is_found_and_shown_again);
+}
+
+#[test]
+fn each_fault_of_commit_and_drop_is_found_and_shown_again() {
+    let faults = settles::AGAINST_LISTS.into_iter().chain(settles::OTHERS);
+    faults.map(ByStep).for_each(is_found_and_shown_again);
 }
 
 #[test]
 fn each_fault_of_the_tally_is_found_and_shown_again() {
-    tally::faults().for_each(is_found_and_shown_again);
+    tally::faults()
+        .map(ByStep)
+        .for_each(is_found_and_shown_again);
 }
 
 #[test]
 fn what_is_stated_of_lists_finds_faults_alone() {
-    let faults = submit::AGAINST_LISTS.into_iter();
-    faults.for_each(submit::is_found_by_the_lists);
+    let faults = asks::AGAINST_LISTS.into_iter();
+    faults.for_each(tally::is_found_by_the_lists);
+    let faults = settles::AGAINST_LISTS.into_iter();
+    faults.for_each(tally::is_found_by_the_lists);
     let faults = tally::AGAINST_LISTS.into_iter();
-    faults.for_each(submit::is_found_by_the_lists);
+    faults.for_each(tally::is_found_by_the_lists);
 }
 
 #[test]
-fn what_is_stated_of_a_submission_finds_faults_alone() {
-    let faults = submit::OF_THE_LIMIT.into_iter();
+fn what_is_stated_of_a_call_finds_faults_alone() {
+    let faults = asks::AGAINST_LISTS.into_iter().chain(asks::OTHERS);
+    faults.for_each(tally::is_found_by_the_sentences);
+    let faults = settles::AGAINST_LISTS.into_iter().chain(settles::OTHERS);
     faults.for_each(tally::is_found_by_the_sentences);
     tally::faults().for_each(tally::is_found_by_the_sentences);
 }
@@ -222,6 +289,15 @@ fn what_is_stated_of_a_submission_finds_faults_alone() {
 fn what_is_stated_of_alike_histories_finds_faults_alone() {
     let faults = tally::AGAINST_ALIKE.into_iter();
     faults.for_each(tally::is_found_by_alike_histories);
+}
+
+/// What the faults are made with is none itself: the calls step by step.
+#[test]
+fn the_right_steps_are_no_fault() {
+    let engine = FaultyEngine(ByStep(Right));
+    let result = run([&engine, &GOOD], 7, Limit::Cases(10_000), &mut |_| ());
+    let reached = result.unwrap_or_else(|difference| panic!("{difference}"));
+    assert!(reached.holds.histories > 5, "{reached}");
 }
 
 #[test]

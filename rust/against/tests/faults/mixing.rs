@@ -2,9 +2,11 @@
 //! Blocked have none: "Shown plans use single-row Apply only".
 
 use crate::{Faulty, GOOD};
+use against::engine::{held, Reply};
 use against::mixing::{accesses, Misreading};
+use against::records::{counts, places};
 use against::Engine;
-use books::submissions::Submit;
+use books::records::Records;
 use second::access::Access;
 use second::book::Book;
 use second::{breaking, ledger, plan, reading, Refusal};
@@ -18,9 +20,9 @@ pub struct InFlows(pub Misreading);
 #[derive(Clone, Copy, Debug)]
 pub struct InJudge(pub Misreading);
 
-/// In Submit alone.
+/// In Ask alone.
 #[derive(Clone, Copy, Debug)]
-pub struct InSubmit(pub Misreading);
+pub struct InAsk(pub Misreading);
 
 /// The book, and the accesses of a plan as the fault has them.
 fn read(book: &[u8], plan: &[u8], misread: Misreading) -> (Book, BTreeSet<Access>) {
@@ -52,19 +54,31 @@ impl Faulty for InJudge {
     }
 }
 
-impl Faulty for InSubmit {
-    fn submit(&self, given: &mut Submit) -> Result<u32, Refusal> {
-        GOOD.submit(&mut given.clone())?;
-        let (book, accesses) = read(&given.book, &given.plan, self.0);
-        let held = ledger::of_user(&mut given.ledger, given.user as usize);
-        let union = &accesses | &ledger::accesses(held);
-        let mask = mask(&book, given.user, &union);
-        if mask == 0 {
-            ledger::write(&union, held);
-            given.admitted[given.user as usize] += 1;
-        } else {
-            given.declined[given.user as usize] += 1;
+impl Faulty for InAsk {
+    fn ask(
+        &self,
+        book: &[u8],
+        user: u32,
+        plan: &[u8],
+        records: &mut Records,
+    ) -> Result<Reply, Refusal> {
+        GOOD.ask(book, user, plan, &mut records.clone())?;
+        let (book, accesses) = read(book, plan, self.0);
+        let own = user as usize;
+        let holds = places(&records.holds);
+        let mut union = &accesses | &ledger::accesses(ledger::words_of(&records.ledger, own));
+        holds
+            .of_user(own)
+            .for_each(|hold| union.extend(hold.accesses()));
+        let mask = mask(&book, user, &union);
+        if mask != 0 {
+            records.tally.declined[own] += 1;
+            return Ok(mask.into());
         }
-        Ok(mask)
+        let number = counts(&records.tally, own).next_number(holds.of_user(own).count()) as u32;
+        let place = holds.lowest_empty().expect("it is not refused");
+        (records.holds.users[place], records.holds.numbers[place]) = (user, number);
+        ledger::write(&accesses, records.holds.words_of_mut(place));
+        Ok(held(number))
     }
 }

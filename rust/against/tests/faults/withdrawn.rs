@@ -3,12 +3,12 @@
 
 use crate::{assert_shown_again, Faulty, FaultyEngine, GOOD};
 use against::categories::{self, Category, WITHOUT_WITHDRAWN, WITH_WITHDRAWN};
-use against::engine::{Blocking, Causes, Idleness};
+use against::engine::{Blocking, Causes, Idleness, Reply};
 use against::kinds::{NOTHING, NOT_INHERITED};
 use against::run::try_case;
 use against::{Engine, Reached};
 use books::draft::{seal_all, BLOCK};
-use books::submissions::Submit;
+use books::records::Records;
 use books::trees::Tree;
 use books::{case, Random};
 use second::book::Book;
@@ -46,12 +46,34 @@ impl<T: Takes> Faulty for T {
         GOOD.culprits(&self.taken("culprits", book), rule)
     }
 
-    fn submit(&self, given: &mut Submit) -> Result<u32, Refusal> {
-        let taken = self.taken("submit", &given.book);
-        let book = std::mem::replace(&mut given.book, taken);
-        let answer = GOOD.submit(given);
-        given.book = book;
-        answer
+    fn ask(
+        &self,
+        book: &[u8],
+        user: u32,
+        plan: &[u8],
+        records: &mut Records,
+    ) -> Result<Reply, Refusal> {
+        GOOD.ask(&self.taken("ask", book), user, plan, records)
+    }
+
+    fn commit(
+        &self,
+        book: &[u8],
+        user: u32,
+        number: u32,
+        records: &mut Records,
+    ) -> Result<u32, Refusal> {
+        GOOD.commit(&self.taken("commit", book), user, number, records)
+    }
+
+    fn drop_hold(
+        &self,
+        book: &[u8],
+        user: u32,
+        number: u32,
+        records: &mut Records,
+    ) -> Result<u32, Refusal> {
+        GOOD.drop_hold(&self.taken("drop", book), user, number, records)
     }
 
     fn tree(&self, given: &mut Tree) -> Result<u32, Refusal> {

@@ -1,7 +1,7 @@
 //! `docs/FORMAT.md`: its bytes and answers are those of the engine.
 
 use crate::common::{broken, built, file, text};
-use pspec::{Book, Ledger, Plan, Refusal, Reply, Tally, BLOCK};
+use pspec::{Asked, Book, Holds, Ledger, Plan, Refusal, Tally, BLOCK};
 use pspec_book::named::NamedBook;
 use pspec_book::phrases::joined;
 
@@ -78,7 +78,7 @@ fn the_plans_are_judged_so() {
     let book = Book::new(small_shop()).expect("it is sound");
     let format = text("docs/FORMAT.md");
     let (_, plans) = format.split_once("## The plan").expect("it is there");
-    let (plans, _) = plans.split_once("## The calls").expect("it ends");
+    let (plans, _) = plans.split_once("**A rule is idle**").expect("it ends");
     let mut judged = 0;
     for row in cells(plans).filter(|row| row.len() == 4 && row[3] != "User 2") {
         let plan = Plan::new(hexadecimal(&row[1]));
@@ -116,28 +116,82 @@ fn the_tree_is_written_so() {
     assert!(words.join(" ").ends_with(&counts));
 }
 
+/// What is kept between the days.
+#[derive(Default)]
+struct Kept {
+    ledger: Ledger,
+    tally: Tally,
+    holds: Holds,
+}
+
+impl Kept {
+    /// The reply to a call in words. It is given a plan to ask about, or else a number.
+    fn reply(&mut self, book: &Book, user: u32, call: &str, given: &str) -> String {
+        let Kept {
+            ledger,
+            tally,
+            holds,
+        } = self;
+        let number = given.parse().unwrap_or(0);
+        let reply = match call {
+            "commit" => book.commit(user, number, ledger, tally, holds),
+            "drop" => book.drop_hold(user, number, ledger, tally, holds),
+            _ => {
+                let plan = Plan::new(hexadecimal(given));
+                match book.ask(user, &plan, ledger, tally, holds) {
+                    Asked::Held { number } => return format!("held as {number}"),
+                    Asked::Declined(broken) => return format!("declined by {broken}"),
+                    Asked::Refused(refusal) => Err(refusal),
+                }
+            }
+        };
+        match reply {
+            Ok(number) => number.to_string(),
+            Err(refusal) => format!("refused {}", refusal.number()),
+        }
+    }
+
+    fn counts(&self, user: u32) -> [String; 4] {
+        let held = self.holds.iter().filter(|hold| hold.user == user).count();
+        let tally = &self.tally;
+        let counts = [
+            tally.admitted(user),
+            tally.declined(user),
+            tally.dropped(user),
+        ];
+        let [admitted, declined, dropped] = counts.map(|count| count.to_string());
+        [admitted, declined, dropped, held.to_string()]
+    }
+}
+
 #[test]
 fn the_days_are_replied_to_so() {
     let book = Book::new(small_shop()).expect("it is sound");
     let format = text("docs/FORMAT.md");
     let (_, days) = format.split_once("| Day |").expect("it is there");
     let (days, _) = days.split_once("## The calls").expect("it ends");
-    let (mut ledger, mut tally) = (Ledger::new(), Tally::new());
+    let mut kept = Kept::default();
     let rows: Vec<Vec<String>> = cells(days).collect();
     for row in &rows {
         let user: u32 = row[1].parse().expect("it is a number");
-        let plan = Plan::new(hexadecimal(&row[3]));
-        let reply = match book.submit(user, &plan, &mut ledger, &mut tally) {
-            Reply::Admitted => "admitted".to_string(),
-            Reply::Declined(broken) => format!("declined by {broken}"),
-            Reply::Refused(refusal) => format!("refused {}", refusal.number()),
-        };
+        let (call, _) = row[2].split_once(':').unwrap_or((&row[2], ""));
+        assert!(["ask", "commit", "drop"].contains(&call), "{call}");
+        let reply = kept.reply(&book, user, call, &row[3]);
         assert_eq!(row[4], reply, "{}", row[0]);
-        let counts = [tally.admitted(user), tally.declined(user)];
-        let counts = counts.map(|count| count.to_string());
-        assert_eq!(row[5..], counts, "{}", row[0]);
+        assert_eq!(row[5..], kept.counts(user), "{}", row[0]);
     }
-    assert_eq!(rows.len(), 6);
+    assert_eq!(rows.len(), 13);
+}
+
+/// The records are as long as the table says, and as they are stored.
+#[test]
+fn the_records_are_stored_so() {
+    let format = text("docs/FORMAT.md");
+    let (_, records) = format.split_once("| Record |").expect("it is there");
+    let (records, _) = records.split_once("| Day |").expect("it ends");
+    let lengths: Vec<String> = cells(records).map(|row| row[3].replace(',', "")).collect();
+    let stored = [Tally::BYTES, Holds::BYTES].map(|bytes| bytes.to_string());
+    assert_eq!(lengths, stored);
 }
 
 #[test]

@@ -5,10 +5,10 @@ use Rattle.trial.proofs.accesses.accesses.Statement.{statement}
 use Rattle.trial.proofs.accesses.accesses.Tie as tie
 
 abbrev Inv-loop : tie.InvT-loop
-Inv-loop words user answer₀ n₀ answer n = n ≤ 2048
+Inv-loop words start answer₀ n₀ answer n = n ≤ 2048
 
 abbrev μ-loop : tie.MeasureT-loop
-μ-loop words user answer₀ n₀ answer n = 2048 - n
+μ-loop words start answer₀ n₀ answer n = 2048 - n
 
 pub accesses-spec : {M : Type 1} → statement M
 accesses-spec =

@@ -7,7 +7,7 @@ use Rattle.trial.proofs.cases.count_of.Statement.{statement}
 use Rattle.trial.proofs.cases.count_of.Tie as tie
 
 abbrev Inv-loop : tie.InvT-loop
-Inv-loop call file count₀ records₀ i₀ i-end count records i = length records ≡ 2176
+Inv-loop call file count₀ records₀ i₀ i-end count records i = length records ≡ 2480
 
 abbrev μ-loop : tie.MeasureT-loop
 μ-loop call file count₀ records₀ i₀ i-end count records i = i-end - i

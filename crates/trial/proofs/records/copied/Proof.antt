@@ -7,10 +7,10 @@ use Rattle.trial.proofs.records.copied.Statement.{statement}
 use Rattle.trial.proofs.records.copied.Tie as tie
 
 abbrev Inv-loop : tie.InvT-loop
-Inv-loop records copy₀ i₀ copy i = (length copy ≡ 2176) × (i ≤ 2176)
+Inv-loop records copy₀ i₀ copy i = (length copy ≡ 2480) × (i ≤ 2480)
 
 abbrev μ-loop : tie.MeasureT-loop
-μ-loop records copy₀ i₀ copy i = 2176 - i
+μ-loop records copy₀ i₀ copy i = 2480 - i
 
 pub copied-spec : {M : Type 1} → statement M
 copied-spec =

@@ -7,10 +7,10 @@ use Rattle.trial.proofs.records.put_times.Statement.{statement}
 use Rattle.trial.proofs.records.put_times.Tie as tie
 
 abbrev Inv-loop : tie.InvT-loop
-Inv-loop records₀ start times count at₀ counter₀ records at counter = length records ≡ length records₀
+Inv-loop records₀ start times number at₀ counter₀ records at counter = length records ≡ length records₀
 
 abbrev μ-loop : tie.MeasureT-loop
-μ-loop records₀ start times count at₀ counter₀ records at counter = times - counter
+μ-loop records₀ start times number at₀ counter₀ records at counter = times - counter
 
 pub put-times-spec : {M : Type 1} → statement M
 put-times-spec =

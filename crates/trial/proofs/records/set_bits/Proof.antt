@@ -7,10 +7,10 @@ use Rattle.trial.proofs.records.set_bits.Statement.{statement}
 use Rattle.trial.proofs.records.set_bits.Tie as tie
 
 abbrev Inv-loop : tie.InvT-loop
-Inv-loop records₀ text sound₀ i₀ i-end records sound i = length records ≡ length records₀
+Inv-loop records₀ first words text sound₀ i₀ i-end records sound i = length records ≡ length records₀
 
 abbrev μ-loop : tie.MeasureT-loop
-μ-loop records₀ text sound₀ i₀ i-end records sound i = i-end - i
+μ-loop records₀ first words text sound₀ i₀ i-end records sound i = i-end - i
 
 pub set-bits-spec : {M : Type 1} → statement M
 set-bits-spec =
