@@ -5,8 +5,9 @@ use crate::answer::{self, Answer};
 use crate::compare::Difference;
 use crate::engine::Engine;
 use crate::histories::{try_history, Past};
+use crate::kept::left;
 use crate::reached::Reached;
-use crate::records::{counts, left};
+use crate::records::counts;
 use crate::steps::{differ, try_step};
 use books::alike::Alike;
 use books::histories::History;
@@ -119,7 +120,7 @@ fn wrong(
 mod tests {
     use super::*;
     use crate::engine::by_name;
-    use crate::records::BySecond;
+    use crate::kept::BySecond;
     use books::alike::histories;
     use books::valid::Size;
     use books::Random;

@@ -4,9 +4,10 @@
 use crate::answer::Answer;
 use crate::compare::{try_one, Difference};
 use crate::engine::Engine;
+use crate::kept::left;
 use crate::reached::Reached;
-use crate::records::left;
-use crate::steps::{differ, flows, free, join, mask, seen_and_held};
+use crate::steps::differ;
+use crate::words::{flows, free, join, mask, seen_and_held};
 use books::histories::{Act, Call, History};
 use books::records::{Records, Tally, PLACES, USERS};
 use second::book::Book;
@@ -48,7 +49,7 @@ struct Said {
     /// held.
     records: Records,
     /// For each user the asks that were not refused.
-    asks: [u64; USERS],
+    asks: [u32; USERS],
     /// The numbers that were given to users.
     given: BTreeSet<(u32, u32)>,
     /// The first statement that a reply goes against by itself.
@@ -97,9 +98,9 @@ pub fn try_history(
 }
 
 /// One more for a user; a number past the tally has no count.
-fn raise<T: From<u8> + std::ops::AddAssign>(counts: &mut [T; USERS], user: u32) {
+fn raise(counts: &mut [u32; USERS], user: u32) {
     let own = counts.get_mut(user as usize);
-    own.into_iter().for_each(|count| *count += 1.into());
+    own.into_iter().for_each(|count| *count += 1);
 }
 
 impl Said {
@@ -179,10 +180,7 @@ impl Said {
         } = &self.records;
         let stated = [
             (UNION, after.ledger == *ledger),
-            (
-                COUNTED,
-                (0..USERS).all(|user| sum(after, user) == self.asks[user]),
-            ),
+            (COUNTED, sums(after) == self.asks.map(u64::from)),
             (EACH, after.tally == *tally),
             (KEPT, after.holds == *holds),
             (BELOW, held_are_below(after)),
@@ -203,9 +201,10 @@ fn numbered(records: &Records, user: usize) -> u64 {
     u64::from(admitted[user]) + u64::from(dropped[user]) + held
 }
 
-/// A user's admitted + dropped + held + declined.
-fn sum(records: &Records, user: usize) -> u64 {
-    numbered(records, user) + u64::from(records.tally.declined[user])
+/// Each user's admitted + dropped + held + declined.
+fn sums(records: &Records) -> [u64; USERS] {
+    let declined = records.tally.declined.map(u64::from);
+    std::array::from_fn(|user| numbered(records, user) + declined[user])
 }
 
 /// The next number is 1 + admitted + dropped + held.

@@ -2,7 +2,7 @@
 
 use crate::answer::Answer;
 use crate::records::{counts, places};
-use crate::steps::{join, mask, seen_and_held, Words};
+use crate::words::{join, mask, seen_and_held, Words};
 use books::histories::{Act, Call};
 use books::records::{Records, LEDGER, PLACES, USERS};
 use books::reserve::{Ask, Settle};

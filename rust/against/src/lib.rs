@@ -12,6 +12,7 @@ pub mod culprits;
 pub mod engine;
 pub mod histories;
 pub mod hold_counts;
+pub mod kept;
 pub mod kinds;
 pub mod mixing;
 pub mod reached;
@@ -22,6 +23,7 @@ pub mod text;
 pub mod tree;
 pub mod tree_counts;
 pub mod withdrawn_counts;
+pub mod words;
 
 pub use compare::Difference;
 pub use engine::Engine;

@@ -48,15 +48,12 @@ fn alike<K: Kept>(random: &mut Random, book: &[u8], one: &Drawn<K>, user: u32) -
     while own.peek().is_some() || others.peek().is_some() {
         let his = others.peek().is_none() || own.peek().is_some() && random.chance(often, 8);
         if his {
-            let next = own.next();
-            next.into_iter().for_each(|(call, full)| {
+            if let Some((call, full)) = own.next() {
                 two.fill_or_free(random, one, call, *full);
                 two.add(call.clone());
-            });
-        } else {
-            let next = others.next();
-            next.into_iter()
-                .for_each(|(user, plan)| two.add(Call::ask(user, plan)));
+            }
+        } else if let Some((another, plan)) = others.next() {
+            two.add(Call::ask(another, plan));
             two.add_settling(random, Some(user));
         }
     }

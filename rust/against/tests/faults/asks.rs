@@ -1,7 +1,8 @@
 //! Faults of Ask (document 02, N3 and N10).
 
 use crate::steps::{raise, Asking, Settling, Steps, Test};
-use against::steps::{free, join, Words};
+use against::engine::Reply;
+use against::words::{free, join, Words};
 use books::records::{Records, Tally, LEDGER, PLACES, USERS};
 use second::ledger::{accesses, words_of_mut, write};
 use second::{reading, Counts, Refusal};
@@ -18,6 +19,9 @@ pub enum Fault {
     JudgesConditionsAsProjections,
     JudgesWhatCanBeHadAlone,
     GivesThePlansMask,
+    HeldLacksItsBit,
+    HeldHasAnotherBit,
+    DeclinedHasTheBit,
     KeepsTheUnion,
     KeepsTheWordsToo,
     KeepsTheHoldsToo,
@@ -70,13 +74,16 @@ pub enum Fault {
 }
 
 /// Those that go against what is stated of every list: found whatever the other engine says.
-pub const AGAINST_LISTS: [Fault; 35] = [
+pub const AGAINST_LISTS: [Fault; 38] = [
     Fault::JudgesThePlanAlone,
     Fault::JudgesWithoutThePlan,
     Fault::JudgesWithoutWords,
     Fault::JudgesWithoutHolds,
     Fault::JudgesWithTheLowestHold,
     Fault::JudgesWithTheHighestHold,
+    Fault::HeldLacksItsBit,
+    Fault::HeldHasAnotherBit,
+    Fault::DeclinedHasTheBit,
     Fault::KeepsTheUnion,
     Fault::KeepsTheWordsToo,
     Fault::KeepsTheHoldsToo,
@@ -226,6 +233,16 @@ impl Steps for Fault {
         match self {
             Fault::GivesThePlansMask => at.mask(&at.plan).max(1),
             _ => mask,
+        }
+    }
+
+    fn packed(&self, reply: Reply) -> Reply {
+        let bit = 1 << 32;
+        match (self, reply >= bit) {
+            (Fault::HeldLacksItsBit, true) => reply - bit,
+            (Fault::HeldHasAnotherBit, true) => reply + bit,
+            (Fault::DeclinedHasTheBit, false) => reply + bit,
+            _ => reply,
         }
     }
 

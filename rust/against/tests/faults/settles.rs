@@ -2,7 +2,7 @@
 
 use crate::asks::that_can_be_had;
 use crate::steps::{raise, Settling, Steps, Test};
-use against::steps::{free, join, mask, Words};
+use against::words::{free, join, mask, Words};
 use books::records::{Holds, Records, Tally, PLACES, USERS};
 use second::ledger::{words_of, words_of_mut};
 use second::{reading, Refusal};

@@ -1,8 +1,8 @@
 //! Asking, committing and dropping step by step (document 02, N10), over words: a fault gets single steps wrong.
 
 use crate::{Faulty, GOOD};
-use against::engine::held;
-use against::steps::{flows, free, join, mask, seen_and_held, Words};
+use against::engine::{held, Reply};
+use against::words::{flows, free, join, mask, seen_and_held, Words};
 use against::Engine;
 use books::records::{Holds, Records, Tally, LEDGER, PLACES};
 use second::ledger::{words_of, words_of_mut};
@@ -167,6 +167,11 @@ pub trait Steps {
         at.plan
     }
 
+    /// The reply to an ask as it is packed, from the right one.
+    fn packed(&self, reply: Reply) -> Reply {
+        reply
+    }
+
     /// What else a hold changes.
     fn hold(&self, _: &Asking, _place: usize, _: &mut Records) {}
 
@@ -235,7 +240,7 @@ impl<S: Steps> Faulty for ByStep<S> {
         user: u32,
         plan: &[u8],
         records: &mut Records,
-    ) -> Result<u64, Refusal> {
+    ) -> Result<Reply, Refusal> {
         let before = records.clone();
         let at = Asking {
             book,
@@ -250,14 +255,15 @@ impl<S: Steps> Faulty for ByStep<S> {
         let mask = self.0.decided(&at, at.mask(&self.0.union(&at)));
         if mask != 0 {
             self.0.decline(&at, records);
-            return Ok(u64::from(self.0.replied(&at, mask)));
+            let mask = self.0.replied(&at, mask);
+            return Ok(self.0.packed(mask.into()));
         }
         let (place, number) = (self.0.place(&at), self.0.number(&at));
         (records.holds.users[place], records.holds.numbers[place]) = (at.user as u32, number);
         let kept = self.0.kept(&at, place);
         records.holds.words_of_mut(place).copy_from_slice(&kept);
         self.0.hold(&at, place, records);
-        Ok(held(number))
+        Ok(self.0.packed(held(number)))
     }
 
     fn commit(

@@ -4,14 +4,16 @@ use crate::steps::{raise, Asking, ByStep, Settling, Steps};
 use crate::{assert_shown_again, FaultyEngine};
 use against::alike::{try_alike, ALIKE};
 use against::histories::try_history;
-use against::records::{counts, BySecond};
+use against::kept::BySecond;
+use against::records::counts;
 use against::run::try_case;
-use against::steps::{join, Words};
+use against::words::{join, Words};
 use against::{Difference, Engine, Reached};
 use books::alike::histories;
 use books::histories::history;
 use books::records::{Records, Tally, PLACES, USERS};
-use books::{case, reserve, valid, Case, Random};
+use books::valid::{self, Size};
+use books::{case, reserve, Case, Random};
 use second::ledger::words_of;
 use second::Refusal;
 use std::fmt::Debug;
@@ -263,15 +265,22 @@ pub fn is_found_by_the_sentences(fault: impl Steps + Copy + Debug) {
     assert_shown_again(engines, &difference);
 }
 
+/// The sizes of the books of histories, whose calls are many: most faults show on small books.
+const SMALL: [Size; 3] = [Size::Tiny, Size::Tiny, Size::Small];
+
+/// Some show with many users alone.
+const SOME_LARGE: [Size; 5] = [Size::Tiny, Size::Tiny, Size::Tiny, Size::Small, Size::Large];
+
 /// What is stated of every list goes against the engines in one of so many histories.
 fn by_the_lists(
     engines: [&dyn Engine; 2],
+    sizes: &[Size],
     histories: u32,
     reached: &mut Reached,
 ) -> Option<Box<Difference>> {
     let mut random = Random::new(6);
     (0..histories).find_map(|_| {
-        let size = case::next_size(&mut random);
+        let size = random.one(sizes);
         let history = history::<BySecond>(&mut random, size);
         try_history(engines, &history, reached).err()
     })
@@ -282,7 +291,7 @@ pub fn is_found_by_the_lists(fault: impl Steps + Copy + Debug) {
     let faulty = FaultyEngine(ByStep(fault));
     let engines: [&dyn Engine; 2] = [&faulty, &faulty];
     let mut reached = Reached::default();
-    let difference = by_the_lists(engines, 200, &mut reached);
+    let difference = by_the_lists(engines, &SOME_LARGE, 200, &mut reached);
     let difference = difference.unwrap_or_else(|| panic!("{fault:?} not found"));
     let (name, stated, _) = &difference.sides[0];
     println!("{fault:?} against '{stated}', {} cases", reached.cases);
@@ -295,10 +304,10 @@ pub fn is_found_by_alike_histories(fault: Fault) {
     let faulty = FaultyEngine(ByStep(fault));
     let engines: [&dyn Engine; 2] = [&faulty, &faulty];
     let mut reached = Reached::default();
-    assert!(by_the_lists(engines, 15, &mut reached).is_none());
+    assert!(by_the_lists(engines, &SMALL, 15, &mut reached).is_none());
     let mut random = Random::new(6);
     let difference = (0..200).find_map(|_| {
-        let size = case::next_size(&mut random);
+        let size = random.one(&SMALL);
         let alike = histories::<BySecond>(&mut random, size);
         try_alike(engines, &alike, &mut reached).err()
     });
