@@ -26,6 +26,16 @@ use Rattle.ledger.proofs.UserKept.{given, accountAccesses, UserKept, Wh
 use Rattle.ledger.proofs.UserKept.{mask-same-account}
 use Rattle.ledger.proofs.Kept.{by-user, kept}
 
+-- what committing or dropping replies to a user of this account
+unfoldable accountSettles : (book : List ℕ) (user number : ℕ) → Account → Reply
+accountSettles book user n a =
+    answered
+    (bookTests book
+    ++ userTests (headOf book) user
+    ++ ((27, 0, eqb 1024 1024) ∷ [])
+    ++ ((32, 0, any (numbered n) (a .holds)) ∷ []))
+    Refused (Settled n)
+
 -- what a call replies to a user of this account
 unfoldable accountReply : (book : List ℕ) (user : ℕ) → Call → (eight : Bool) → Account → Reply
 accountReply book user (Ask plan) eight a =
@@ -39,32 +49,15 @@ accountReply book user (Ask plan) eight a =
     (eqb (brokenMask book user (union (accountAccesses (headOf book) a) (accessesOf (headOf book) plan))) 0)
     (Held (given a + 1))
     (Declined (brokenMask book user (union (accountAccesses (headOf book) a) (accessesOf (headOf book) plan)))))
-accountReply book user (Commit n) eight a =
-    answered
-    (bookTests book
-    ++ userTests (headOf book) user
-    ++ ((27, 0, eqb 1024 1024) ∷ [])
-    ++ ((32, 0, any (numbered n) (a .holds)) ∷ []))
-    Refused (Settled n)
-accountReply book user (Drop n) eight a =
-    answered
-    (bookTests book
-    ++ userTests (headOf book) user
-    ++ ((27, 0, eqb 1024 1024) ∷ [])
-    ++ ((32, 0, any (numbered n) (a .holds)) ∷ []))
-    Refused (Settled n)
+accountReply book user (Commit n) eight a = accountSettles book user n a
+accountReply book user (Drop n) eight a = accountSettles book user n a
 
 module _ (book : List ℕ) (user : ℕ) (s : Records) (whole : Whole s) (a : Account) (kept : UserKept book user s a) where
   settled-same :
       (n : ℕ)
       → settleAnswer book user n (s .ledger) (s .holds)
-      ≡ answered
-      (bookTests book
-      ++ userTests (headOf book) user
-      ++ ((27, 0, eqb 1024 1024) ∷ [])
-      ++ ((32, 0, any (numbered n) (a .holds)) ∷ []))
-      Refused (Settled n)
-  unfolding settleAnswer settleTests ledgerTests numberTests holdsNumber
+      ≡ accountSettles book user n a
+  unfolding settleAnswer settleTests ledgerTests numberTests holdsNumber accountSettles
   settled-same n = rw (whole .ledger, kept .holds .numbers n)
 
   reply-same :
