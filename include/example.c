@@ -1,6 +1,7 @@
 /*
  * Reads a book, checks it, judges three plans, holds, commits and drops some from Monday to Saturday, asks
- * of each rule whether it is idle, whether it is blocked and by which rules, and prints a plan's lineage trees.
+ * of each rule whether it is idle, whether it is blocked and by which rules, prints a plan's lineage trees, and
+ * edits the book with the idle marks showing.
  *
  *   rt staticlib capi
  *   cc -Iinclude include/example.c target/staticlib/libcapi.a -o target/example
@@ -203,10 +204,9 @@ static void tree(const uint8_t *book, size_t length, const uint8_t *plan, size_t
     fwrite(text, 1, pspec_length(answer), stdout);
 }
 
-/* The book with a last rule more: user 1 may have category 4 only under operation 2. */
-static size_t with_rule(uint8_t *book, size_t length)
+/* A rule in a block of zeros: user 1 may have category 4 only under operation 2. */
+static void write_rule(uint8_t *block)
 {
-    uint8_t *block = book + length;
     block[0] = 5;
     block[1] = 1;  /* one reference */
     block[2] = 1;  /* user category 1 */
@@ -215,7 +215,69 @@ static size_t with_rule(uint8_t *book, size_t length)
     block[17] = 3;
     block[65] = 4; /* operation 2 */
     pspec_seal(block, PSPEC_BLOCK);
-    return length + PSPEC_BLOCK;
+}
+
+/* By column 2 it is chosen between column 2 through function 1 and column 0; then that is put out. */
+static void trees(const uint8_t *book, size_t length)
+{
+    static const uint8_t chosen[] = {1, 0, 0, 0, 1, 2, 0, 0, 2, 1, 1, 255, 3, 1, 2, 0, 4, 3, 0, 0};
+    for (uint32_t row = 2; row < 5; row++)
+        tree(book, length, chosen, sizeof chosen, row);
+}
+
+/* The rules of the book, and all again with another one; there is room for it behind the book. */
+static void blocked_rules(uint8_t *book, size_t length, uint32_t count)
+{
+    for (uint32_t rule = 0; rule < count; rule++)
+        blocked(book, length, rule);
+    write_rule(book + length);
+    printf("with a rule that user 1 may have category 4 only under operation 2:\n");
+    for (uint32_t rule = 0; rule <= count; rule++)
+        blocked(book, length + PSPEC_BLOCK, rule);
+}
+
+/* What is edited: the book at the front, its number of rules, and the marks of the idle ones. */
+static uint8_t blocks[PSPEC_BOOK_MOST];
+static uint32_t rules, marks;
+
+static void print_edited(uint64_t answer)
+{
+    if (pspec_number(answer) != PSPEC_NOT_REFUSED) {
+        print_refusal(answer);
+        return;
+    }
+    printf("%u rule%s, idle:", rules, rules == 1 ? "" : "s");
+    print_rules(pspec_mask(answer));
+    printf("%s\n", pspec_mask(answer) == 0 ? " none" : "");
+}
+
+static void arrive(const char *name, const uint8_t *block, size_t length)
+{
+    uint64_t answer = pspec_arrive(blocks, &rules, &marks, block, length);
+    printf("%s arrives: ", name);
+    print_edited(answer);
+}
+
+static void depart(uint32_t rule)
+{
+    uint64_t answer = pspec_depart(blocks, &rules, &marks, rule);
+    printf("rule %u leaves: ", rule);
+    print_edited(answer);
+}
+
+/* The rules of a checked book arrive one by one at its first four blocks; then another does, and rule 1 leaves. */
+static void edits(const uint8_t *book, size_t length)
+{
+    uint8_t block[PSPEC_BLOCK] = {0};
+    for (size_t i = 0; i < PSPEC_BOOK_LEAST; i++)
+        blocks[i] = book[i];
+    for (size_t start = PSPEC_BOOK_LEAST; start < length; start += PSPEC_BLOCK)
+        arrive("a rule of the book", book + start, PSPEC_BLOCK);
+    write_rule(block);
+    arrive("another rule", block, sizeof block);
+    arrive("a block cut off", block, sizeof block - 1);
+    depart(1);
+    depart(3);
 }
 
 int main(int count, char **arguments)
@@ -245,16 +307,8 @@ int main(int count, char **arguments)
         idle(book, length, rule);
     idle(book, length, pspec_value(checked));
 
-    /* By column 2 it is chosen between column 2 through function 1 and column 0; then that is put out. */
-    static const uint8_t chosen[] = {1, 0, 0, 0, 1, 2, 0, 0, 2, 1, 1, 255, 3, 1, 2, 0, 4, 3, 0, 0};
-    for (uint32_t row = 2; row < 5; row++)
-        tree(book, length, chosen, sizeof chosen, row);
-
-    for (uint32_t rule = 0; rule < pspec_value(checked); rule++)
-        blocked(book, length, rule);
-    length = with_rule(book, length);
-    printf("with a rule that user 1 may have category 4 only under operation 2:\n");
-    for (uint32_t rule = 0; rule <= pspec_value(checked); rule++)
-        blocked(book, length, rule);
+    trees(book, length);
+    blocked_rules(book, length, pspec_value(checked));
+    edits(book, length);
     return 0;
 }

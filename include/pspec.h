@@ -1,34 +1,37 @@
 /*
- * The PSpec policy engine for C: eleven calls. Link with libcapi.a (rt staticlib capi; x86-64 Linux).
+ * The PSpec policy engine for C: thirteen calls. Link with libcapi.a (rt staticlib capi; x86-64 Linux).
  *
  * Parameters. A slice is a pointer and a length in elements: bytes for a book, a block, a plan and a
  * buffer, 64-bit words for `words` and `ledger`. A record, `tally` or `holds`, is a pointer to one
- * struct. The caller owes only this: each pointer is not null, fits its type's alignment and points to
- * that many elements, or to one record; a slice or record that is written overlaps no other; and nothing
- * else writes one, or reads one that is written, while the call runs.
+ * struct. The record that is edited is three pointers: `blocks` to 18,432 bytes, `rules` and `marks` to one
+ * number each. The caller owes only this: each pointer is not null, fits its type's alignment and points to
+ * that many elements, or to one record or number; a slice, record or number that is written overlaps no
+ * other; and nothing else writes one, or reads one that is written, while the call runs.
  *
  * Promises, for any bytes, any length and any number:
  *  - no call asks anything of what it is given: there is no input that it may not have;
- *  - it returns, reads and writes nothing outside its slices and records, and keeps no state, so calls
- *    that write different ones may run at the same time;
+ *  - it returns, reads and writes nothing outside its slices, records and numbers, and keeps no state, so
+ *    calls that write different ones may run at the same time;
  *  - its answer is the one that crates/capi/specs/Packing.antt says, over specs/Answers.antt of the
- *    crates below, and so are the elements of a slice and the fields of a record on leaving;
- *  - what the numbers of pspec_judge, pspec_idle, pspec_blocked, pspec_culprits, pspec_ask, pspec_commit and
- *    pspec_drop mean for a policy, and those of pspec_tree for a plan, is one page,
- *    crates/capi/specs/Demands.antt, and is proved of them;
- *  - a refusal leaves `block`, `words`, `buffer`, `ledger`, `tally` and `holds` as they were.
+ *    crates below, and so are the elements of a slice, the fields of a record and the numbers on leaving;
+ *  - what the numbers of pspec_judge, pspec_idle, pspec_blocked, pspec_culprits, pspec_ask, pspec_commit,
+ *    pspec_drop, pspec_arrive and pspec_depart mean for a policy, and those of pspec_tree for a plan, is one
+ *    page, crates/capi/specs/Demands.antt, and is proved of them;
+ *  - a refusal leaves `block`, `words`, `buffer`, `ledger`, `tally`, `holds`, `blocks`, `rules` and `marks` as
+ *    they were.
  *
  * Answers. Each is one 64-bit number: refusal number x 2^40 + place x 2^32 + value. The refusal number
  * is 0 where nothing is refused; number and place are below 256. The value is below 2^32, and 0 where
  * something is refused. Where nothing is refused the place is 0, but in one answer: that of pspec_ask for a
  * held plan has 1 there. So the functions at the end of this file give the answer's own parts (proved:
- * crates/capi/proofs/Unpacking.antt).
+ * crates/capi/proofs/Unpacking.antt and Edits.antt).
  *
- * Not proved: this file, and that there is stack enough. On the largest book, on one with 64 categories
- * in a chain, and on a blocked rule of such books the smallest stacks that worked were 16 KiB for
+ * Not proved: this file, and that there is stack enough. On the largest book, on one with 64 categories in
+ * a chain, and on a blocked rule of such books the smallest stacks that worked were 16 KiB for
  * pspec_check, pspec_flows, pspec_judge, pspec_ask and pspec_drop, 25 KiB for pspec_commit, 26 KiB for
- * pspec_tree, 49 KiB for pspec_idle, 56 KiB for pspec_blocked, 57 KiB for pspec_culprits (bench stack); on a
- * thread with less the process is stopped. Give them 128 KiB. The calls use memcpy, memmove and memset and nothing else from outside.
+ * pspec_tree, 50 KiB for pspec_idle, 56 KiB for pspec_blocked, 57 KiB for pspec_culprits, 67 KiB for
+ * pspec_arrive and pspec_depart (bench stack); on a thread with less the process is stopped. Give them 128
+ * KiB. The calls use memcpy, memmove and memset and nothing else from outside.
  */
 #ifndef PSPEC_H
 #define PSPEC_H
@@ -40,7 +43,8 @@
 extern "C" {
 #endif
 
-/* Bytes of a block; of the shortest and the longest book (4 to 36 blocks). */
+/* Bytes of a block; of the shortest and the longest book (4 to 36 blocks). The blocks of a record that is edited
+ * are as long as the longest book. */
 #define PSPEC_BLOCK 512
 #define PSPEC_BOOK_LEAST 2048
 #define PSPEC_BOOK_MOST 18432
@@ -59,12 +63,13 @@ extern "C" {
 
 /*
  * Refusal numbers. Where several apply, the first in this order is given: 1; 2 over all blocks; 3 over
- * all blocks; 4 to 9 block by block; then the call's own from 20 on. The place is the block for 2 to 9,
- * the row for 22, and 0 for all others. docs/FORMAT.md says what causes each and what to do.
+ * all blocks; 4 to 9 block by block; then the call's own from 20 on, but that 33 comes before all. The place
+ * is the block for 2 to 9, the row for 22, and 0 for all others. docs/FORMAT.md says what causes each and what
+ * to do.
  */
 enum pspec_refusal {
     PSPEC_NOT_REFUSED = 0,
-    PSPEC_BOOK_LENGTH = 1,        /* length of the book not 512 times 4 to 36 */
+    PSPEC_BOOK_LENGTH = 1,        /* length of the book not 512 times 4 to 36; of a block that arrives not 512 */
     PSPEC_BLOCK_CHECK = 2,        /* a block's check is wrong */
     PSPEC_BLOCK_KIND = 3,         /* a block's kind is wrong; block 1 may be of kind 2 or 6 */
     PSPEC_COUNT_OR_ZERO = 4,      /* a count outside its bounds, or a byte that should be zero */
@@ -86,7 +91,8 @@ enum pspec_refusal {
     PSPEC_NO_VALUE_ROW = 29,      /* the row is absent, or not of kind 1 to 3 */
     PSPEC_TREE_SIZE = 30,         /* the tree has above 4,096 nodes, or its text exceeds the buffer */
     PSPEC_PLACES_FULL = 31,       /* eight plans are held */
-    PSPEC_NOT_HELD = 32           /* the user holds no plan under the number */
+    PSPEC_NOT_HELD = 32,          /* the user holds no plan under the number */
+    PSPEC_RULES_FULL = 33         /* the record has 32 rules or more */
 };
 
 /*
@@ -249,6 +255,48 @@ uint64_t pspec_drop(const uint8_t *book, size_t book_length, uint32_t user, uint
 uint64_t pspec_tree(const uint8_t *book, size_t book_length, const uint8_t *plan, size_t plan_length,
                     uint32_t row, uint8_t *buffer, size_t buffer_length);
 
+/*
+ * Editing with the idle marks showing. pspec_arrive puts a rule behind the last one of a book, pspec_depart takes one
+ * out by its number. Both work on a record: `blocks`, 18,432 bytes (PSPEC_BOOK_MOST) with the book at the front;
+ * `rules`, the number of its rules; `marks`, a mask, bit r for an idle rule r. The book is the first
+ * 512 x (4 + rules) bytes. The bytes behind it may be any and are not looked at. A mask handed in may be wrong, and
+ * its bits past the last rule count for nothing. The three do not overlap one another, nor does the block of an
+ * arrival.
+ *
+ * An accepted edit leaves the new book at the front of `blocks` and zero bytes behind it, its number of rules in
+ * `rules`, and in `marks` the new mask, which is the value too (pspec_mask); all its bits past the last rule are 0.
+ * A refusal leaves all three as they were.
+ *
+ * After every list of these calls from an accepted book without rules and a mask of 0, the mask is the one that
+ * pspec_idle gives afresh: bit r is set exactly when it calls rule r of the book idle. No arrival makes an idle rule
+ * needed, and no departure makes a needed rule idle (stated in crates/editing/specs, proved in crates/editing/proofs).
+ * So an edit asks only about the marks that can change, and keeps the others even in a mask handed in wrong. To begin
+ * with a book that has rules, begin with its first four blocks and let the rules arrive one after the other; or hand in
+ * the book without its last rule and a mask of 0 and let that rule arrive, which asks for every mark once.
+ *
+ * Storing. The three belong together: store them together, and let no two calls begin from the same stored copy, as
+ * what one of them did would be lost.
+ */
+
+/*
+ * Arrive: puts a rule, as a sealed block, behind the last one. Any block of any length n may be given. Refuses, in
+ * this order: 33 when `rules` is 32 or more, before anything else is looked at; 1 when n is not 512; 2 to 9 as
+ * pspec_check does for the book with the new block behind it, where the new block is block 4 + rules. Accepted, the
+ * book has the block at its end and `rules` is one more. A mark that was set for a rule already there stays set, also
+ * where it was wrong; every other mark, the new rule's among them, is what pspec_idle says in the new book. Value:
+ * the new mask.
+ */
+uint64_t pspec_arrive(uint8_t *blocks, uint32_t *rules, uint32_t *marks, const uint8_t *block, size_t n);
+
+/*
+ * Depart: takes a rule out; later ones move down by one, and so do their marks. Any number may be given. Refuses, in
+ * this order: 1 when `rules` is above 32, before anything else is looked at; 2 to 9 as pspec_check does for the book
+ * as it is; 24 when `rule` is `rules` or more. Accepted, the book is without the block and `rules` is one less. A mark
+ * that was clear for a rule that stays stays clear, also where it was wrong; every other mark is what pspec_idle says
+ * in the new book. Value: the new mask.
+ */
+uint64_t pspec_depart(uint8_t *blocks, uint32_t *rules, uint32_t *marks, uint32_t rule);
+
 /* The parts of an answer. */
 
 /* 0 where nothing is refused, else one of enum pspec_refusal. */
@@ -260,7 +308,8 @@ static inline uint32_t pspec_place(uint64_t answer) { return (uint32_t)(answer >
 /* pspec_check: the number of rules. pspec_commit and pspec_drop, not refused: the number given. */
 static inline uint32_t pspec_value(uint64_t answer) { return (uint32_t)answer; }
 
-/* pspec_judge and pspec_culprits: bit r for rule r. Look at pspec_number first: a refusal's mask is 0 too. */
+/* pspec_judge, pspec_culprits, pspec_arrive and pspec_depart: bit r for rule r. Look at pspec_number first: a
+ * refusal's mask is 0 too. */
 static inline uint32_t pspec_mask(uint64_t answer) { return pspec_value(answer); }
 
 /* pspec_ask: not refused, and the plan is held; it may be run once it is committed. */

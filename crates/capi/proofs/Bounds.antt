@@ -46,6 +46,10 @@ use Rattle.blocked.specs.Answers.{forbidTests, blockedTests, closedAnswer, bloc
 use Rattle.blocked.specs.Answers.{causesOf, culpritsAnswer}
 use Rattle.blocked.specs.declared.Blocking.the-variants as blocking
 use Rattle.blocked.specs.declared.Causes.the-variants as causes
+use Rattle.editing.specs.Answers.{arriveTests, arrivalTests, departTests, departureTests}
+use Rattle.editing.specs.Answers as edits
+use Rattle.editing.specs.Books.{withRule}
+use Rattle.editing.specs.Record.{bookIn}
 use Rattle.trees.specs.Answers.{valueTests, roomTests, treeRowTests, treeTests, drawn, treeAnswer}
 use Rattle.trees.specs.declared.Drawn.the-variants as drawing
 
@@ -192,7 +196,7 @@ plan-bounded head plan =
     flat-bounded (rowTests head plan) (rowCount plan)
     (λ i l. last-bounded _ _ _ (omega arith) (omega arith) (omega (arith, short .1))))
 
--- The eleven calls
+-- The thirteen calls
 
 -- an answer is a refusal only where a test refuses
 refused-small :
@@ -335,6 +339,27 @@ module _ (book : List ℕ) where
       (λ e. plan-bounded (headOf book) plan))
       (λ e. last-bounded _ _ _ (omega arith) (omega arith) (omega arith)))
       (λ e. last-bounded _ _ _ (omega arith) (omega arith) (omega arith)))
+
+-- 33; 1 for the new block; then those of the book with it
+pub arrive-bounded : (blocks : List ℕ) (rules : ℕ) (block : List ℕ) → Bounded (arriveTests blocks rules block)
+unfolding arriveTests arrivalTests edits.roomTests edits.newBlockTests
+arrive-bounded blocks rules block =
+    append-bounded (edits.roomTests rules ++ edits.newBlockTests block) (bookTests (withRule (bookIn blocks rules) block))
+    (append-bounded (edits.roomTests rules) (edits.newBlockTests block)
+    (last-bounded _ _ _ (omega arith) (omega arith) (omega arith))
+    (λ e. last-bounded _ _ _ (omega arith) (omega arith) (omega arith)))
+    (λ e. book-bounded (withRule (bookIn blocks rules) block))
+
+-- 1 for the number of rules; those of the book; 24
+pub depart-bounded : (blocks : List ℕ) (rules r : ℕ) → Bounded (departTests blocks rules r)
+unfolding departTests departureTests edits.numberTests ruleTests
+depart-bounded blocks rules r =
+    let book = bookIn blocks rules in
+    append-bounded (edits.numberTests rules ++ bookTests book) (ruleTests book r)
+    (append-bounded (edits.numberTests rules) (bookTests book)
+    (last-bounded _ _ _ (omega arith) (omega arith) (omega arith))
+    (λ e. book-bounded book))
+    (λ e. last-bounded _ _ _ (omega arith) (omega arith) (omega arith))
 
 -- The replies of the three calls of the ledger, by cases
 

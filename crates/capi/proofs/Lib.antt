@@ -3,4 +3,5 @@ pub mod Masks
 pub mod PackedLaws
 pub mod Unpacking
 pub mod Headline
+pub mod Edits
 pub mod RecordSteps

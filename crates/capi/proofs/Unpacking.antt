@@ -69,7 +69,7 @@ pub record Parts (r number place value : ℕ) : Type 0 where
   pub place-part : r / 4294967296 % 256 ≡ place
   pub value-part : r % 4294967296 ≡ value
 
-packed-parts :
+pub packed-parts :
     (number place value : ℕ) → place < 256 → value < 4294967296 → Parts (packed number place value) number place value
 unfolding packed
 packed-parts number place value p v =
@@ -81,7 +81,7 @@ packed-parts number place value p v =
 abbrev pub Refuses : ℕ → Refusal → Type 0
 Refuses r x = Parts r (x .number) (x .place) 0 × (1 ≤ x .number)
 
-refusal-parts : (x : Refusal) → Small x → Refuses (refusalPacked x) x
+pub refusal-parts : (x : Refusal) → Small x → Refuses (refusalPacked x) x
 unfolding refusalPacked
 refusal-parts x s = (packed-parts (x .number) (x .place) 0 (s .place-small) (omega arith), s .number-some)
 

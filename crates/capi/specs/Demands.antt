@@ -1,12 +1,13 @@
--- What the numbers of pspec_judge, pspec_idle, pspec_blocked, pspec_culprits, pspec_ask, pspec_commit, pspec_drop and
--- pspec_tree say, for whoever calls the C library: demands 2 and 3, N1, N3, N6, N7, N8 and N10 over the number itself.
--- A number from 2^32 on is a refusal, but for pspec_ask; below it, it is the value. Assumes nothing.
-use Prim.Native.Nat.{ℕ, _+_, _/_, _%_, _^_, _≤_, _<_}
+-- What the numbers of pspec_judge, pspec_idle, pspec_blocked, pspec_culprits, pspec_ask, pspec_commit, pspec_drop,
+-- pspec_arrive, pspec_depart and pspec_tree say, for whoever calls the C library: demands 2 and 3, N1, N3, N6, N7, N8,
+-- N10 and N11 over the number itself. A number from 2^32 on is a refusal, but for pspec_ask; below it, it is the value.
+-- Assumes nothing.
+use Prim.Native.Nat.{ℕ, _+_, _-_, _/_, _%_, _^_, _≤_, _<_}
 use mathlib.Core.Path.{_≡_}
 use mathlib.Core.List.{List}
 use lib.ListN.{getD}
 use Rattle.book.specs.Sets.{has}
-use Rattle.book.specs.Blocks.{Book, headOf, ruleAt}
+use Rattle.book.specs.Blocks.{Book, Block, headOf, ruleAt}
 use Rattle.lineage.specs.Rows.{Plan}
 use Rattle.lineage.specs.Accesses.{accessWords}
 use Rattle.verdicts.specs.Accesses.{Access, accessesOf, heldBy, union}
@@ -26,6 +27,11 @@ use Rattle.blocked.specs.Few.{withAsking}
 use Rattle.blocked.specs.Answers.{blockedAnswer, datumByte}
 use Rattle.blocked.specs.Demand.{BlockedAccepted, InScope, ClosedFirst, NoneClosed}
 use Rattle.blocked.specs.Minimal.{Behind}
+use Rattle.editing.specs.Books.{withRule, withoutRule}
+use Rattle.editing.specs.Record.{Record, bookIn, laid}
+use Rattle.editing.specs.Edits.{Arrive, Depart}
+use Rattle.editing.specs.Demand as editing
+use Rattle.editing.specs.Demand.{ArriveAccepted, Arrives, DepartAccepted, Departs}
 use Rattle.trees.specs.Demand.{TreeAccepted, Draws}
 use Rattle.capi.specs.Packing.{blockedPacked}
 
@@ -215,6 +221,37 @@ pub record DropSays
         Continues book (record { user = user; call = Drop number })
         (record { ledger = ledger; tally = tally; holds = holds })
         (record { ledger = ledger; tally = counted; holds = kept })
+
+-- pspec_arrive: the number is the new mask; blocks, number of rules and mask are one record
+pub record ArriveSays (before after : Record) (block : Block) (answer : ℕ) : Type 0 where
+  -- nothing is refused exactly when there is room for a rule, the block is one, and the book with it is accepted
+  pub accepted : answer < refusals → ArriveAccepted (before .blocks) (before .rules) block
+  pub accepts : ArriveAccepted (before .blocks) (before .rules) block → answer < refusals
+  -- then the book has a rule more, zero bytes behind it, and the mask stands beside it
+  pub blocks : answer < refusals → after .blocks ≡ laid (withRule (bookIn (before .blocks) (before .rules)) block)
+  pub rules : answer < refusals → after .rules ≡ before .rules + 1
+  pub mask : answer < refusals → after .marks ≡ answer
+  -- set marks are kept, and every other mark is as Idle says
+  pub marks : answer < refusals → Arrives (before .blocks) (before .rules) (before .marks) block answer
+  -- a refusal changes nothing
+  pub refused-keeps : refusals ≤ answer → after ≡ before
+  -- after a list of edits from an accepted book with its marks, such as one without rules and a zero mask, this one is
+  -- the next of the list, and the mask is Idle's for each rule
+  pub continues : editing.Continues (Arrive block) before after
+
+-- pspec_depart: the number is the new mask
+pub record DepartSays (before after : Record) (r : ℕ) (answer : ℕ) : Type 0 where
+  -- nothing is refused exactly when the number of rules is at most 32, the book is accepted and the rule is there
+  pub accepted : answer < refusals → DepartAccepted (before .blocks) (before .rules) r
+  pub accepts : DepartAccepted (before .blocks) (before .rules) r → answer < refusals
+  -- then the book has a rule less, later ones moved down, zero bytes behind it, and the mask stands beside it
+  pub blocks : answer < refusals → after .blocks ≡ laid (withoutRule (bookIn (before .blocks) (before .rules)) r)
+  pub rules : answer < refusals → after .rules ≡ before .rules - 1
+  pub mask : answer < refusals → after .marks ≡ answer
+  -- clear marks are kept, and every other mark is as Idle says
+  pub marks : answer < refusals → Departs (before .blocks) (before .rules) (before .marks) r answer
+  pub refused-keeps : refusals ≤ answer → after ≡ before
+  pub continues : editing.Continues (Depart r) before after
 
 -- pspec_tree: the number is (nodes - 1) × 2^20 + the text's length
 pub record TreeSays (book : Book) (plan : Plan) (row : ℕ) (before after : List ℕ) (answer : ℕ) : Type 0 where

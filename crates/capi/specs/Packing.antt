@@ -19,6 +19,8 @@ use Rattle.blocked.specs.declared.Blocking.{Blocking}
 use Rattle.blocked.specs.declared.Blocking.the-variants as blocking
 use Rattle.blocked.specs.declared.Causes.{Causes}
 use Rattle.blocked.specs.declared.Causes.the-variants as causes
+use Rattle.editing.specs.declared.Edited.{Edited}
+use Rattle.editing.specs.declared.Edited.the-variants as edited
 use Rattle.trees.specs.declared.Drawn.{Drawn}
 use Rattle.trees.specs.declared.Drawn.the-variants as drawn
 
@@ -73,6 +75,11 @@ replyPacked (reply.Held number) = packed 0 1 number
 replyPacked (reply.Declined mask) = packed 0 0 mask
 replyPacked (reply.Settled number) = packed 0 0 number
 replyPacked (reply.Refused refusal) = refusalPacked refusal
+
+-- Arrive and Depart: the new mask
+unfoldable pub editPacked : Edited → ℕ
+editPacked (edited.Marks mask) = packed 0 0 mask
+editPacked (edited.Refused refusal) = refusalPacked refusal
 
 -- Tree: (nodes - 1) × 2^20 + the text's length; a tree has 1 to 4,096 nodes, and its text less than 2^20 bytes
 unfoldable pub treePacked : Drawn → ℕ

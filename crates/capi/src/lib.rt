@@ -1,6 +1,6 @@
-// The eleven calls for C and Rust, each answer packed in one number (specs/Packing.antt). What the
-// numbers of Judge, Idle, Blocked, Culprits, Ask, Commit, Drop and Tree mean is specs/Demands.antt. A
-// slice is a pointer and a length in elements, a record a pointer.
+// The thirteen calls for C and Rust, each answer packed in one number (specs/Packing.antt). What the
+// numbers of Judge, Idle, Blocked, Culprits, Ask, Commit, Drop, Arrive, Depart and Tree mean is
+// specs/Demands.antt. A slice is a pointer and a length in elements, a record or an array a pointer.
 // No call asks anything of the bytes or the numbers it is given.
 use blocked::Blocking;
 use blocked::Causes;
@@ -11,6 +11,9 @@ use book::Refusal;
 use book::Sealed;
 use book::check;
 use book::seal;
+use editing::Edited;
+use editing::arrive;
+use editing::depart;
 use ledger::Holds;
 use ledger::Reply;
 use ledger::Tally;
@@ -34,11 +37,13 @@ ghost use Rattle.ledger.specs.Answers.{askAnswer, askHolds, askTally, commitLed
 ghost use Rattle.ledger.specs.Answers.{settleAnswer, settleHolds};
 ghost use Rattle.search.specs.Answers.{idleAnswer, idleBuffer};
 ghost use Rattle.blocked.specs.Answers.{blockedAnswer, culpritsAnswer};
+ghost use Rattle.editing.specs.Answers.{arriveAnswer, arriveBlocks, arriveMarks, arriveRules};
+ghost use Rattle.editing.specs.Answers.{departAnswer, departBlocks, departMarks, departRules};
 ghost use Rattle.trees.specs.Answers.{treeAnswer, treeBuffer};
-ghost use Rattle.capi.specs.Demands.{AskSays, BlockedSays, CommitSays, CulpritsSays, DropSays, IdleSays};
-ghost use Rattle.capi.specs.Demands.{JudgeSays, TreeSays};
+ghost use Rattle.capi.specs.Demands.{ArriveSays, AskSays, BlockedSays, CommitSays, CulpritsSays, DepartSays};
+ghost use Rattle.capi.specs.Demands.{DropSays, IdleSays, JudgeSays, TreeSays};
 ghost use Rattle.capi.specs.Packing.{blockedPacked, checkPacked, culpritsPacked, flowsPacked, idlePacked};
-ghost use Rattle.capi.specs.Packing.{judgePacked, refusalPacked, replyPacked, sealPacked, treePacked};
+ghost use Rattle.capi.specs.Packing.{editPacked, judgePacked, refusalPacked, replyPacked, sealPacked, treePacked};
 
 // A refusal's number and place, above the value's 32 bits.
 fn packed(refusal: Refusal) -> u64
@@ -308,6 +313,58 @@ pub extern "C" fn pspec_drop(
     *tally = done.tally;
     *holds = done.holds;
     done.answer
+}
+
+fn edit_packed(answer: Edited) -> u64
+    ensures { λ r. ⌜ (((refusal : Refusal) → answer ≡ Edited.Refused refusal
+        → (refusal .number < 256) × (refusal .place < 256)) → r ≡ editPacked answer) ⌝ }
+{
+    match answer {
+        Edited::Refused(refusal) => packed(refusal),
+        Edited::Marks(mask) => mask as u64,
+    }
+}
+
+#[no_mangle]
+pub extern "C" fn pspec_arrive(
+    blocks: &mut [u8; 18432],
+    rules: &mut u32,
+    marks: &mut u32,
+    block: &[u8],
+) -> u64
+    ensures { λ r. ⌜ (r
+        ≡ editPacked
+        (arriveAnswer (now (blocks .entry)) (now (rules .entry)) (now (block .entry)) (now (marks .entry))))
+        × (now (blocks .exit) ≡ arriveBlocks (now (blocks .entry)) (now (rules .entry)) (now (block .entry)))
+        × (now (rules .exit) ≡ arriveRules (now (blocks .entry)) (now (rules .entry)) (now (block .entry)))
+        × (now (marks .exit)
+        ≡ arriveMarks (now (blocks .entry)) (now (rules .entry)) (now (block .entry)) (now (marks .entry)))
+        × ArriveSays
+        (record { blocks = now (blocks .entry); rules = now (rules .entry); marks = now (marks .entry) })
+        (record { blocks = now (blocks .exit); rules = now (rules .exit); marks = now (marks .exit) })
+        (now (block .entry)) r ⌝ }
+{
+    let answer = arrive(blocks, rules, marks, block);
+    edit_packed(answer)
+}
+
+#[no_mangle]
+pub extern "C" fn pspec_depart(
+    blocks: &mut [u8; 18432],
+    rules: &mut u32,
+    marks: &mut u32,
+    rule: u32,
+) -> u64
+    ensures { λ r. ⌜ (r ≡ editPacked (departAnswer (now (blocks .entry)) (now (rules .entry)) rule (now (marks .entry))))
+        × (now (blocks .exit) ≡ departBlocks (now (blocks .entry)) (now (rules .entry)) rule)
+        × (now (rules .exit) ≡ departRules (now (blocks .entry)) (now (rules .entry)) rule)
+        × (now (marks .exit) ≡ departMarks (now (blocks .entry)) (now (rules .entry)) rule (now (marks .entry)))
+        × DepartSays
+        (record { blocks = now (blocks .entry); rules = now (rules .entry); marks = now (marks .entry) })
+        (record { blocks = now (blocks .exit); rules = now (rules .exit); marks = now (marks .exit) }) rule r ⌝ }
+{
+    let answer = depart(blocks, rules, marks, rule);
+    edit_packed(answer)
 }
 
 #[no_mangle]

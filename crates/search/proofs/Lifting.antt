@@ -4,7 +4,7 @@ use Prim.Native.Nat.{ℕ, _≤_, _<_}
 use native.Mathlib.Omega.{arith}
 use mathlib.Core.Path.{_≡_, refl, sym, ap, _∙_}
 use mathlib.Core.Logic.{⊎-elim}
-use mathlib.Core.Bool.{Bool, true, false, _&&_, _||_, not}
+use mathlib.Core.Bool.{Bool, true, false, _&&_, _||_, not, false≢true}
 use mathlib.Core.List.{List}
 use lib.ListN.{getD}
 use lib.Dec.{eqb, ltb}
@@ -26,7 +26,8 @@ use Rattle.verdicts.proofs.Accesses.{leaf-set-below, Apart}
 use Rattle.verdicts.proofs.Quantifiers.{any-below}
 use Rattle.verdicts.proofs.Sound.{few-rules, rules-sound}
 use Rattle.search.specs.Choices.{Candidate, candidateBefore, isChoice, lighter}
-use Rattle.search.specs.Alone.{breaksAlone, candidateAlone}
+use Rattle.search.specs.Alone.{breaksAlone, candidateAlone, firstAlone}
+use Rattle.search.specs.Alone as alone
 use Rattle.search.specs.Inner.Places.{choiceAt}
 use Rattle.search.specs.Inner.Table.{CoversHold, HadHolds, TableHolds}
 use Rattle.search.specs.Inner.Search.{NeedsFirst, NeedsUser, candidate, drops, othersFor, refuses, solves, solvesFor}
@@ -251,3 +252,18 @@ module _ (book : List ℕ) (accepted : BookAccepted book) (bytes : (i : ℕ) →
       (sym (solves-alone a y x (p .1) u (h .below)) ∙ h .found .solution)
       (λ c user choice before.
       fails c user choice (λ b z w below e s. earlier c u a y x b z w h (p .1) e s before))
+
+  -- three places that solve are a choice that breaks r alone: in whatever order they were found, r is not idle
+  pub solved-some :
+      (u a y x : ℕ)
+      → u < 32
+      → solvesFor t r (referenceCount (ruleAt book r)) had covered u a y x ≡ true
+      → firstAlone book r ≡ alone.none
+      → ⊥
+  solved-some u a y x below h e =
+      let p = solves-parts u a y x below h in
+      false≢true
+      (sym
+      (orders.none-alone book accepted r l e (orders.candidate u (choiceAt a y x)) (p .0) (stand-choice a y x (p .1)))
+      ∙ sym (solves-alone a y x (p .1) u below)
+      ∙ h)

@@ -1,15 +1,17 @@
 // A file of cases, a line a case. A line that starts with # is a comment; one that starts with +
 // has edits for every case below it, up to the next such line; one that starts with @ sets the ledger,
-// the tally and the hold record. What stands before = in a case is a label and what is tried, with bars
-// between the parts; what stands after it is the answer expected.
+// the tally and the hold record, or the record to edit. What stands before = in a case is a label and what
+// is tried, with bars between the parts; what stands after it is the answer expected.
 use crate::answers::Answer;
 use crate::answers::malformed;
 use crate::answers::say;
 use crate::blocking;
+use crate::blocks;
 use crate::books::build;
 use crate::causing;
 use crate::checking;
 use crate::drawing;
+use crate::edits;
 use crate::flowing;
 use crate::idling;
 use crate::judging;
@@ -42,6 +44,10 @@ pub enum Call {
     Ask,
     Commit,
     Drop,
+    // Each case names its own call, one of the two that follow.
+    Edit,
+    Arrive,
+    Depart,
     Tree,
     Readers,
 }
@@ -67,6 +73,9 @@ fn may_ask(call: Call, asked: Numbers) -> bool {
         Call::Ask => asked.within(1, 4),
         Call::Commit => asked.within(2, 4),
         Call::Drop => asked.within(2, 4),
+        Call::Edit => false,
+        Call::Arrive => asked.within(1, 2),
+        Call::Depart => asked.within(1, 1),
         Call::Tree => asked.within(1, 4),
         Call::Readers => asked.within(1, 4),
     }
@@ -83,6 +92,8 @@ fn answered(call: Call, asked: Numbers, book: &[u8], plan: &[u8], records: &mut 
         Call::Ask => reserving::asked(asked, book, plan, records),
         Call::Commit => reserving::committed(asked, book, records),
         Call::Drop => reserving::dropped(asked, book, records),
+        Call::Arrive => edits::arrived(asked, book, records),
+        Call::Depart => edits::departed(asked, book, records),
         Call::Tree => drawing::answered(asked, book, plan),
         _ => reading::answered(asked, book),
     }
@@ -139,11 +150,27 @@ fn named(text: &[u8]) -> Call {
     Call::Reserve
 }
 
+fn named_edit(text: &[u8]) -> Call {
+    if same(text, b" arrive ") {
+        return Call::Arrive;
+    }
+    if same(text, b" depart ") {
+        return Call::Depart;
+    }
+    Call::Edit
+}
+
 // Where each case names its own call, that is the part before all others.
 fn tried(call: Call, common: &[u8], parts: &[u8], records: &mut [u64]) -> Answer {
     match call {
         Call::Reserve => called(
             named(before(parts, b'|')),
+            common,
+            after(parts, b'|'),
+            records,
+        ),
+        Call::Edit => called(
+            named_edit(before(parts, b'|')),
             common,
             after(parts, b'|'),
             records,
@@ -180,9 +207,22 @@ fn counted(count: Count, right: bool) -> Count {
     }
 }
 
+fn set_records(call: Call, common: &[u8], text: &[u8], records: &mut [u64]) -> bool {
+    match call {
+        Call::Edit => blocks::set(records, common, text),
+        _ => records::set(records, text),
+    }
+}
+
 // A line of records that is malformed counts as a case that fails.
-fn with_records(count: Count, line: &[u8], records: &mut [u64]) -> Count {
-    if records::set(records, after(line, b'@')) {
+fn with_records(
+    count: Count,
+    call: Call,
+    common: &[u8],
+    line: &[u8],
+    records: &mut [u64],
+) -> Count {
+    if set_records(call, common, after(line, b'@'), records) {
         return count;
     }
     report(line, b" records", malformed());
@@ -205,10 +245,10 @@ fn line_at(count: Count, call: Call, file: &[u8], i: usize, records: &mut [u64])
             common: i,
         };
     }
-    if mark == b'@' {
-        return with_records(count, line, records);
-    }
     let common = after(piece(file, count.common, b'\n'), b'+');
+    if mark == b'@' {
+        return with_records(count, call, common, line, records);
+    }
     counted(count, holds(call, common, line, records))
 }
 

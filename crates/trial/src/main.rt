@@ -4,11 +4,13 @@
 mod accesses; // accesses as text
 mod answers; // answers as text
 mod blocking; // Blocked
+mod blocks; // a record of blocks to edit
 mod books; // building books to try
 mod cases; // a file's lines
 mod causing; // Culprits
 mod checking; // Book check
 mod drawing; // Tree
+mod edits; // Arrive and Depart
 mod flowing; // Flows
 mod idling; // Idle
 mod judging; // Judge
@@ -38,6 +40,7 @@ fn main() {
     try_file(Call::Reserve, b"holds.cases");
     try_file(Call::Reserve, b"records.cases");
     try_file(Call::Reserve, b"refusals.cases");
+    try_file(Call::Edit, b"edits.cases");
     try_file(Call::Tree, b"tree.cases");
     try_file(Call::Readers, b"readers.cases");
 }

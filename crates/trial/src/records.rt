@@ -130,7 +130,7 @@ pub fn copied(records: &[u64]) -> [u64; 2480] {
     copy
 }
 
-fn clear(records: &mut [u64]) {
+pub fn clear(records: &mut [u64]) {
     for i in 0..records.len() {
         put_word(records, i, 0);
     }

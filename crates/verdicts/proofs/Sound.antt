@@ -11,6 +11,7 @@ use lib.Dec.{eqb, ltb}
 use lib.Bits.{and-mask}
 use lib.Pow.{pow-mono, pow-pos}
 use borrow.Author.Tests.{ltb-true, ltb-false, lt-ltb, le-ltb}
+use Rattle.book.specs.Lists.{upTo}
 use Rattle.book.specs.Sets.{has}
 use Rattle.book.specs.Blocks.{headOf, ruleAt, ruleCount}
 use Rattle.book.specs.Head.{userCount}
@@ -19,7 +20,7 @@ use Rattle.book.specs.Refusals.{BookAccepted, maskAllows}
 use Rattle.book.proofs.Accepted.{HeadHolds, RuleHolds, accepted-head, accepted-length, accepted-rule}
 use Rattle.book.proofs.Lists.{and-end, and-false}
 use Rattle.book.proofs.Members.{has-zero, has-and, has-below, same-members}
-use Rattle.lineage.specs.Accesses.{accessWords}
+use Rattle.lineage.specs.Accesses.{accessWords, wordOf}
 use Rattle.lineage.proofs.Words.{word-of}
 use Rattle.verdicts.specs.Accesses.{Accesses, accessesOf, heldBy}
 use Rattle.verdicts.specs.Inner.Words.{RuleSound}
@@ -115,6 +116,20 @@ cut-bit word r =
     ∙ has-and word (2 ^ 32 - 1) r
     ∙ ap (λ (b : Bool). has word r && b) (has-below 32 r)
 
+-- a mask of at most 32 rules has 32 bits
+pub word-fits : (f : ℕ → Bool) (n : ℕ) → n ≤ 32 → wordOf f (upTo n) < 4294967296
+word-fits f n few = lt-of-lt-of-le (word-of f n .0) (pow-mono few)
+
+-- a word with its members below 32, cut to 32 bits, is the mask
+pub cut-word :
+    (f : ℕ → Bool) (n word : ℕ)
+    → n ≤ 32
+    → ((q : ℕ) → q < 32 → has word q ≡ (ltb q n && f q))
+    → word % 4294967296 ≡ wordOf f (upTo n)
+cut-word f n word few members =
+    same-members 32 (word % 4294967296) (wordOf f (upTo n)) (omega arith) (word-fits f n few)
+    (λ q l. cut-bit word q ∙ rw (lt-ltb q 32 l, and-end, members q l) (sym (word-of f n .1 q)))
+
 module _ (book : List ℕ) (accepted : BookAccepted book) (user : ℕ) where
   -- it has 32 bits
   pub mask-fits : (accesses : Accesses) → brokenMask book user accesses < 4294967296
@@ -128,13 +143,8 @@ module _ (book : List ℕ) (accepted : BookAccepted book) (user : ℕ) where
       → word % 4294967296 ≡ brokenMask book user accesses
   unfolding brokenMask
   mask-whole accesses total word t marked =
-      let whole = word-of (λ r. breaks (headOf book) (ruleAt book r) user accesses) (ruleCount book) in
-      same-members 32 (word % 4294967296) (brokenMask book user accesses) (omega arith)
-      (mask-fits accesses)
-      (λ r l.
-      cut-bit word r
-      ∙ rw (marked r, lt-ltb r 64 (omega arith), lt-ltb r 32 l, t, and-end)
-      (sym (whole .1 r)))
+      cut-word (λ r. breaks (headOf book) (ruleAt book r) user accesses) (ruleCount book) word (few-rules book accepted)
+      (λ r l. marked r ∙ rw (lt-ltb r 64 (omega arith), t))
 
   -- the words of a plan break what its accesses break
   pub mask-held :

@@ -1,6 +1,6 @@
 //! What an engine answers to a case.
 
-use crate::engine::{nodes_and_length, unpacked, Engine};
+use crate::engine::{nodes_and_length, unpacked, Engine, Marking};
 use books::records::Records;
 use books::reserve::Settle;
 use books::Case;
@@ -38,6 +38,8 @@ pub enum Answer {
     Settled(u32),
     /// Tree: the nodes and the text's length, as they are packed.
     Written(u32),
+    /// An arrival or a departure: the new mask.
+    Marks(u32),
     /// The call is refused.
     Refused(Refusal),
     /// No engine's answer: what Idle may say of a rule that some plan breaks alone.
@@ -45,7 +47,7 @@ pub enum Answer {
     /// No engine's answer: what Blocked may say of a rule whose data some plan opens.
     NotClosed,
     /// No engine's answer: what the documents state of every list of asks, commits and drops, of two lists
-    /// that are alike for a user, or of every answer.
+    /// that are alike for a user, of every list of edits, or of every answer.
     Stated(&'static str),
     /// The engine gave up; nothing can be compared.
     GaveUp,
@@ -68,6 +70,7 @@ impl fmt::Display for Answer {
             Answer::Neither(value) => write!(f, "neither held nor declined ({value:#x})"),
             Answer::Settled(number) => write!(f, "settled {number}"),
             Answer::Written(value) => written(f, *value),
+            Answer::Marks(mask) => write!(f, "marks {mask:#x}"),
             Answer::Refused(Refusal { number, place }) => write!(f, "refused {number} at {place}"),
             Answer::NotIdle => write!(f, "not idle, as a user and a plan break it alone"),
             Answer::NotClosed => write!(f, "not closed, as a plan opens it"),
@@ -114,10 +117,7 @@ pub fn of(engine: &dyn Engine, case: &mut Case) -> Answer {
         Case::Flows { book, plan, words } => engine.flows(book, plan, words).map(|()| Answer::Done),
         Case::Judge { book, user, plan } => engine.judge(book, *user, plan).map(Answer::Broken),
         Case::Idle { book, rule, buffer } => {
-            searched(engine.idle(book, *rule, buffer), |shown| match shown {
-                None => Answer::Idle,
-                Some((user, rows)) => Answer::Needed(user, rows),
-            })
+            searched(engine.idle(book, *rule, buffer), idle_or_needed)
         }
         Case::Blocked { book, rule } => {
             searched(engine.blocked(book, *rule), |value| match value {
@@ -143,8 +143,21 @@ pub fn of(engine: &dyn Engine, case: &mut Case) -> Answer {
             engine.drop_hold(book, user, number, records)
         }),
         Case::Tree(given) => engine.tree(given).map(Answer::Written),
+        Case::Arrive(given) => marked(engine.arrive(&mut given.record, &given.block)),
+        Case::Depart(given) => marked(engine.depart(&mut given.record, given.rule)),
     };
     answer.unwrap_or_else(Answer::Refused)
+}
+
+fn idle_or_needed(shown: Option<(u32, u32)>) -> Answer {
+    match shown {
+        None => Answer::Idle,
+        Some((user, rows)) => Answer::Needed(user, rows),
+    }
+}
+
+fn marked(answer: Marking) -> Result<Answer, Refusal> {
+    searched(answer, Answer::Marks)
 }
 
 fn settled(

@@ -5,6 +5,8 @@ use crate::engine::Engine;
 use crate::reached::Reached;
 use crate::records::{counts, places};
 use crate::text;
+use books::draft::BLOCK;
+use books::edits::Record;
 use books::records::{Records, PLACES, USERS};
 use books::Case;
 use std::fmt;
@@ -31,15 +33,36 @@ impl fmt::Display for Difference {
     }
 }
 
-/// What a call changed: of records the words, the counts of users and the places one by one, else the whole
-/// buffer.
+/// What a call changed: of records the words, the counts of users and the places one by one, of an edit's record
+/// the numbers beside it and the blocks one by one, else the whole buffer.
 fn left(before: &Case, after: &Case) -> Vec<String> {
+    if let (Some(before), Some(after)) = (before.edited(), after.edited()) {
+        return left_of_edited(before, after);
+    }
     if let (Some(before), Some(after)) = (before.records(), after.records()) {
         return left_of_records(before, after);
     }
     let lines = text::write(after);
     let buffer = lines.lines().last().filter(|_| before != after);
     buffer.into_iter().map(str::to_string).collect()
+}
+
+fn left_of_edited(before: &Record, after: &Record) -> Vec<String> {
+    let beside = [
+        ("rules", before.rules, after.rules),
+        ("marks", before.marks, after.marks),
+    ];
+    let beside = beside
+        .into_iter()
+        .filter(|(_, before, after)| before != after);
+    let mut lines: Vec<String> = beside
+        .map(|(name, _, after)| format!("{name} {after}"))
+        .collect();
+    let [before, after] = [before, after].map(|record| record.blocks.chunks(BLOCK));
+    let changed = before.zip(after).enumerate();
+    let changed = changed.filter(|(_, (before, after))| before != after);
+    lines.extend(changed.map(|(i, (_, after))| format!("block {i} {}", text::hex(after))));
+    lines
 }
 
 fn left_of_records(before: &Records, after: &Records) -> Vec<String> {
@@ -137,5 +160,23 @@ mod tests {
             &format!("place 7 user 0 number 9 words{zeros} 1f"),
         ];
         assert_eq!(left_of_records(&before, &after), lines);
+    }
+
+    /// Of an edit's record the blocks that differ are said.
+    #[test]
+    fn what_an_edit_leaves() {
+        let before = Record::of(&[]);
+        let mut after = before.clone();
+        assert!(left_of_edited(&before, &after).is_empty());
+        (after.rules, after.marks) = (7, 5);
+        (after.blocks[BLOCK], after.blocks[36 * BLOCK - 1]) = (1, 2);
+        let zeros = "00".repeat(BLOCK - 1);
+        let lines = [
+            "rules 7",
+            "marks 5",
+            &format!("block 1 01{zeros}"),
+            &format!("block 35 {zeros}02"),
+        ];
+        assert_eq!(left_of_edited(&before, &after), lines);
     }
 }

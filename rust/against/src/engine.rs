@@ -1,12 +1,15 @@
 //! The engines that can be tried.
 
 use crate::records;
+use books::edits::Record;
 use books::records::Records;
 use books::trees::Tree;
 #[cfg(feature = "engine")]
 use pspec::raw;
 use second::access::Action;
 use second::blocked::Datum;
+use second::book::Book;
+use second::idle::Found;
 use second::{idle, reading, Asked, Refusal};
 
 /// What Idle answers: nothing where the engine gave up, else idle (`None`) or a user and rows.
@@ -24,7 +27,10 @@ pub type Causes = Option<Result<u32, Refusal>>;
 /// mask of a declined one. So every bit of it is compared.
 pub type Reply = u64;
 
-/// The eleven calls of an engine.
+/// What an edit answers: nothing where the engine gave up, else the new mask.
+pub type Marking = Option<Result<u32, Refusal>>;
+
+/// The thirteen calls of an engine.
 pub trait Engine {
     /// What it is called in reports.
     fn name(&self) -> &'static str;
@@ -69,6 +75,10 @@ pub trait Engine {
     /// Tree: the value as C has it, so that every bit of it is compared. The memory is changed as the
     /// call changes it.
     fn tree(&self, given: &mut Tree) -> Result<u32, Refusal>;
+    /// An arrival: the record is changed as the call changes it.
+    fn arrive(&self, record: &mut Record, block: &[u8]) -> Marking;
+    /// A departure: the record is changed as the call changes it.
+    fn depart(&self, record: &mut Record, rule: u32) -> Marking;
 }
 
 /// The second implementation, with one of its searches.
@@ -169,6 +179,27 @@ impl Engine for Second {
         let answer = second::tree(&given.book, &given.plan, given.row, buffer);
         answer.map(|(nodes, length)| with_length(nodes, length))
     }
+    fn arrive(&self, record: &mut Record, block: &[u8]) -> Marking {
+        records::edited_by_second(record, |record| {
+            second::arrive_by(record, block, &|book, rule| self.search.found(book, rule))
+        })
+    }
+    fn depart(&self, record: &mut Record, rule: u32) -> Marking {
+        records::edited_by_second(record, |record| {
+            second::depart_by(record, rule, &|book, rule| self.search.found(book, rule))
+        })
+    }
+}
+
+impl Search {
+    /// What it finds for a rule that is there, or nothing where it gives up.
+    fn found(&self, book: &Book, rule: usize) -> Option<Found> {
+        match *self {
+            Search::Skipping(steps) => idle::within(book, rule, steps),
+            Search::Naive(most) if choices_of(book, rule) > most => None,
+            Search::Naive(_) => Some(idle::naive(book, rule)),
+        }
+    }
 }
 
 /// What an ask replies as the header packs it.
@@ -230,11 +261,14 @@ pub fn unpacked(value: u32) -> (u32, Vec<Datum>) {
 fn choices(book: &[u8], rule: u32) -> u128 {
     let rule = rule as usize;
     match reading::read(book) {
-        Ok(book) if rule < book.rules.len() => {
-            book.users.leaves().len() as u128 * idle::choices(&book, rule)
-        }
+        Ok(book) if rule < book.rules.len() => choices_of(&book, rule),
         _ => 0,
     }
+}
+
+/// The choices of a rule that is there, over all users.
+fn choices_of(book: &Book, rule: usize) -> u128 {
+    book.users.leaves().len() as u128 * idle::choices(book, rule)
 }
 
 /// The proved engine, through its C calls.
@@ -304,6 +338,22 @@ impl Engine for Proved {
     fn tree(&self, given: &mut Tree) -> Result<u32, Refusal> {
         let buffer = &mut given.memory[..given.lent];
         value(raw::tree(&given.book, &given.plan, given.row, buffer))
+    }
+    fn arrive(&self, record: &mut Record, block: &[u8]) -> Marking {
+        let Record {
+            blocks,
+            rules,
+            marks,
+        } = record;
+        Some(value(raw::arrive(blocks, rules, marks, block)))
+    }
+    fn depart(&self, record: &mut Record, rule: u32) -> Marking {
+        let Record {
+            blocks,
+            rules,
+            marks,
+        } = record;
+        Some(value(raw::depart(blocks, rules, marks, rule)))
     }
 }
 

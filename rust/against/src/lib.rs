@@ -1,4 +1,4 @@
-//! Tries one engine against another on random books: all eleven calls, answers, buffers and records.
+//! Tries one engine against another on random books: all thirteen calls, answers, buffers and records.
 #![forbid(unsafe_code)]
 #![warn(missing_docs)]
 
@@ -9,6 +9,8 @@ pub mod categories;
 pub mod closed;
 pub mod compare;
 pub mod culprits;
+pub mod edit_counts;
+pub mod edits;
 pub mod engine;
 pub mod histories;
 pub mod hold_counts;

@@ -2,6 +2,7 @@
 
 use crate::actions::{self, PAIRS};
 use crate::answer::Answer;
+use crate::edit_counts::EditCounts;
 use crate::engine::unpacked;
 use crate::hold_counts::HoldCounts;
 use crate::mixing::{self, MISREADINGS};
@@ -16,8 +17,8 @@ use std::collections::BTreeMap;
 use std::fmt;
 
 /// Every refusal number that the calls have.
-pub const REFUSALS: [u32; 23] = [
-    1, 2, 3, 4, 5, 6, 7, 8, 9, 10, 20, 21, 22, 23, 24, 25, 26, 27, 28, 29, 30, 31, 32,
+pub const REFUSALS: [u32; 24] = [
+    1, 2, 3, 4, 5, 6, 7, 8, 9, 10, 20, 21, 22, 23, 24, 25, 26, 27, 28, 29, 30, 31, 32, 33,
 ];
 
 /// Those of Blocked, "book refusals, 24, then 26 if the rule forbids", and of Culprits.
@@ -31,6 +32,12 @@ pub const SETTLE_REFUSALS: [u32; 12] = [1, 2, 3, 4, 5, 6, 7, 8, 9, 20, 27, 32];
 
 /// Those of Tree: "Flows' refusals 1 to 22, then 29 [..] then 30".
 pub const TREE_REFUSALS: [u32; 13] = [1, 2, 3, 4, 5, 6, 7, 8, 9, 21, 22, 29, 30];
+
+/// Those of an arrival: 33, 1, "then come the refusals of the book with the new block".
+pub const ARRIVE_REFUSALS: [u32; 10] = [1, 2, 3, 4, 5, 6, 7, 8, 9, 33];
+
+/// Those of a departure: "the refusals of the book as it is, then 24".
+pub const DEPART_REFUSALS: [u32; 10] = [1, 2, 3, 4, 5, 6, 7, 8, 9, 24];
 
 /// How often each thing happened.
 #[derive(Clone, Debug, Default, PartialEq, Eq)]
@@ -81,6 +88,8 @@ pub struct Reached {
     pub holds: HoldCounts,
     /// What was reached of Tree.
     pub trees: TreeCounts,
+    /// What was reached of arrivals and departures.
+    pub edits: EditCounts,
     /// What was reached of withdrawn operations.
     pub withdrawn: WithdrawnCounts,
     /// Searches that were given up.
@@ -102,6 +111,7 @@ impl Reached {
         *self.calls.entry(case.call()).or_default() += 1;
         self.withdrawn.count(case, answer);
         self.holds.count(case, answer);
+        self.edits.count(case, answer);
         if let Case::Tree(given) = case {
             self.trees.count(given, answer);
         }
@@ -121,7 +131,7 @@ impl Reached {
             Answer::Held(_) | Answer::Declined(_) => self.count_asked(case),
             Answer::Done => self.count_flows(case),
             Answer::Rules(_) | Answer::Written(_) => {}
-            Answer::Settled(_) | Answer::Neither(_) => {}
+            Answer::Settled(_) | Answer::Neither(_) | Answer::Marks(_) => {}
             Answer::NotIdle | Answer::NotClosed | Answer::Stated(_) => {}
         }
     }
@@ -224,6 +234,14 @@ impl Reached {
     fn by_number(&self) -> String {
         let each = REFUSALS.map(|number| format!(" {number}: {}", self.refused(number)));
         each.concat()
+    }
+
+    /// The refusals of a call by their numbers, in words.
+    fn by_number_of(&self, call: &str) -> String {
+        let of_call = self.refusals.iter().filter(|((of, _), _)| *of == call);
+        of_call
+            .map(|((_, number), times)| format!(" {number}: {times}"))
+            .collect()
     }
 
     /// How often a refusal was reached, by any call.
@@ -354,6 +372,12 @@ impl fmt::Display for Reached {
         writeln!(f, "{}", self.by_others())?;
         writeln!(f, "{}", self.holds)?;
         writeln!(f, "{}", self.trees)?;
+        writeln!(f, "{}", self.edits)?;
+        let [arrivals, departures] = ["arrive", "depart"].map(|call| self.by_number_of(call));
+        writeln!(
+            f,
+            "refusals of arrivals:{arrivals}; of departures:{departures}"
+        )?;
         write!(f, "{}", self.withdrawn)
     }
 }

@@ -1,5 +1,6 @@
 //! The records as each engine has them.
 
+use books::edits::Record;
 use books::records::{Holds, Records, Tally};
 #[cfg(feature = "engine")]
 use pspec::raw;
@@ -24,6 +25,25 @@ pub(crate) fn by_second<T>(
     records.holds.numbers = holds.places.map(|place| place.number);
     let words = holds.places.map(|place| place.words);
     records.holds.words.copy_from_slice(words.as_flattened());
+    answer
+}
+
+/// Calls the second implementation with the record of an edit of its own kind.
+pub(crate) fn edited_by_second<T>(
+    record: &mut Record,
+    call: impl FnOnce(&mut second::editing::Record) -> T,
+) -> T {
+    let mut own = second::editing::Record {
+        blocks: record.blocks.clone(),
+        rules: record.rules,
+        marks: record.marks,
+    };
+    let answer = call(&mut own);
+    *record = Record {
+        blocks: own.blocks,
+        rules: own.rules,
+        marks: own.marks,
+    };
     answer
 }
 

@@ -5,6 +5,7 @@ use crate::answer::{self, Answer};
 use crate::closed::try_closed;
 use crate::compare::{try_one, wrong, Difference};
 use crate::culprits::try_causes;
+use crate::edits::{try_edit, try_list};
 use crate::engine::Engine;
 use crate::kept::BySecond;
 use crate::kinds::try_kinds;
@@ -12,6 +13,8 @@ use crate::reached::Reached;
 use crate::steps::try_step;
 use crate::tree::try_tree;
 use books::alike::histories;
+use books::edit_lists::list;
+use books::valid::Size;
 use books::{case, Case, Random};
 use std::time::{Duration, Instant};
 
@@ -26,6 +29,9 @@ pub enum Limit {
 
 /// Two histories come once in so many rounds, as they have as many cases as twenty of them.
 const HISTORIES: usize = 40;
+
+/// A list of edits comes once in so many rounds.
+const LISTS: usize = 30;
 
 /// Runs random cases until the limit or the first difference. `progress` is told after each round.
 pub fn run(
@@ -50,15 +56,31 @@ pub fn run(
             let alike = histories::<BySecond>(&mut random, size);
             try_alike(engines, &alike, &mut reached)?;
         }
+        edit_list(engines, &random, &mut reached)?;
         progress(&reached);
     }
     Ok(reached)
 }
 
+/// Tries a list of edits now and then. It has a generator of its own, so that the other calls of a seed don't
+/// depend on it.
+fn edit_list(
+    engines: [&dyn Engine; 2],
+    random: &Random,
+    reached: &mut Reached,
+) -> Result<(), Box<Difference>> {
+    let mut own = Random::new(random.clone().bits());
+    if !own.chance(1, LISTS) {
+        return Ok(());
+    }
+    let size = own.one(&[Size::Tiny, Size::Small]);
+    try_list(engines, &list(&mut own, size), reached)
+}
+
 /// Compares a case. Then what Idle shows is judged, and what Blocked says is closed; what Culprits says is
 /// held against both Blocked and Judge; a rule that a plan breaks alone is asked for; an ask, a commit or a
-/// drop is gone through by its sentences; and the text of a tree is read back. Books that say the same
-/// otherwise are answered alike.
+/// drop is gone through by its sentences, and so is an edit; and the text of a tree is read back. Books that
+/// say the same otherwise are answered alike.
 pub fn try_case(
     engines: [&dyn Engine; 2],
     case: &Case,
@@ -79,6 +101,7 @@ pub fn try_case(
         (Case::Culprits { book, rule }, answer) => try_causes(engines, book, *rule, answer),
         (Case::Ask(_) | Case::Commit(_) | Case::Drop(_), answer) => try_step(engines, case, answer),
         (Case::Tree(given), answer) => try_tree(engines, given, answer),
+        (Case::Arrive(_) | Case::Depart(_), _) => try_edit(engines, case, reached),
         _ => Ok(()),
     }
 }

@@ -1,7 +1,8 @@
 //! Cases as text, one word and its value a line, bytes in hexadecimal digits. The counts of a tally are
 //! decimal numbers, one for each user, and so are the users and the numbers of a hold record, one for each
-//! place.
+//! place. An edit's record has its 36 blocks, the number of rules and the mask.
 
+use books::edits::{Arrive, Depart, Record};
 use books::records::{Holds, Records, Tally};
 use books::reserve::{Ask, Settle};
 use books::trees::Tree;
@@ -34,6 +35,8 @@ pub fn write(case: &Case) -> String {
         Case::Commit(given) => ("commit", settle_fields(given)),
         Case::Drop(given) => ("drop", settle_fields(given)),
         Case::Tree(given) => ("tree", tree_fields(given)),
+        Case::Arrive(given) => ("arrive", arrive_fields(given)),
+        Case::Depart(given) => ("depart", depart_fields(given)),
     };
     let mut text = format!("call {call}\n");
     for (name, value) in fields {
@@ -78,6 +81,24 @@ fn record_fields(records: &Records) -> Vec<(&'static str, String)> {
         ("users", numbers(&holds.users)),
         ("numbers", numbers(&holds.numbers)),
         ("held", hex_words(&holds.words)),
+    ]
+}
+
+fn arrive_fields(given: &Arrive) -> Vec<(&'static str, String)> {
+    let block = [("block", hex(&given.block))];
+    [&edited_fields(&given.record)[..], &block].concat()
+}
+
+fn depart_fields(given: &Depart) -> Vec<(&'static str, String)> {
+    let rule = [("rule", given.rule.to_string())];
+    [&edited_fields(&given.record)[..], &rule].concat()
+}
+
+fn edited_fields(record: &Record) -> [(&'static str, String); 3] {
+    [
+        ("blocks", hex(&record.blocks[..])),
+        ("rules", record.rules.to_string()),
+        ("marks", record.marks.to_string()),
     ]
 }
 
@@ -141,6 +162,14 @@ impl Fields<'_> {
             "commit" => Ok(Case::Commit(Box::new(self.settle()?))),
             "drop" => Ok(Case::Drop(Box::new(self.settle()?))),
             "tree" => Ok(Case::Tree(self.tree()?)),
+            "arrive" => Ok(Case::Arrive(Arrive {
+                record: self.edited()?,
+                block: self.bytes("block")?,
+            })),
+            "depart" => Ok(Case::Depart(Depart {
+                record: self.edited()?,
+                rule: self.number("rule")?,
+            })),
             other => Err(format!("no call {other}")),
         }
     }
@@ -199,6 +228,17 @@ impl Fields<'_> {
             row: self.number("row")?,
             lent,
             memory,
+        })
+    }
+
+    /// The record of an edit.
+    fn edited(&self) -> Result<Record, String> {
+        let blocks = self.bytes("blocks")?;
+        let cut = |blocks: Box<[u8]>| format!("blocks: {} bytes", blocks.len());
+        Ok(Record {
+            blocks: blocks.into_boxed_slice().try_into().map_err(cut)?,
+            rules: self.number("rules")?,
+            marks: self.number("marks")?,
         })
     }
 
@@ -316,6 +356,22 @@ mod tests {
         for bad in ["", &held[16..], &held[2..], &held.repeat(2)] {
             assert!(commit(&dropped, &numbers, bad).is_err());
         }
+    }
+
+    #[test]
+    fn bad_edits_are_said_to_be_bad() {
+        let depart = |blocks: &str, rules: &str, marks: &str| {
+            read(&format!(
+                "call depart\nblocks {blocks}\nrules {rules}\nmarks {marks}\nrule 7"
+            ))
+        };
+        let blocks = "ee".repeat(36 * 512);
+        assert!(depart(&blocks, "4294967295", "4294967295").is_ok());
+        for bad in ["", &blocks[2..], &blocks[1..], &blocks.repeat(2)] {
+            assert!(depart(bad, "1", "1").is_err());
+        }
+        assert!(depart(&blocks, "4294967296", "1").is_err());
+        assert!(depart(&blocks, "1", "-1").is_err());
     }
 
     #[test]

@@ -1,7 +1,10 @@
 //! A fixed seed: no difference, and everything reached.
 
 use against::engine::{by_name, USUAL};
-use against::reached::{ASK_REFUSALS, BLOCKED_REFUSALS, SETTLE_REFUSALS, TREE_REFUSALS};
+use against::reached::{
+    ARRIVE_REFUSALS, ASK_REFUSALS, BLOCKED_REFUSALS, DEPART_REFUSALS, SETTLE_REFUSALS,
+    TREE_REFUSALS,
+};
 use against::{run, Limit, Reached};
 
 /// What is to be reached more than once or twice.
@@ -33,8 +36,9 @@ fn often(reached: &Reached) -> Vec<u64> {
     ];
     let [holds, trees] = [&reached.holds.often()[..], &reached.trees.often()];
     let withdrawn = &reached.withdrawn.often();
+    let edits = &reached.edits.often();
     let parts = for_each_part.as_flattened();
-    [&singly, parts, holds, trees, withdrawn].concat()
+    [&singly, parts, holds, trees, withdrawn, edits].concat()
 }
 
 #[test]
@@ -44,7 +48,7 @@ fn no_difference_and_everything_reached() {
     let cases = if cfg!(debug_assertions) {
         4_000
     } else {
-        125_000
+        128_000
     };
     let reached = match run(engines, 20_240_501, Limit::Cases(cases), &mut |_| ()) {
         Ok(reached) => reached,
@@ -55,6 +59,8 @@ fn no_difference_and_everything_reached() {
     // Without optimizing, the cases are too few for these.
     if !cfg!(debug_assertions) {
         assert!(often(&reached).iter().all(|&n| n >= 5), "{reached}");
+        assert_eq!(reached.refusals_of("arrive"), ARRIVE_REFUSALS);
+        assert_eq!(reached.refusals_of("depart"), DEPART_REFUSALS);
     }
     assert!(reached.fewer_functions * 100 > reached.needed, "{reached}");
     assert_eq!(reached.refusals_of("blocked"), BLOCKED_REFUSALS);
@@ -66,6 +72,7 @@ fn no_difference_and_everything_reached() {
     assert_eq!(reached.trees.most, 4_096, "{reached}");
     let closed: u64 = reached.closed.iter().chain(&reached.causes).sum();
     let open = reached.open + reached.unblocked;
-    let searched = reached.idle + reached.needed + open + closed;
+    let edits = reached.edits.arrivals + reached.edits.departures;
+    let searched = reached.idle + reached.needed + open + closed + edits;
     assert!(reached.given_up * 5 < searched, "{reached}");
 }

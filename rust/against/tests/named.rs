@@ -5,6 +5,9 @@ use against::answer::Answer;
 use against::compare::compare;
 use against::engine::{by_name, nodes_and_length, packed, with_asking, USUAL};
 use books::blocked::{hard, Found};
+use books::draft::BLOCK;
+use books::edit_lists::Edit;
+use books::edits::Record;
 use books::histories::{Act, Call};
 use books::records::{Records, Tally, LEDGER};
 use books::trees::{self, extents, Tree, MOST, ROOM};
@@ -33,6 +36,21 @@ fn cases(draft: &Draft) -> Vec<Case> {
         if user % 8 == 1 {
             cases.extend(on_records(&book, user, &plan));
         }
+    }
+    cases.extend(edits(&book));
+    cases
+}
+
+/// The last rule arrives at the others, all of them marked, and the first one and the last leave a book without
+/// marks: what is kept takes no search.
+fn edits(book: &[u8]) -> Vec<Case> {
+    let (others, last) = book.split_at(book.len() - BLOCK);
+    let mut record = Record::of(others);
+    record.marks = u32::MAX;
+    let mut cases = vec![Edit::Arrive(last.to_vec()).with(&record)];
+    let record = Record::of(book);
+    for rule in [0, record.rules - 1] {
+        cases.push(Edit::Depart(rule).with(&record));
     }
     cases
 }

@@ -12,8 +12,10 @@ pub use without::*;
 mod with_engine {
     use super::{Duration, Range};
     use crate::clock::best;
+    use crate::edits::{Edit, Editing};
     use crate::reserve::Reserve;
     use crate::trees::Asked;
+    use books::edits::Record;
     use books::trees::ROOM;
     use pspec::raw;
     use std::hint::black_box;
@@ -104,6 +106,33 @@ mod with_engine {
         Some(best(&mut tree))
     }
 
+    /// Each call begins from the same record.
+    pub fn edit(given: &Editing) -> Option<Duration> {
+        let mut record = given.record.clone();
+        let mut edit = || {
+            record.blocks.copy_from_slice(&given.record.blocks[..]);
+            (record.rules, record.marks) = (given.record.rules, given.record.marks);
+            edited(&given.edit, &mut record)
+        };
+        Some(best(&mut edit))
+    }
+
+    fn edited(edit: &Edit, record: &mut Record) -> u64 {
+        let Record {
+            blocks,
+            rules,
+            marks,
+        } = record;
+        match edit {
+            Edit::Arrive(block) => raw::arrive(blocks, rules, marks, black_box(block)),
+            Edit::Depart(rule) => raw::depart(blocks, rules, marks, black_box(*rule)),
+        }
+    }
+
+    pub fn is_idle(book: &[u8], rule: u32) -> bool {
+        raw::value(raw::idle(book, rule, &mut [0; raw::BUFFER])) == Ok(0)
+    }
+
     /// The time of each rule that does not forbid.
     fn each(rules: Range<u32>, search: impl Fn(u32) -> u64) -> Vec<(u32, Duration)> {
         let answered = |rule: &u32| raw::value(search(*rule)).is_ok();
@@ -123,8 +152,8 @@ mod with_engine {
         black_box(raw::judge(book, user, black_box(plan)));
     }
 
-    // Ask, Commit and Drop are made ready first, with their records on the heap, so that what is measured is
-    // theirs alone.
+    // Ask, Commit, Drop and edits are made ready first, with their records on the heap, so that what is measured
+    // is theirs alone.
 
     pub fn ask_once(book: &[u8], user: u32, reserve: Reserve) -> impl FnOnce() + Send + '_ {
         let mut records = Box::new(records(user, &reserve));
@@ -154,6 +183,13 @@ mod with_engine {
         }
     }
 
+    pub fn edit_once(given: Editing) -> impl FnOnce() + Send {
+        let Editing { mut record, edit } = given;
+        move || {
+            black_box(edited(&edit, &mut record));
+        }
+    }
+
     pub fn idle_once(book: &[u8], rule: u32) {
         black_box(raw::idle(black_box(book), rule, &mut [0; raw::BUFFER]));
     }
@@ -176,8 +212,10 @@ mod with_engine {
 #[cfg(not(feature = "engine"))]
 mod without {
     use super::{Duration, Range};
+    use crate::edits::Editing;
     use crate::reserve::Reserve;
     use crate::trees::Asked;
+    use crate::STEPS;
 
     pub fn check(_: &[u8]) -> Option<Duration> {
         None
@@ -223,6 +261,15 @@ mod without {
         None
     }
 
+    pub fn edit(_: &Editing) -> Option<Duration> {
+        None
+    }
+
+    /// By the second implementation; what it gives up on is taken for needed.
+    pub fn is_idle(book: &[u8], rule: u32) -> bool {
+        second::idle_within(book, rule, &mut [0; 36], STEPS) == Some(Ok(None))
+    }
+
     pub fn check_once(_: &[u8]) {}
 
     pub fn flows_once(_: &[u8], _: &[u8]) {}
@@ -238,6 +285,10 @@ mod without {
     }
 
     pub fn drop_once(_: &[u8], _: u32, _: Reserve) -> impl FnOnce() + Send + '_ {
+        || ()
+    }
+
+    pub fn edit_once(_: Editing) -> impl FnOnce() + Send {
         || ()
     }
 

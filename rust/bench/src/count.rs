@@ -1,8 +1,9 @@
 //! Counts the instructions of one call with callgrind, which do not depend on what else the machine
 //! is doing. The program runs itself under valgrind, one call each time.
 
+use crate::edits::{self, Editing};
 use crate::reserve::Reserve;
-use crate::{calls, check_sums, trees, Input};
+use crate::{all_rules, calls, check_sums, trees, Input};
 use std::hint::black_box;
 use std::process::Command;
 
@@ -15,7 +16,7 @@ pub struct Counted {
 }
 
 /// The plain loop over the sums comes first: the others are given as its multiples.
-pub const CALLS: [Counted; 16] = [
+pub const CALLS: [Counted; 20] = [
     counted("sums", "*check_sums*", 0),
     counted("check", "pspec_check", 0),
     counted("flows, 64 rows", "pspec_flows", 64),
@@ -26,6 +27,10 @@ pub const CALLS: [Counted; 16] = [
     counted("commit", "pspec_commit", 0),
     counted("drop", "pspec_drop", 0),
     counted("idle", "pspec_idle", 0),
+    counted("idle, all rules", "pspec_idle", 0),
+    counted("arrive, last", "pspec_arrive", 0),
+    counted("depart, first", "pspec_depart", 0),
+    counted("depart, last", "pspec_depart", 0),
     counted("blocked", "pspec_blocked", 0),
     counted("culprits", "pspec_culprits", 0),
     counted("tree, 1 node", "pspec_tree", 0),
@@ -41,11 +46,9 @@ const fn counted(name: &'static str, symbol: &'static str, rows: usize) -> Count
 impl Counted {
     /// Its name, with the rule where one is asked about.
     pub fn about(&self, rule: u32) -> String {
-        match self.symbol {
-            "pspec_idle" | "pspec_blocked" | "pspec_culprits" => {
-                format!("{}, rule {rule}", self.name)
-            }
-            _ => self.name.to_string(),
+        match self.name {
+            "idle" | "blocked" | "culprits" => format!("{}, rule {rule}", self.name),
+            name => name.to_string(),
         }
     }
 }
@@ -74,6 +77,11 @@ pub fn ready<'a>(name: &'a str, input: &'a Input) -> Box<dyn FnOnce() + Send + '
         "ask, declined" => Box::new(calls::ask_once(book, user, Reserve::declined(input))),
         "commit" => Box::new(calls::commit_once(book, user, Reserve::full(input))),
         "drop" => Box::new(calls::drop_once(book, user, Reserve::full(input))),
+        name if edits::NAMES.contains(&name) => Box::new(calls::edit_once(Editing::named(
+            name,
+            input,
+            calls::is_idle,
+        ))),
         _ => Box::new(move || once(name, input)),
     }
 }
@@ -88,7 +96,8 @@ fn once(name: &str, input: &Input) {
         "pspec_check" => calls::check_once(&input.book),
         "pspec_flows" => calls::flows_once(&input.book, plan),
         "pspec_judge" => calls::judge_once(&input.book, input.user, plan),
-        "pspec_idle" => calls::idle_once(&input.book, input.rules.start),
+        "pspec_idle" if name == "idle" => calls::idle_once(&input.book, input.rules.start),
+        "pspec_idle" => all_rules(input).for_each(|rule| calls::idle_once(&input.book, rule)),
         "pspec_blocked" => calls::blocked_once(&input.book, input.rules.start),
         "pspec_culprits" => calls::culprits_once(&input.book, input.rules.start),
         "pspec_tree" => {

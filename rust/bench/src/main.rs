@@ -7,15 +7,20 @@
 mod calls;
 mod clock;
 mod count;
+mod edits;
 mod reserve;
 mod stack;
 mod table;
 mod trees;
 
+use books::draft::BLOCK;
+use books::edits::HEAD;
 use books::trees::ROOM;
 use books::{named, plans, Draft, Random};
 use clock::best;
+use edits::{Edit, Editing};
 use reserve::Reserve;
+use second::book::Book;
 use second::{reading, Tally};
 use std::hint::black_box;
 use std::ops::Range;
@@ -184,6 +189,7 @@ fn times() {
         if book.calls == For::All {
             idle(&input);
             idle_naive(&input);
+            edit(&input);
         }
         if book.calls.has("blocked") {
             blocked(&input);
@@ -377,6 +383,34 @@ fn idle_naive(input: &Input) {
         second: Some(best(all)),
         ..input.line("the same, naive")
     });
+}
+
+/// All rules of a book.
+fn all_rules(input: &Input) -> Range<u32> {
+    0..(input.book.len() / BLOCK - HEAD) as u32
+}
+
+/// An arrival of the last rule and departures of the first and the last one, each from the same record with its
+/// right marks.
+fn edit(input: &Input) {
+    let search = |book: &Book, rule: usize| second::idle::within(book, rule, STEPS);
+    for name in edits::NAMES {
+        let given = Editing::named(name, input, calls::is_idle);
+        let start = given.second();
+        let edit = || {
+            let mut record = start.clone();
+            let reply = match &given.edit {
+                Edit::Arrive(block) => second::arrive_by(&mut record, black_box(block), &search),
+                Edit::Depart(rule) => second::depart_by(&mut record, black_box(*rule), &search),
+            };
+            reply.is_some()
+        };
+        table::row(&Line {
+            engine: calls::edit(&given),
+            second: edit().then(|| best(edit)),
+            ..input.line(name)
+        });
+    }
 }
 
 fn blocked(input: &Input) {

@@ -11,7 +11,8 @@ const BOOKS: [&str; 4] = ["largest", "32 together", "one chain", "blocked chain"
 /// Prints the smallest stack of each call on each book, and on all.
 pub fn print() {
     print_line("KiB", BOOKS.map(str::to_string), "all".to_string());
-    for call in count::CALLS.iter().filter(|call| call.name != "sums") {
+    let once = |name: &str| !["sums", "idle, all rules"].contains(&name);
+    for call in count::CALLS.iter().filter(|call| once(call.name)) {
         let each = BOOKS.map(|book| smallest(call.name, book));
         let all = each.into_iter().max().unwrap_or(0);
         print_line(call.name, each.map(|kib| kib.to_string()), all.to_string());

@@ -3,6 +3,7 @@
 use crate::change;
 use crate::change_withdrawn;
 use crate::draft::{Draft, BLOCK};
+use crate::edits::{self, Arrive, Depart, Record};
 use crate::numbers;
 use crate::plans;
 use crate::random::Random;
@@ -73,6 +74,10 @@ pub enum Case {
     Drop(Box<Settle>),
     /// Tree.
     Tree(Tree),
+    /// An arrival.
+    Arrive(Arrive),
+    /// A departure.
+    Depart(Depart),
 }
 
 impl Case {
@@ -90,13 +95,15 @@ impl Case {
             Case::Commit(_) => "commit",
             Case::Drop(_) => "drop",
             Case::Tree(_) => "tree",
+            Case::Arrive(_) => "arrive",
+            Case::Depart(_) => "depart",
         }
     }
 
-    /// The book that the call is given; Seal has none.
+    /// The book that the call is given; Seal has none, and edits have theirs in a record.
     pub fn book(&self) -> Option<&[u8]> {
         match self {
-            Case::Seal { .. } => None,
+            Case::Seal { .. } | Case::Arrive(_) | Case::Depart(_) => None,
             Case::Check { book }
             | Case::Flows { book, .. }
             | Case::Judge { book, .. }
@@ -113,7 +120,7 @@ impl Case {
     pub fn with_book(&self, other: Vec<u8>) -> Option<Case> {
         let mut case = self.clone();
         let book = match &mut case {
-            Case::Seal { .. } => return None,
+            Case::Seal { .. } | Case::Arrive(_) | Case::Depart(_) => return None,
             Case::Check { book }
             | Case::Flows { book, .. }
             | Case::Judge { book, .. }
@@ -147,6 +154,26 @@ impl Case {
         }
         case
     }
+
+    /// The record that an edit is given.
+    pub fn edited(&self) -> Option<&Record> {
+        match self {
+            Case::Arrive(given) => Some(&given.record),
+            Case::Depart(given) => Some(&given.record),
+            _ => None,
+        }
+    }
+
+    /// The same edit with another record.
+    pub fn with_edited(&self, other: Record) -> Case {
+        let mut case = self.clone();
+        match &mut case {
+            Case::Arrive(given) => given.record = other,
+            Case::Depart(given) => given.record = other,
+            _ => {}
+        }
+        case
+    }
 }
 
 impl From<Ask> for Case {
@@ -155,7 +182,7 @@ impl From<Ask> for Case {
     }
 }
 
-/// The calls of one round: one book of the given size, sound or changed, and all eleven calls.
+/// The calls of one round: one book of the given size, sound or changed, and all thirteen calls.
 pub fn round(random: &mut Random, size: Size) -> Vec<Case> {
     let draft = valid::draft(random, size);
     let book = book(random, &draft);
@@ -179,6 +206,7 @@ pub fn round(random: &mut Random, size: Size) -> Vec<Case> {
     cases.extend(trees(random, &draft, &book));
     cases.extend(changed(random, &draft));
     cases.extend(settles(random, &draft, &book));
+    cases.extend(edits(random, &draft, &book));
     cases
 }
 
@@ -306,6 +334,19 @@ fn settles(random: &Random, draft: &Draft, book: &[u8]) -> [Case; 4] {
         Case::Commit(settle()),
         Case::Drop(settle()),
     ]
+}
+
+/// An arrival or a departure, the less often the more rules there are, as it asks Idle for each. They have a generator
+/// of their own, so that the other calls of a seed don't depend on them.
+fn edits(random: &Random, draft: &Draft, book: &[u8]) -> Option<Case> {
+    let mut own = Random::new(random.clone().bits());
+    if !own.chance(4, 4 + draft.rules.len()) {
+        return None;
+    }
+    Some(match own.chance(1, 2) {
+        true => Case::Arrive(edits::arrive(&mut own, draft, book)),
+        false => Case::Depart(edits::depart(&mut own, draft, book)),
+    })
 }
 
 /// Seal of block 1, and Check of the same book with changes that withdrawn operations brought: more of them

@@ -19,6 +19,8 @@ pub mod change;
 pub mod change_withdrawn;
 pub mod culprits;
 pub mod draft;
+pub mod edit_lists;
+pub mod edits;
 pub mod histories;
 pub mod named;
 pub mod needed;

@@ -91,6 +91,12 @@ pub const COMMANDS: &[Command] = &[
         about: "find the mistakes of a policy, and write nothing",
     },
     Command {
+        name: "edit",
+        operands: &["POLICY"],
+        options: &[JSON],
+        about: "add and delete rules line by line, and see which are idle",
+    },
+    Command {
         name: "show",
         operands: &["BOOK"],
         options: &[],

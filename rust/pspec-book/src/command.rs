@@ -2,9 +2,11 @@
 
 use crate::arguments::{self, Arguments, Asked};
 use crate::blocked::RuleBlocking;
+use crate::edit::{self, Ended, Form, Outputs};
+use crate::editor::Editor;
 use crate::fault::Fault;
 use crate::files::{self, open, read_text};
-use crate::help::HELP;
+use crate::help::{EDITING, HELP, PROVED};
 use crate::judge::{self, NotJudged};
 use crate::lineage::{self, Traced};
 use crate::mistake::Mistakes;
@@ -13,7 +15,7 @@ use crate::phrases::{counted, shown};
 use crate::plan::{self, PlanText};
 use crate::report::{self, RuleReport};
 use crate::{blocked, build, explain, html, labels, lineage_tree, policy, show};
-use std::io::{self, Write};
+use std::io::{self, IsTerminal, Write};
 
 /// How a command ends that gives its answer.
 #[derive(Clone, Copy, Debug, PartialEq, Eq)]
@@ -26,6 +28,10 @@ pub enum Outcome {
     Idle,
     /// A rule is blocked, and the status was to say so.
     Blocked,
+    /// The editor did not carry out some line.
+    NotDone,
+    /// The editor's input ended, and edits are not written.
+    Unwritten,
 }
 
 /// Carries out what the words ask for, and writes the answer.
@@ -33,7 +39,10 @@ pub fn run(words: &[String], out: &mut dyn Write) -> Result<Outcome, Fault> {
     match arguments::read(words).map_err(Fault::Usage)? {
         Asked::Command(arguments) => carry_out(&arguments, out),
         Asked::Help(Some(command)) => said(writeln!(out, "{}", command.help())),
-        Asked::Help(None) => said(writeln!(out, "{}\n\n{HELP}", arguments::usage())),
+        Asked::Help(None) => {
+            let usage = arguments::usage();
+            said(writeln!(out, "{usage}\n\n{HELP}\n\n{EDITING}\n\n{PROVED}"))
+        }
         Asked::Version => said(writeln!(out, "pspec-book {}", env!("CARGO_PKG_VERSION"))),
     }
 }
@@ -43,6 +52,7 @@ fn carry_out(arguments: &Arguments, out: &mut dyn Write) -> Result<Outcome, Faul
     match (arguments.command.name, operands.as_slice()) {
         ("build", [policy]) => build(policy, arguments.option("-o").unwrap_or_default(), out),
         ("check", [policy]) => check(policy, out),
+        ("edit", [policy]) => edit(policy, arguments.json(), out),
         ("show", [book]) => show(book, out),
         ("report", [book]) => report(book, arguments, out),
         ("blocked", [book]) => blocked(book, arguments, out),
@@ -60,6 +70,27 @@ fn check(policy: &str, out: &mut dyn Write) -> Result<Outcome, Fault> {
     let rules = made(policy)?.book.rule_count() as usize;
     let rules = counted(rules, "rule");
     said(writeln!(out, "{policy}: {rules}, no mistake"))
+}
+
+fn edit(policy: &str, json: bool, out: &mut dyn Write) -> Result<Outcome, Fault> {
+    report::start("finding the idle rules");
+    let opened = Editor::open(policy);
+    report::clear();
+    let mut editor = opened?;
+    let form = match json {
+        true => Form::Json,
+        false => Form::Words {
+            prompt: io::stdin().is_terminal(),
+        },
+    };
+    let err = &mut io::stderr();
+    let mut outputs = Outputs { out, err, form };
+    let ended = edit::run(&mut editor, &mut io::stdin().lock(), &mut outputs)?;
+    Ok(match ended {
+        Ended::Fine => Outcome::Fine,
+        Ended::SomeNotDone => Outcome::NotDone,
+        Ended::Unwritten => Outcome::Unwritten,
+    })
 }
 
 fn show(book: &str, out: &mut dyn Write) -> Result<Outcome, Fault> {

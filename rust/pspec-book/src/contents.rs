@@ -189,6 +189,13 @@ impl Category {
 }
 
 impl Rule {
+    /// The sealed block.
+    pub fn sealed(&self) -> Vec<u8> {
+        let mut block = self.block();
+        seal(&mut block).expect("a block has 512 bytes");
+        block
+    }
+
     fn block(&self) -> Vec<u8> {
         let mut block = block(5, self.references.len(), &[self.user]);
         put_list(&mut block[3..8], &self.excluded);

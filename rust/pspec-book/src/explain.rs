@@ -64,7 +64,32 @@ fn column(i: usize, policy: &Policy) -> Option<Mistake> {
 }
 
 fn rule(r: usize, policy: &Policy) -> Option<Mistake> {
-    let rule = &policy.contents.rules[r];
+    lone_rule(&policy.contents.rules[r], policy.lines.rules[r], policy)
+}
+
+/// Why the engine does not let the rule of a line arrive at the policy's book.
+pub fn arrival(refusal: Refusal, rule: &Rule, line: usize, policy: &Policy) -> Mistake {
+    let found = match refusal {
+        Refusal::RulesFull => {
+            let rules = counted(policy.contents.rules.len(), "rule");
+            Some(format!("found {rules}; expected room for one more"))
+        }
+        _ => return lone_rule(rule, line, policy).unwrap_or(refused(line, refusal, None)),
+    };
+    refused(line, refusal, found)
+}
+
+/// Why the engine knows no rule of this number.
+pub fn no_rule(refusal: Refusal, rule: usize, line: usize, rules: usize) -> Mistake {
+    let found = (refusal == Refusal::NoRule).then(|| {
+        let rules = counted(rules, "rule");
+        format!("found rule {rule}; the policy has {rules}, counted from 0")
+    });
+    refused(line, refusal, found)
+}
+
+/// Why the engine refuses a rule beside the hierarchies alone.
+fn lone_rule(rule: &Rule, line: usize, policy: &Policy) -> Option<Mistake> {
     let alone = Contents {
         rules: vec![rule.clone()],
         ..hierarchies(policy)
@@ -76,7 +101,7 @@ fn rule(r: usize, policy: &Policy) -> Option<Mistake> {
         Refusal::MaskOperation { .. } => unsupported(rule, policy),
         _ => None,
     };
-    Some(refused(policy.lines.rules[r], refusal, found))
+    Some(refused(line, refusal, found))
 }
 
 fn exclusion(rule: &Rule, policy: &Policy) -> Option<String> {

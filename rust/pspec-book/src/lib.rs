@@ -2,7 +2,8 @@
 //!
 //! A policy file names users, data, columns, functions and rules; `build` makes the engine's blocks
 //! of it and `show` makes text of blocks again. `report`, `blocked`, `judge`, `flows` and
-//! `lineage_tree` put the engine's answers in the policy's names.
+//! `lineage_tree` put the engine's answers in the policy's names, and `editor` changes a policy's rules with
+//! the engine's marks of the idle ones showing.
 //!
 //! All of this stands outside the proved core. The engine decides whether a book is accepted, which
 //! rules a plan breaks and which are idle or blocked; that the text means the blocks is this crate's
@@ -38,6 +39,10 @@ pub mod command;
 pub mod contents;
 pub mod covering;
 pub mod drawing;
+pub mod edit;
+pub mod edit_answer;
+pub mod edit_line;
+pub mod editor;
 pub mod explain;
 pub mod fault;
 pub mod files;
@@ -55,6 +60,7 @@ pub mod names;
 pub mod phrases;
 pub mod plan;
 pub mod policy;
+pub mod policy_text;
 pub mod report;
 pub mod rule;
 pub mod show;

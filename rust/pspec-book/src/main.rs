@@ -24,8 +24,9 @@ fn main() -> ExitCode {
 fn status(ran: Result<Outcome, Fault>) -> u8 {
     match ran {
         Ok(Outcome::Fine) => 0,
-        Ok(Outcome::Broken) => 1,
+        Ok(Outcome::Broken | Outcome::NotDone) => 1,
         Ok(Outcome::Idle | Outcome::Blocked) => 3,
+        Ok(Outcome::Unwritten) => 4,
         Err(Fault::Refused(why)) => {
             eprintln!("{why}");
             1

@@ -72,6 +72,11 @@ impl RuleReport {
 
 impl RuleReport {
     fn json(&self) -> Json {
+        Json::Object(self.fields())
+    }
+
+    /// What is found, by name.
+    pub fn fields(&self) -> Vec<(&'static str, Json)> {
         let mut fields = vec![
             ("number", Json::Number(self.number)),
             ("rule", Json::Text(self.rule.clone())),
@@ -90,7 +95,7 @@ impl RuleReport {
                 ("plan", Json::Text(plan.to_string())),
             ],
         });
-        Json::Object(fields)
+        fields
     }
 }
 
@@ -128,7 +133,7 @@ pub fn each(
     let count = named.contents.rules.len();
     let mut reports = Vec::new();
     for r in 0..count {
-        start(r, count);
+        start(&format!("rule {r} ({} of {count})", r + 1));
         let report = of_rule(named, r).map_err(io::Error::other)?;
         clear();
         found(&report)?;
@@ -160,14 +165,15 @@ fn summary(reports: &[RuleReport]) -> String {
     }
 }
 
-/// On a terminal, says which rule is being searched: a large book takes a while.
-fn start(r: usize, count: usize) {
+/// On a terminal, says what is being searched: a large book takes a while.
+pub fn start(what: &str) {
     if io::stderr().is_terminal() {
-        eprint!("\rrule {r} ({} of {count}) ...", r + 1);
+        eprint!("\r{what} ...");
     }
 }
 
-fn clear() {
+/// On a terminal, takes back what was being searched.
+pub fn clear() {
     if io::stderr().is_terminal() {
         eprint!("\r\x1b[K");
     }

@@ -7,6 +7,8 @@
 
 use crate::Refusal;
 
+/// The bytes of the blocks in a record that is edited: room for the longest book.
+pub const BLOCKS: usize = 18_432;
 /// The words that `flows` fills.
 pub const WORDS: usize = 32;
 /// The bytes that `idle` asks of its buffer.
@@ -122,6 +124,14 @@ mod c {
             buffer: *mut u8,
             buffer_len: usize,
         ) -> u64;
+        pub fn pspec_arrive(
+            blocks: *mut u8,
+            rules: *mut u32,
+            marks: *mut u32,
+            block: *const u8,
+            block_len: usize,
+        ) -> u64;
+        pub fn pspec_depart(blocks: *mut u8, rules: *mut u32, marks: *mut u32, rule: u32) -> u64;
     }
 }
 
@@ -268,6 +278,21 @@ pub fn tree(book: &[u8], plan: &[u8], row: u32, buffer: &mut [u8]) -> u64 {
             room,
         )
     }
+}
+
+/// Puts a rule behind the last one of the book at the front of the blocks. Value: the new marks, bit r
+/// for an idle rule r.
+pub fn arrive(blocks: &mut [u8; BLOCKS], rules: &mut u32, marks: &mut u32, block: &[u8]) -> u64 {
+    let (from, length) = (block.as_ptr(), block.len());
+    // SAFETY: as above; blocks, rules and marks are each lent alone, and the blocks are as many bytes as
+    // the call has there.
+    unsafe { c::pspec_arrive(blocks.as_mut_ptr(), rules, marks, from, length) }
+}
+
+/// Takes a rule out of the book at the front of the blocks; later ones move down. Value: the new marks.
+pub fn depart(blocks: &mut [u8; BLOCKS], rules: &mut u32, marks: &mut u32, rule: u32) -> u64 {
+    // SAFETY: as above.
+    unsafe { c::pspec_depart(blocks.as_mut_ptr(), rules, marks, rule) }
 }
 
 /// The value of an answer, or its refusal. Of `ask` only where [`held`] is none: the value is then the

@@ -100,6 +100,7 @@ refusals! {
     30 TreeSize "the tree has above 4,096 nodes, or its text exceeds the buffer",
     31 PlacesFull "eight plans are held already, over all users",
     32 NotHeld "the user holds no plan under this number",
+    33 RulesFull "the record has 32 rules or more",
 }
 
 impl fmt::Display for Refusal {

@@ -3,8 +3,8 @@
 use std::error::Error;
 use std::fmt;
 
-/// Bytes that are no stored [`Ledger`](crate::Ledger), [`Tally`](crate::Tally) or
-/// [`Holds`](crate::Holds), as they are too many or too few.
+/// Bytes that are no stored [`Ledger`](crate::Ledger), [`Tally`](crate::Tally),
+/// [`Holds`](crate::Holds) or [`Editing`](crate::Editing), as they are too many or too few.
 ///
 /// ```
 /// let wrong = pspec::Ledger::from_bytes(&[0; 8_191]).unwrap_err();

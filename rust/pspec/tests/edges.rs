@@ -20,6 +20,9 @@ fn empty_slices() {
     assert_eq!(refusal(raw::idle(&book, 0, &mut [])), Refusal::BufferLength);
     assert_eq!(refusal(raw::blocked(&[], 0)), Refusal::BookLength);
     assert_eq!(refusal(raw::culprits(&[], 0)), Refusal::BookLength);
+    let blocks = &mut [0; raw::BLOCKS];
+    let arrived = raw::arrive(blocks, &mut 0, &mut 0, &[]);
+    assert_eq!(refusal(arrived), Refusal::BookLength);
     let tree = |book: &[u8], plan: &[u8]| refusal(raw::tree(book, plan, 0, &mut []));
     assert_eq!(tree(&[], &[]), Refusal::BookLength);
     assert_eq!(tree(&book, &[]), Refusal::NoValueRow);
@@ -48,6 +51,20 @@ fn nothing_outside_a_buffer_is_written() {
     assert_eq!(raw::value(answer).map(raw::drawn), Ok((2, 19)));
     assert_eq!(&buffer[4..23], b"1 apply\n  0 column\n");
     assert_eq!((&buffer[..4], &buffer[23..]), (&[7; 4][..], &[7; 7][..]));
+
+    let mut bytes = [7; 3 + raw::BLOCKS + 5];
+    bytes[3..3 + book.len()].copy_from_slice(&book);
+    let blocks = (&mut bytes[3..3 + raw::BLOCKS]).try_into();
+    let blocks: &mut [u8; raw::BLOCKS] = blocks.expect("they are as many");
+    let (mut rules, mut marks) = (3, 0b101);
+    let block = [&[7; 2], &book[BLOCK * 5..BLOCK * 6], &[7]].concat();
+    let block = &block[2..2 + BLOCK];
+    assert_eq!(raw::arrive(blocks, &mut rules, &mut marks, block), 0b1111);
+    assert_eq!(raw::depart(blocks, &mut rules, &mut marks, 3), 0b101);
+    assert_eq!((rules, marks, &blocks[..book.len()]), (3, 0b101, &book[..]));
+    assert!(blocks[book.len()..].iter().all(|&byte| byte == 0));
+    let behind = 3 + raw::BLOCKS;
+    assert_eq!((&bytes[..3], &bytes[behind..]), (&[7; 3][..], &[7; 5][..]));
 
     let mut bytes = [0; 520];
     bytes[3] = 4;

@@ -28,5 +28,5 @@ fn names_and_numbers_are_those_of_the_header() {
             count += 1;
         }
     }
-    assert_eq!(count, 23);
+    assert_eq!(count, 24);
 }

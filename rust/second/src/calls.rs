@@ -1,4 +1,4 @@
-//! The eleven calls: what is refused, in the documents' order, and what is answered.
+//! The calls but for the edits: what is refused, in the documents' order, and what is answered.
 
 use crate::access::Access;
 use crate::blocked::{self, Datum};

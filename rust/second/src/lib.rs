@@ -1,4 +1,4 @@
-//! A second implementation of the eleven calls of the policy engine.
+//! A second implementation of the thirteen calls of the policy engine.
 //!
 //! It is written from the sentences of documents 01 and 02, each quoted where it is followed, with
 //! ordinary sets, explicit paths and explicit choices. It is made to be read and believed, not to be quick:
@@ -19,6 +19,7 @@ pub mod book;
 pub mod breaking;
 pub mod choice;
 pub mod culprits;
+pub mod editing;
 pub mod hierarchy;
 pub mod holds;
 pub mod idle;
@@ -38,6 +39,7 @@ pub use calls::{
     ask, blocked, blocked_naive, blocked_within, check, commit, culprits, culprits_naive,
     culprits_within, drop_hold, flows, idle, idle_naive, idle_within, judge, seal, tree, Asked,
 };
+pub use editing::{arrive, arrive_by, depart, depart_by};
 pub use holds::{Holds, Place};
 pub use ledger::{Counts, Tally};
 pub use refusal::Refusal;

@@ -69,3 +69,5 @@ pub const TREE_SIZE: u32 = 30;
 pub const EIGHT_HELD: u32 = 31;
 /// "32 for a number that user doesn't hold"
 pub const NOT_HELD: u32 = 32;
+/// "an arrival at 32 rules or more is 33, tested first"
+pub const RULES_FULL: u32 = 33;

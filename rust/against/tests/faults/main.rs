@@ -6,6 +6,8 @@ mod asks;
 mod base;
 mod blocked;
 mod culprits;
+mod edit_steps;
+mod edits;
 mod mixing;
 mod order;
 mod settles;
@@ -16,11 +18,12 @@ mod withdrawn;
 mod withdrawn_masks;
 
 use against::actions::PAIRS;
-use against::engine::{Blocking, Causes, Idleness, Reply, Search, Second, STEPS};
+use against::engine::{Blocking, Causes, Idleness, Marking, Reply, Search, Second, STEPS};
 use against::mixing::MISREADINGS;
 use against::run::try_case;
 use against::withdrawn_counts::DEPENDING;
 use against::{run, text, Difference, Engine, Limit, Reached};
+use books::edits::Record;
 use books::records::Records;
 use books::trees::Tree;
 use second::access::Access;
@@ -33,7 +36,7 @@ const GOOD: Second = Second {
     search: Search::Skipping(STEPS),
 };
 
-/// The eleven calls of a faulty engine: those that it does not get wrong are the good one's.
+/// The thirteen calls of a faulty engine: those that it does not get wrong are the good one's.
 trait Faulty {
     fn check(&self, book: &[u8]) -> Result<u32, Refusal> {
         GOOD.check(book)
@@ -95,6 +98,14 @@ trait Faulty {
 
     fn tree(&self, given: &mut Tree) -> Result<u32, Refusal> {
         GOOD.tree(given)
+    }
+
+    fn arrive(&self, record: &mut Record, block: &[u8]) -> Marking {
+        GOOD.arrive(record, block)
+    }
+
+    fn depart(&self, record: &mut Record, rule: u32) -> Marking {
+        GOOD.depart(record, rule)
     }
 }
 
@@ -167,6 +178,14 @@ impl<F: Faulty> Engine for FaultyEngine<F> {
     fn tree(&self, given: &mut Tree) -> Result<u32, Refusal> {
         self.0.tree(given)
     }
+
+    fn arrive(&self, record: &mut Record, block: &[u8]) -> Marking {
+        self.0.arrive(record, block)
+    }
+
+    fn depart(&self, record: &mut Record, rule: u32) -> Marking {
+        self.0.depart(record, rule)
+    }
 }
 
 /// What Idle answers where it shows a user and a choice; the plan is written to the buffer's front.
@@ -182,7 +201,7 @@ fn is_found_and_shown_again(fault: impl Faulty + Copy + Debug) {
     let engines: [&dyn Engine; 2] = [&FaultyEngine(fault), &GOOD];
     let mut cases = 0;
     let mut count = |reached: &Reached| cases = reached.cases;
-    let difference = run(engines, 7, Limit::Cases(125_000), &mut count);
+    let difference = run(engines, 7, Limit::Cases(128_000), &mut count);
     let difference = difference
         .err()
         .unwrap_or_else(|| panic!("{fault:?} not found"));
@@ -310,6 +329,39 @@ fn what_is_stated_of_trees_finds_faults_alone() {
     tree::FAULTS
         .into_iter()
         .for_each(tree::is_found_by_the_sentences);
+}
+
+/// Edits alone are soon made; of the rounds with all calls those faults are asked for that show in lists.
+#[test]
+fn each_fault_of_edits_is_found_and_shown_again() {
+    edits::FAULTS.into_iter().for_each(edits::is_found);
+    let faults = edits::AGAINST_LISTS.into_iter();
+    faults.for_each(is_found_and_shown_again);
+}
+
+#[test]
+fn what_is_stated_of_edits_finds_faults_alone() {
+    let faults = edits::FAULTS.into_iter();
+    faults.for_each(edits::is_found_by_the_sentences);
+}
+
+#[test]
+fn what_is_stated_of_lists_of_edits_finds_faults_alone() {
+    let faults = edits::AGAINST_LISTS.into_iter();
+    faults.for_each(edits::is_found_by_the_lists);
+}
+
+#[test]
+fn what_is_stated_of_idle_finds_a_fault_alone() {
+    edits::is_found_by_idle();
+}
+
+/// What the faults are made with is none itself: the edits step by step.
+#[test]
+fn the_right_edits_are_no_fault() {
+    let reached = edits::without_fault();
+    let counts = [reached.edits.arrivals, reached.edits.departures];
+    assert!(counts.iter().all(|&n| n > 100), "{reached}");
 }
 
 #[test]

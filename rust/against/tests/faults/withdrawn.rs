@@ -274,7 +274,8 @@ impl Takes for IgnoredIn {
     }
 }
 
-/// Both engines have the fault: books that say the same otherwise are not answered alike.
+/// Both engines have the fault: books that say the same otherwise are not answered alike. Edits, which have their
+/// books in records, are not asked.
 pub fn is_found_by_kinds(fault: impl Faulty + Copy + Debug) {
     let faulty = FaultyEngine(fault);
     let engines: [&dyn Engine; 2] = [&faulty, &faulty];
@@ -285,6 +286,7 @@ pub fn is_found_by_kinds(fault: impl Faulty + Copy + Debug) {
         let cases = case::round(&mut random, size);
         let mut tried = cases
             .iter()
+            .filter(|case| case.edited().is_none())
             .map(|case| try_case(engines, case, &mut reached));
         tried.find_map(Result::err)
     });

@@ -1,7 +1,7 @@
 //! `docs/FORMAT.md`: its bytes and answers are those of the engine.
 
 use crate::common::{broken, built, file, text};
-use pspec::{Asked, Book, Holds, Ledger, Plan, Refusal, Tally, BLOCK};
+use pspec::{Asked, Book, Editing, Holds, Ledger, Plan, Refusal, Tally, BLOCK};
 use pspec_book::named::NamedBook;
 use pspec_book::phrases::joined;
 
@@ -116,6 +116,9 @@ fn the_tree_is_written_so() {
     assert!(words.join(" ").ends_with(&counts));
 }
 
+/// Where edits are spoken of.
+const EDITS: &str = "**Rules that come and go.**";
+
 /// What is kept between the days.
 #[derive(Default)]
 struct Kept {
@@ -169,7 +172,7 @@ fn the_days_are_replied_to_so() {
     let book = Book::new(small_shop()).expect("it is sound");
     let format = text("docs/FORMAT.md");
     let (_, days) = format.split_once("| Day |").expect("it is there");
-    let (days, _) = days.split_once("## The calls").expect("it ends");
+    let (days, _) = days.split_once(EDITS).expect("it ends");
     let mut kept = Kept::default();
     let rows: Vec<Vec<String>> = cells(days).collect();
     for row in &rows {
@@ -192,6 +195,50 @@ fn the_records_are_stored_so() {
     let lengths: Vec<String> = cells(records).map(|row| row[3].replace(',', "")).collect();
     let stored = [Tally::BYTES, Holds::BYTES].map(|bytes| bytes.to_string());
     assert_eq!(lengths, stored);
+}
+
+/// The numbers of a mask's rules, or 'none'.
+fn numbers(mask: u32) -> String {
+    let rules = (0..32).filter(|r| mask >> r & 1 == 1);
+    let rules: Vec<String> = rules.map(|r| r.to_string()).collect();
+    match rules.is_empty() {
+        true => "none".to_string(),
+        false => rules.join(", "),
+    }
+}
+
+/// The parts of the record are as long as the table says, together as it is stored, and the edits below
+/// them are replied to so.
+#[test]
+fn the_edits_are_replied_to_so() {
+    let format = text("docs/FORMAT.md");
+    let (_, edits) = format.split_once(EDITS).expect("it is there");
+    let (parts, edits) = edits.split_once("| Edit |").expect("it is there");
+    let (edits, _) = edits.split_once("**The lineage").expect("it ends");
+    let bytes = |row: Vec<String>| row[3].replace(',', "").parse::<usize>().ok();
+    let bytes: usize = cells(parts).filter_map(bytes).sum();
+    assert_eq!(bytes, Editing::BYTES);
+    let book = small_shop();
+    let bare = Book::new(&book[..4 * BLOCK]).expect("it is sound");
+    let mut editing = Editing::new(&bare);
+    let rows: Vec<Vec<String>> = cells(edits).collect();
+    for row in &rows {
+        let number = row[1].trim_start_matches("block ").split(',').next();
+        let number: u32 = number.and_then(|it| it.parse().ok()).expect("a number");
+        let block = BLOCK * number as usize;
+        let reply = match row[0].as_str() {
+            "arrives" => editing.arrive(&book[block..block + BLOCK]),
+            "leaves" => editing.depart(number),
+            other => panic!("{other}"),
+        };
+        let reply = match reply {
+            Ok(marks) => marks.mask().to_string(),
+            Err(refusal) => format!("refused {}", refusal.number()),
+        };
+        let (rules, marks) = (editing.rule_count(), editing.marks().mask());
+        assert_eq!(row[2..], [reply, rules.to_string(), numbers(marks)]);
+    }
+    assert_eq!(rows.len(), 10);
 }
 
 #[test]

@@ -1,11 +1,13 @@
-//! The examples, every mistake, the program, withdrawn operations, random books there and back, and texts
-//! of any kind.
+//! The examples, every mistake, the program, withdrawn operations, random books there and back, edits, and
+//! texts of any kind.
 
 mod any_rows;
 mod any_text;
 mod blocked;
 mod commands;
 mod common;
+mod edit;
+mod edit_files;
 mod examples;
 mod format;
 mod idle;

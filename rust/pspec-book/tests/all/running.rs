@@ -2,8 +2,9 @@
 
 use crate::common::text;
 use std::fs;
+use std::io::Write;
 use std::path::{Path, PathBuf};
-use std::process::Command;
+use std::process::{Command, Output, Stdio};
 
 /// A folder for one test's files.
 pub fn folder(test: &str) -> PathBuf {
@@ -19,10 +20,25 @@ pub fn run(folder: &PathBuf, arguments: &[&str]) -> (i32, String, String) {
         .args(arguments)
         .current_dir(folder)
         .output();
-    let ran = ran.expect("it runs");
+    said(ran.expect("it runs"))
+}
+
+/// The status, the answer and the complaint of a program that ended by itself.
+pub fn said(ran: Output) -> (i32, String, String) {
     let text = |bytes| String::from_utf8(bytes).expect("it is text");
     let status = ran.status.code().expect("it ends by itself");
     (status, text(ran.stdout), text(ran.stderr))
+}
+
+/// Runs a command on an input.
+pub fn fed(command: &mut Command, input: &[u8]) -> Output {
+    let piped = command.stdin(Stdio::piped()).stdout(Stdio::piped());
+    let mut child = piped.stderr(Stdio::piped()).spawn().expect("it runs");
+    let mut to = child.stdin.take().expect("it is piped");
+    // It may end before it has read all.
+    to.write_all(input).ok();
+    drop(to);
+    child.wait_with_output().expect("it ends")
 }
 
 /// A folder with the small shop's book.

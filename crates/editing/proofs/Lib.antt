@@ -1,0 +1,10 @@
+pub mod Within
+pub mod Accepting
+pub mod Books
+pub mod MarkLaws
+pub mod EditLaws
+pub mod LayingLaws
+pub mod MarkingLaws
+pub mod TestingLaws
+pub mod CallLaws
+pub mod Vectors
