@@ -20,7 +20,7 @@ use crate::words::head_words;
 use crate::{BLOCK_CHECK, BLOCK_KIND, BOOK_LENGTH, Checked, Tested};
 
 // The three passes over the blocks: the checks, the kinds, what the blocks hold.
-#[derive(Drop)]
+#[derive(Clone, Copy)]
 pub enum Pass {
     Checks,
     Kinds,

@@ -3,6 +3,8 @@
 //
 // No function has a `requires`: a slice may have any length and any bytes, a number any value. What
 // the calls answer is an equation with a definition of specs/Answers.antt.
+#![tactic(auto)]
+
 pub mod bytes; // bytes of a slice at any index
 pub mod categories; // the two hierarchies: descendants, leaves, support
 pub mod checking; // Book check
@@ -19,42 +21,42 @@ pub use checking::check;
 pub use sealing::seal;
 
 // Why something is refused: document 01's number, and the place that goes with it.
-#[derive(Drop)]
+#[derive(Clone, Copy)]
 pub struct Refusal {
     pub number: u32,
     pub place: u32,
 }
 
 // The outcome of a list of tests: none fails, or the refusal of the first that does.
-#[derive(Drop)]
+#[derive(Clone, Copy)]
 pub enum Tested {
     Passed,
     Refused(Refusal),
 }
 
 // What Book check answers: the number of rules, or the refusal that comes first.
-#[derive(Drop)]
+#[derive(Clone, Copy)]
 pub enum Checked {
     Accepted(u32),
     Refused(Refusal),
 }
 
 // What Seal answers.
-#[derive(Drop)]
+#[derive(Clone, Copy)]
 pub enum Sealed {
     Done,
     Refused(Refusal),
 }
 
 // The two hierarchies of a book: blocks 0 and 1.
-#[derive(Drop)]
+#[derive(Clone, Copy)]
 pub enum Hierarchy {
     Users,
     Data,
 }
 
 // The actions of source document 001: access is the parent of projection and condition.
-#[derive(Drop)]
+#[derive(Clone, Copy)]
 pub enum Action {
     Projection,
     Condition,
@@ -62,7 +64,7 @@ pub enum Action {
 }
 
 // What the action byte of a reference says.
-#[derive(Drop)]
+#[derive(Clone, Copy)]
 pub enum ActionByte {
     Names(Action),
     NamesNone,

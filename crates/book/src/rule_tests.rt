@@ -101,7 +101,7 @@ fn names_action(byte: ActionByte) -> bool
 }
 
 // What a reference says: whether its numbers hold, and its leaves.
-#[derive(Drop)]
+#[derive(Clone, Copy)]
 pub struct Referred {
     pub holds: bool,
     pub leaves: u64,
