@@ -10,39 +10,24 @@ use Rattle.lineage.specs.Rows.{row_count}
 use Rattle.lineage.specs.Inner.Table.{Reached}
 use Rattle.lineage.proofs.Accepted.{accepted_plan, plan_sound, plan_given}
 use Rattle.lineage.proofs.Words.{access_words_law}
-use Rattle.lineage.proofs.accesses.accesses.Statement.{statement}
 use borrow.Author.Rules.{rules}
-use Rattle.lineage.proofs.accesses.accesses.Tie as tie
+use Rattle.lineage.proofs.accesses.accesses.Goals as goal
 
-returns : tie.Need-returns
-returns c words both =
-    let a = c.before.before.before.before.args in
+pub returns-then-plan-gt256 : goal.returns-then-plan-gt256
+returns-then-plan-gt256 c words both =
+    let a = c.args in
     let p = accepted_plan (head_of a.book.now) a.plan.now both.1 in
     absurd (omega (arith, p.short))
 
-returns-2 : tie.Need-returns-2
-returns-2 c words both =
-    let filled = c.before.before.before.fill-reach in
-    let at_head = c.before.before.before.before.before in
-    let a = at_head.before.before.before.before.before.args in
+pub returns : goal.returns
+returns c words both =
+    let filled = c.fill_reach in
+    let a = c.args in
     let head = head_of a.book.now in
     let b = accepted_head a.book.now both.0 in
     let p = accepted_plan head a.plan.now both.1 in
     let sound = plan_sound head a.plan.now b p in
-    let table : Reached head a.plan.now (row_count a.plan.now) filled.new.0 =
-    (rw at_head.head_of.ensures at filled.ensures) words sound (omega (arith, p.short)) refl in
+    let table : Reached head a.plan.now (row_count a.plan.now) filled.new.table =
+    (rw c.head_of-head.ensures at filled.ensures) words sound (omega (arith, p.short)) refl in
     access_words_law head a.plan.now c.gathered.result (search rules) (λ w h. let f : Fits w64 (get_or c.gathered.result w 0) = search rules in f.fits)
     (c.gathered.ensures head sound table (plan_given head a.plan.now b p))
-
-pub accesses-spec : {M : Type 1} → statement M
-accesses-spec =
-    tie.close
-    (tie.spec
-    returns
-    (λ c. search rules)
-    (λ c κs. search rules)
-    (λ c. search rules)
-    (λ c κs. search rules)
-    (λ c. search rules)
-    (λ c κs. search rules)
-    returns-2)
