@@ -5,7 +5,7 @@ ghost use Rattle.verdicts.specs.Actions.{action_fits, channel_fits, number_of};
 use book::{Action, ActionByte};
 
 // What an access does with its leaf: source document 001's "action channel".
-#[derive(Drop)]
+#[derive(Clone, Copy)]
 pub enum Channel {
     Projection,
     Condition,

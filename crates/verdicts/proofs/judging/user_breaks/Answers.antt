@@ -1,0 +1,33 @@
+-- The law `covered_test` is the test; the definition's conjunction, both ways. Assumes nothing.
+use mathlib.Core.Path.{◌≡◌, sym, ◌∙◌}
+use mathlib.Core.Bool.{true, false}
+use Rattle.book.specs.Rule.{covers_user}
+use Rattle.verdicts.specs.Breaking.{breaks}
+use Rattle.verdicts.proofs.Users.{covered_test}
+use Rattle.verdicts.proofs.judging.user_breaks.Goals as goal
+
+pub returns-then-contains : goal.returns-then-contains
+unfolding breaks
+returns-then-contains c head held sound =
+    let test = c.contains in
+    let users = c.covered_users in
+    let a = c.args in
+    let covered : covers_user head a.rule.now a.user ≡ true =
+    sym
+    (covered_test head a.user users.result test.result sound.users test.ensures a.rule.now
+    (users.ensures head held))
+    ∙ c.if-contains.true in
+    rw covered (c.breaks.ensures head held sound)
+
+pub returns : goal.returns
+unfolding breaks
+returns c head held sound =
+    let test = c.contains in
+    let users = c.covered_users in
+    let a = c.args in
+    let covered : covers_user head a.rule.now a.user ≡ false =
+    sym
+    (covered_test head a.user users.result test.result sound.users test.ensures a.rule.now
+    (users.ensures head held))
+    ∙ c.if-contains.false in
+    rw covered
