@@ -5,6 +5,8 @@
 // and the hold record, are equations with definitions of specs/Answers.antt; what holds after every list
 // of calls is specs/Demand.antt, and what two lists that are alike for a user give him is
 // specs/Alike.antt.
+#![tactic(auto)]
+
 pub mod asking; // Ask, with tally and hold record by value
 pub mod counts; // the counts of a user
 pub mod places; // the places of the hold record
@@ -17,7 +19,7 @@ pub use settling::{commit, drop_hold};
 
 // How many plans were admitted, declined and dropped, for each user number.
 #[repr(C)]
-#[derive(Drop)]
+#[derive(Clone, Copy)]
 pub struct Tally {
     pub admitted: [u32; 32],
     pub declined: [u32; 32],
@@ -27,7 +29,7 @@ pub struct Tally {
 // Eight places, each with a user, the number of his hold and 32 words. A place is empty when its number
 // is 0.
 #[repr(C)]
-#[derive(Drop)]
+#[derive(Clone, Copy)]
 pub struct Holds {
     pub users: [u32; 8],
     pub numbers: [u32; 8],
@@ -36,7 +38,7 @@ pub struct Holds {
 
 // What the calls reply: an ask that is held the number, one that is declined the mask of the rules that
 // its plan breaks together with its user's words and held plans, committing and dropping the number given.
-#[derive(Drop)]
+#[derive(Clone, Copy)]
 pub enum Reply {
     Held(u32),
     Declined(u32),
