@@ -82,7 +82,7 @@ pub fn accepted_third(t: &[u64], r: u8, n: u8, a: usize, y: usize) -> u64
 }
 
 // For each reference of a rule the operations that break it there.
-#[derive(Drop)]
+#[derive(Clone, Copy)]
 pub struct Masks {
     pub first: u64,
     pub second: u64,

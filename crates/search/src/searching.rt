@@ -14,7 +14,7 @@ use crate::sifting::{Remaining, sift};
 use book::sets::word_at;
 
 // The first three places; or the rules that took places away, and which of them did so last.
-#[derive(Drop)]
+#[derive(Clone, Copy)]
 pub enum Sought {
     Found {
         first: usize,

@@ -8,7 +8,7 @@ use crate::places::{is_empty, lowest, same};
 use book::sets::{below, contains, single};
 
 // What remains of a set of places; the rules that took some away, and which of them did so last.
-#[derive(Drop)]
+#[derive(Clone, Copy)]
 pub struct Remaining {
     pub places: [u64; 33],
     pub rules: u64,

@@ -9,7 +9,7 @@ use crate::searching::{Sought, search};
 use book::sets::{contains, single, word_if};
 
 // Nobody; or the first user, and the three places of its first choice.
-#[derive(Drop)]
+#[derive(Clone, Copy)]
 pub enum Needs {
     Nobody,
     User {

@@ -11,7 +11,7 @@ use crate::sifting::Remaining;
 use crate::users::{Needs, others};
 
 // The first three places of some kind, or that there are none.
-#[derive(Drop)]
+#[derive(Clone, Copy)]
 pub enum FirstPlaces {
     NoPlaces,
     At {
@@ -23,7 +23,7 @@ pub enum FirstPlaces {
 
 // The places that can be chosen for each reference, less what breaks a rule by itself; and which
 // rule took last.
-#[derive(Drop)]
+#[derive(Clone, Copy)]
 pub struct Sets {
     pub firsts: [u64; 33],
     pub seconds: [u64; 33],

@@ -1,0 +1,11 @@
+-- Every two words passed are equal. Assumes nothing.
+use Prim.Native.Nat.{ℕ, ◌≤◌, ◌<◌, ◌-◌}
+use mathlib.Core.Path.{◌≡◌}
+use lib.ListN.{get_or}
+use Rattle.search.proofs.places.same.Given as goal
+
+abbrev pub invariant-loop-w : goal.invariant-loop-w
+invariant-loop-w l = (l.w ≤ 33) × ((k : ℕ) → k < l.w → get_or l.a k 0 ≡ get_or l.b k 0)
+
+abbrev pub decreases-loop-w : goal.decreases-loop-w
+decreases-loop-w l = 33 - l.w

@@ -1,0 +1,10 @@
+-- Each turn takes one rule off those that wait (`Sieving`), which makes that word smaller. Assumes nothing.
+use Rattle.search.proofs.Sieves.{Sieving}
+use borrow.Author.Rules.{rules}
+use Rattle.search.proofs.sifting.sift.Given as goal
+
+abbrev pub invariant-loop-waiting : goal.invariant-loop-waiting
+invariant-loop-waiting l = Sieving l.t l.rules l.b l.c l.initial.rest l.rest l.waiting
+
+abbrev pub decreases-loop-waiting : goal.decreases-loop-waiting
+decreases-loop-waiting l = l.waiting
