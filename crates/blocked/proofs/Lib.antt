@@ -13,6 +13,7 @@ pub mod TripleLaws
 pub mod UserLaws
 pub mod AssociationLaws
 pub mod Lifting
+pub mod TrialCases
 pub mod TrialLaws
 pub mod FewLaws
 pub mod DroppingLaws

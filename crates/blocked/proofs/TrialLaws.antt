@@ -15,6 +15,7 @@ use Rattle.lineage.proofs.Words.{word_of_law, word_more}
 use Rattle.search.specs.Inner.Closing.{Within}
 use Rattle.search.proofs.Solutions.{fails}
 use Rattle.blocked.specs.Few.{after_trials, without}
+use Rattle.blocked.proofs.TrialCases.{by_trial}
 
 -- Rules less one
 
@@ -74,28 +75,12 @@ holds true h = refl
 holds false h = absurd (h refl)
 
 module _ (passes : (ℕ → Bool) → Bool) where
-  -- a rule is dropped, or not
-  pub by_trial :
-      (P : (ℕ → Bool) → Type 0) (k : ℕ) (left : ℕ → Bool)
-      → (passes (without left k) ≡ true → P (after_trials passes k (without left k)))
-      → (passes (without left k) ≡ false → P (after_trials passes k left))
-      → P (after_trials passes (suc k) left)
-  unfolding after_trials
-  by_trial P k left gone kept = go (passes (without left k)) refl
-    where
-      go :
-          (b : Bool)
-          → passes (without left k) ≡ b
-          → P (cond b (after_trials passes k (without left k)) (after_trials passes k left))
-      go true e = gone e
-      go false e = kept e
-
   pub trial_gone :
       (k : ℕ) (left : ℕ → Bool)
       → passes (without left k) ≡ true
       → after_trials passes (suc k) left ≡ after_trials passes k (without left k)
   trial_gone k left h =
-      by_trial (λ rest. rest ≡ after_trials passes k (without left k)) k left (λ e. refl)
+      by_trial passes (λ rest. rest ≡ after_trials passes k (without left k)) k left (λ e. refl)
       (λ e. absurd (false≢true (sym e ∙ h)))
 
   pub trial_kept :
@@ -103,13 +88,13 @@ module _ (passes : (ℕ → Bool) → Bool) where
       → passes (without left k) ≡ false
       → after_trials passes (suc k) left ≡ after_trials passes k left
   trial_kept k left h =
-      by_trial (λ rest. rest ≡ after_trials passes k left) k left (λ e. absurd (false≢true (sym h ∙ e))) (λ e. refl)
+      by_trial passes (λ rest. rest ≡ after_trials passes k left) k left (λ e. absurd (false≢true (sym h ∙ e))) (λ e. refl)
 
   pub trials_within : (n : ℕ) (left : ℕ → Bool) → Within (after_trials passes n left) left
   unfolding after_trials
   trials_within zero left = λ q h. h
   trials_within (suc k) left =
-      by_trial (λ rest. Within rest left) k left
+      by_trial passes (λ rest. Within rest left) k left
       (λ e q h. without_within left k q (trials_within k (without left k) q h))
       (λ e. trials_within k left)
 
@@ -118,7 +103,7 @@ module _ (passes : (ℕ → Bool) → Bool) where
   unfolding after_trials
   trials_keep zero left q l = refl
   trials_keep (suc k) left q l =
-      by_trial (λ rest. rest q ≡ left q) k left
+      by_trial passes (λ rest. rest q ≡ left q) k left
       (λ e. trials_keep k (without left k) q (omega arith) ∙ without_kept left k q (λ same. omega arith))
       (λ e. trials_keep k left q (omega arith))
 
@@ -126,13 +111,13 @@ module _ (passes : (ℕ → Bool) → Bool) where
   unfolding after_trials
   trials_pass zero left h = h
   trials_pass (suc k) left h =
-      by_trial (λ rest. passes rest ≡ true) k left (λ e. trials_pass k (without left k) e) (λ e. trials_pass k left h)
+      by_trial passes (λ rest. passes rest ≡ true) k left (λ e. trials_pass k (without left k) e) (λ e. trials_pass k left h)
 
   -- the trial of a rule that is not there changes nothing
   pub trial_absent :
       (q : ℕ) (left : ℕ → Bool) → left q ≡ false → after_trials passes (suc q) left ≡ after_trials passes q left
   trial_absent q left none =
-      by_trial (λ rest. rest ≡ after_trials passes q left) q left
+      by_trial passes (λ rest. rest ≡ after_trials passes q left) q left
       (λ e. ap (after_trials passes q) (without_absent left q none))
       (λ e. refl)
 
@@ -158,7 +143,7 @@ module _ (passes : (ℕ → Bool) → Bool) where
         → passes (without (after_trials passes n left) q) ≡ false
     trials_need zero left q l = absurd (omega arith)
     trials_need (suc k) left q l =
-        by_trial (λ rest. rest q ≡ true → passes (without rest q) ≡ false) k left
+        by_trial passes (λ rest. rest q ≡ true → passes (without rest q) ≡ false) k left
         (λ e h.
         ⊎_elim (λ low. trials_need k (without left k) q low h)
         (λ same. absurd (without_other left k q (trials_within k (without left k) q h) same))
@@ -183,7 +168,7 @@ module _ (passes : (ℕ → Bool) → Bool) where
     unfolding word_of up_to from
     trials_least zero left other within same h = omega arith
     trials_least (suc k) left other within same h =
-        by_trial (λ rest. word_of rest (up_to (suc k)) ≤ word_of other (up_to (suc k))) k left
+        by_trial passes (λ rest. word_of rest (up_to (suc k)) ≤ word_of other (up_to (suc k))) k left
         (λ e.
         let rest = after_trials passes k (without left k) in
         let gone : rest k ≡ false = trials_keep k (without left k) k (omega arith) ∙ without_gone left k in

@@ -48,7 +48,7 @@ fn test_blocked(book: &[u8], head: &[u64], rule: u32) -> Tested
 
 // What a search starts from, beside the tables: all rules, the scope of the rule asked about, and the users
 // that each rule covers.
-#[derive(Drop)]
+#[derive(Clone, Copy)]
 pub struct Start {
     pub all: u64,
     pub scope: Scope,

@@ -10,7 +10,7 @@ use crate::searching::{Scope, closed_third};
 use book::sets::{contains, single};
 
 // Rules that close the cells; and where to look first.
-#[derive(Drop)]
+#[derive(Clone, Copy)]
 pub struct Kept {
     pub rules: u64,
     pub hint: u8,

@@ -2,6 +2,8 @@
 //
 // No function has a `requires`. What Blocked and Culprits answer is an equation with a definition of
 // specs/Answers.antt; what it means is specs/Demand.antt and specs/Minimal.antt.
+#![tactic(auto)]
+
 pub mod calls; // Blocked and Culprits
 pub mod cells; // places of one action and leaf
 pub mod dropping; // the few rules that close three cells
@@ -14,7 +16,7 @@ use book::Refusal;
 pub use calls::{blocked, culprits};
 
 // What Blocked answers: a user, and for each reference 128 + 64 × action + leaf, 0 for an absent one.
-#[derive(Drop)]
+#[derive(Clone, Copy)]
 pub enum Blocking {
     Open,
     Closed {
@@ -28,7 +30,7 @@ pub enum Blocking {
 
 // What Culprits answers: a mask of the other rules that, together with the rule asked about, close the
 // association that Blocked gives.
-#[derive(Drop)]
+#[derive(Clone, Copy)]
 pub enum Causes {
     Unblocked,
     Few(u32),

@@ -12,7 +12,7 @@ use search::tables::spread;
 
 // What is left of the third places, by whole cells; and where to look first: at the place of the
 // first cell that was the first to open something. No promise speaks of it.
-#[derive(Drop)]
+#[derive(Clone, Copy)]
 pub struct Row {
     pub places: [u64; 33],
     pub hint: u8,

@@ -8,7 +8,7 @@ use crate::rows::{Row, closed_row};
 use search::places::first_from;
 
 // The places that can be chosen for each reference of the rule asked about, absent ones first.
-#[derive(Drop)]
+#[derive(Clone, Copy)]
 pub struct Scope {
     pub firsts: [u64; 33],
     pub seconds: [u64; 33],
@@ -16,7 +16,7 @@ pub struct Scope {
 }
 
 // The first third cell that is closed, or past all of them; and where to look first.
-#[derive(Drop)]
+#[derive(Clone, Copy)]
 pub struct Third {
     pub cell: usize,
     pub hint: u8,

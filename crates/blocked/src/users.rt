@@ -18,7 +18,7 @@ use book::sets::{single, word_if};
 use search::users::covers;
 
 // Nobody; or the first user, and the three cells of its first association.
-#[derive(Drop)]
+#[derive(Clone, Copy)]
 pub enum Denied {
     Nobody,
     User {
@@ -30,7 +30,7 @@ pub enum Denied {
 }
 
 // A set of rules that leaves a row open; and where to look first.
-#[derive(Drop)]
+#[derive(Clone, Copy)]
 pub struct Opening {
     pub rules: u64,
     pub hint: u8,
@@ -38,7 +38,7 @@ pub struct Opening {
 
 // What is known of a row: sets of rules that leave it open, the first third cell that is closed to the
 // user asked about last, and where to look first.
-#[derive(Drop)]
+#[derive(Clone, Copy)]
 pub struct Asking {
     pub third: usize,
     pub opened: [u64; 33],
@@ -46,7 +46,7 @@ pub struct Asking {
 }
 
 // The first user to whom a row is closed, and the rest as above.
-#[derive(Drop)]
+#[derive(Clone, Copy)]
 pub struct InRow {
     pub user: u8,
     pub third: usize,
@@ -57,7 +57,7 @@ pub struct InRow {
 // The first user to whom the rows so far are closed, 32 where there is none, and the three cells. Each
 // user has a set of rules that it is tried with, and all users have one: no promise speaks of these,
 // nor of the hint.
-#[derive(Drop)]
+#[derive(Clone, Copy)]
 pub struct Asked {
     pub user: u8,
     pub first: usize,
