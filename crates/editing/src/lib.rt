@@ -4,6 +4,8 @@
 // No function has a `requires`. What the two calls reply, and what they leave in the blocks, the number
 // of rules and the mask, are equations with definitions of specs/Answers.antt; what the marks mean, and
 // what holds after every list of edits, is specs/Demand.antt.
+#![tactic(auto)]
+
 pub mod edits; // Arrive and Depart
 pub mod laying; // bytes laid one behind the other
 pub mod marking; // which rules are idle
@@ -12,7 +14,7 @@ use book::Refusal;
 pub use edits::{arrive, depart};
 
 // What an edit replies: the new mask, bit r for rule r.
-#[derive(Drop)]
+#[derive(Clone, Copy)]
 pub enum Edited {
     Marks(u32),
     Refused(Refusal),
