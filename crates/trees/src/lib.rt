@@ -2,6 +2,8 @@
 //
 // No function has a `requires`. What Tree answers and leaves in the buffer are equations with
 // definitions of specs/Answers.antt; what the text in the buffer is, specs/Demand.antt.
+#![tactic(auto)]
+
 mod drawing; // Tree
 mod lines; // a tree's text
 mod walking; // a tree's nodes, by the walk of an Apply and the walk of a Choose
@@ -10,7 +12,7 @@ use book::Refusal;
 pub use drawing::tree;
 
 // What Tree answers: the nodes, which are the lines written, and the text's length in bytes.
-#[derive(Drop)]
+#[derive(Clone, Copy)]
 pub enum Drawn {
     Written { nodes: u32, length: u32 },
     Refused(Refusal),

@@ -1,0 +1,23 @@
+-- By the row's first byte. Assumes nothing.
+use Rattle.trees.specs.Text.{kind_word}
+use Rattle.lineage.specs.Rows.{kind_of}
+use Rattle.trees.proofs.LineLaws.{word_as, word_none}
+use borrow.Author.Rules.{rules}
+use Rattle.trees.proofs.lines.word_length.Goals as goal
+
+pub returns-in-1 : goal.returns-in-1
+unfolding kind_word kind_of
+returns-in-1 c = (rw (word_as _ _ c.kind-kind.result c.kind-kind.ensures.0, c.in-1.is), search rules)
+
+pub returns-in-2 : goal.returns-in-2
+unfolding kind_word kind_of
+returns-in-2 c = (rw (word_as _ _ c.kind-kind.result c.kind-kind.ensures.0, c.in-2.is), search rules)
+
+pub returns-in-3 : goal.returns-in-3
+unfolding kind_word kind_of
+returns-in-3 c = (rw (word_as _ _ c.kind-kind.result c.kind-kind.ensures.0, c.in-3.is), search rules)
+
+pub returns-in_default : goal.returns-in_default
+returns-in_default c =
+    let k = c.kind-kind in
+    (rw (word_as _ _ k.result k.ensures.0, word_none k.result c.in_default.in_default-own.rest.0.0.1 c.in_default.in_default-own.rest.0.1 c.in_default.in_default-own.rest.1), search rules)
