@@ -4,4 +4,3 @@ pub mod PackedLaws
 pub mod Unpacking
 pub mod Headline
 pub mod Edits
-pub mod RecordSteps

@@ -2,6 +2,8 @@
 // numbers of Judge, Idle, Blocked, Culprits, Ask, Commit, Drop, Arrive, Depart and Tree mean is
 // specs/Demands.antt. A slice is a pointer and a length in elements, a record or an array a pointer.
 // No call asks anything of the bytes or the numbers it is given.
+#![tactic(auto)]
+
 ghost use Rattle.std.specs.Prelude.{◌≡◌, ◌<◌};
 ghost use Rattle.book.specs.Answers.{check_answer, seal_answer, seal_bytes};
 ghost use Rattle.lineage.specs.Answers.{flows_answer, flows_words};
