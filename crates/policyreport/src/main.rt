@@ -1,85 +1,84 @@
 // The report: reads small.book and prints one line a rule, idle or the first user and plan that
 // break it alone.
+#![tactic(auto)]
+
 use book::bytes::part;
 use book::{Checked, Refusal, check};
-use libc::STDOUT_FILENO;
 use search::{Idleness, idle};
+use std::io::Read;
+use std::{fs, io};
 
-fn text(bytes: &[u8]) {
-    io::write_all(STDOUT_FILENO, bytes);
-}
-
-fn number(n: u32) {
-    io::print_decimal(STDOUT_FILENO, n as u64);
-}
-
-// One hexadecimal digit, lower case.
-fn digit(n: u8) {
-    let at = (n % 16) as usize;
-    text(part(b"0123456789abcdef", at, 1));
-}
-
-// Byte i of a plan as two digits, with a space before each row.
-fn byte(plan: &[u8], i: usize) {
+// Byte i of a plan as two hexadecimal digits, lower case, with a space before each row.
+fn byte(rt: &impl Print, plan: &[u8], i: usize) -> io::Result<()> {
     if i < plan.len() {
         if i % 4 == 0 {
-            text(b" ");
+            print!(rt; " ")?;
         }
-        digit(plan[i] / 16);
-        digit(plan[i] % 16);
+        print!(rt; "{:02x}", plan[i])?;
     }
+    Ok(())
 }
 
 // The rows of a plan, eight hexadecimal digits each.
-fn rows(plan: &[u8]) {
+fn rows(rt: &impl Print, plan: &[u8]) -> io::Result<()> {
     for i in 0..plan.len() {
-        byte(plan, i);
+        byte(rt, plan, i)?;
     }
+    Ok(())
 }
 
 // The line of a rule.
-fn line(book: &[u8], rule: u32) {
+fn line(rt: &impl Print, book: &[u8], rule: u32) -> io::Result<()> {
     let mut plan = [0u8; 36];
     let answer = idle(book, rule, &mut plan);
-    text(b"rule ");
-    number(rule);
+    print!(rt; "rule {rule}")?;
     match answer {
-        Idleness::Idle => text(b" idle"),
+        Idleness::Idle => print!(rt; " idle")?,
         Idleness::Needed { user, rows: count } => {
-            text(b" user ");
-            number(user);
-            text(b" plan");
-            rows(part(&plan, 0, 4 * (count as usize)));
+            print!(rt; " user {user} plan")?;
+            rows(rt, part(&plan, 0, 4 * (count as usize)))?;
         }
-        Idleness::Refused(_) => text(b" refused"),
+        Idleness::Refused(_) => print!(rt; " refused")?,
     }
-    text(b"\n");
+    println!(rt)
 }
 
-fn refused(refusal: Refusal) {
-    text(b"refused ");
-    number(refusal.number);
-    text(b" block ");
-    number(refusal.place);
-    text(b"\n");
+fn refused(rt: &impl Print, refusal: Refusal) -> io::Result<()> {
+    println!(rt; "refused {} block {}", refusal.number, refusal.place)
 }
 
-fn report(book: &[u8]) {
+fn report(rt: &impl Print, book: &[u8]) -> io::Result<()> {
     match check(book) {
-        Checked::Refused(refusal) => refused(refusal),
+        Checked::Refused(refusal) => refused(rt, refusal),
         Checked::Accepted(n) => {
             for r in 0..n {
-                line(book, r);
+                line(rt, book, r)?;
             }
+            Ok(())
         }
     }
 }
 
-fn main() {
+// Reads into the buffer until it is full or the input ends, and answers how many bytes that were.
+fn fill(input: &mut impl Read, buffer: &mut [u8]) -> io::Result<usize> {
+    let mut filled = 0usize;
+    while filled < buffer.len() {
+        let count = input.read(&mut buffer[filled..])?;
+        if count == 0 {
+            break;
+        }
+        filled += count;
+    }
+    Ok(filled)
+}
+
+fn main(rt: HostRuntime) -> io::Result<()> {
     // one byte more than the longest book: a longer file is refused for its length
     let mut bytes = [0u8; 18433];
-    let file = os::open_read(b"small.book");
-    let n = io::read_full(file, &mut bytes);
-    libc::close(file);
-    report(&bytes[..n]);
+    let length = match fs::open(&rt, "small.book") {
+        Ok(mut file) => fill(&mut file, &mut bytes)?,
+        // a file that can't be opened counts as empty
+        Err(_) => 0,
+    };
+    report(&rt, part(&bytes, 0, length))
 }

@@ -1,7 +1,6 @@
 // The accesses among 32 words, laid out as in Flows, as text.
 use crate::answers::{Answer, say};
 use book::sets::word_at;
-use std::num::wrapping_add_usize;
 
 // An access as text: p for projection or c for condition, the leaf and the operation.
 fn named(answer: Answer, n: usize) -> Answer {
@@ -15,7 +14,7 @@ fn named(answer: Answer, n: usize) -> Answer {
 // With access n, where it is among the words from start on: projections come first, then all goes by
 // leaf, then by operation.
 fn with_access(answer: Answer, words: &[u64], start: usize, n: usize) -> Answer {
-    let word = word_at(words, wrapping_add_usize(start, n / 1024 * 16 + n % 16));
+    let word = word_at(words, start.wrapping_add(n / 1024 * 16 + n % 16));
     if (word >> (n / 16 % 64)) % 2 == 0 {
         return answer;
     }

@@ -2,9 +2,10 @@
 use crate::text::same;
 use book::Refusal;
 use book::bytes::part;
-use libc::STDOUT_FILENO;
+use std::fmt::Write;
+use std::{fmt, io};
 
-#[derive(Drop)]
+#[derive(Clone, Copy)]
 pub struct Answer {
     bytes: [u8; 512],
     length: usize,
@@ -49,17 +50,15 @@ impl Answer {
         answer
     }
 
-    pub fn number(self, n: u64) -> Answer {
-        let mut digits = [0u8; 20];
-        let count = io::decimal(n, &mut digits);
-        self.text(&digits[..count])
+    pub fn number(mut self, n: u64) -> Answer {
+        let _ = write!(self, "{n}");
+        self
     }
 
     // A byte as two hexadecimal digits.
-    pub fn hex(self, byte: u8) -> Answer {
-        let mut digits = [0u8; 16];
-        let count = io::hex(byte as u64, 2, &mut digits);
-        self.text(&digits[..count])
+    pub fn hex(mut self, byte: u8) -> Answer {
+        let _ = write!(self, "{byte:02x}");
+        self
     }
 
     // What the place of a refusal is called: a block for the book, a row for 22.
@@ -100,8 +99,16 @@ impl Answer {
         (length < 512) & same(part(&bytes, 0, length), text)
     }
 
-    pub fn print(self) {
+    pub fn print(self, rt: &impl Print) -> io::Result<()> {
         let bytes = self.bytes;
-        io::write_all(STDOUT_FILENO, part(&bytes, 0, self.length));
+        rt.write_all(part(&bytes, 0, self.length))
+    }
+}
+
+// Formatted text goes behind what the answer has. It never fails.
+impl Write for Answer {
+    fn write_str(&mut self, s: &str) -> fmt::Result {
+        *self = self.text(s.as_bytes());
+        Ok(())
     }
 }

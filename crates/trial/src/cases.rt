@@ -12,9 +12,11 @@ use crate::{
     reading, records, reserving, sealing,
 };
 use book::bytes::{byte_at, part};
-use std::num::wrapping_add_u64;
+use std::io::Read;
+use std::rt::Files;
+use std::{fs, io};
 
-#[derive(Drop)]
+#[derive(Clone, Copy)]
 pub enum Call {
     Check,
     Seal,
@@ -36,7 +38,7 @@ pub enum Call {
     Readers,
 }
 
-#[derive(Drop)]
+#[derive(Clone, Copy)]
 struct Count {
     cases: u64,
     right: u64,
@@ -164,31 +166,37 @@ fn tried(call: Call, common: &[u8], parts: &[u8], records: &mut [u64]) -> Answer
     }
 }
 
-fn report(label: &[u8], expected: &[u8], answer: Answer) {
+fn report(rt: &impl Print, label: &[u8], expected: &[u8], answer: Answer) -> io::Result<()> {
     say(label)
         .text(b"- expected")
         .text(expected)
         .text(b", answered")
-        .print();
-    answer.text(b"\n").print();
+        .print(rt)?;
+    answer.text(b"\n").print(rt)
 }
 
 // Whether the case answers what it expects.
-fn holds(call: Call, common: &[u8], line: &[u8], records: &mut [u64]) -> bool {
+fn holds(
+    rt: &impl Print,
+    call: Call,
+    common: &[u8],
+    line: &[u8],
+    records: &mut [u64],
+) -> io::Result<bool> {
     let case = before(line, b'=');
     let expected = after(line, b'=');
     let answer = tried(call, common, after(case, b'|'), records);
     if answer.is(expected) {
-        return true;
+        return Ok(true);
     }
-    report(before(case, b'|'), expected, answer);
-    false
+    report(rt, before(case, b'|'), expected, answer)?;
+    Ok(false)
 }
 
 fn counted(count: Count, right: bool) -> Count {
     Count {
-        cases: wrapping_add_u64(count.cases, 1),
-        right: wrapping_add_u64(count.right, right as u64),
+        cases: count.cases.wrapping_add(1),
+        right: count.right.wrapping_add(right as u64),
         common: count.common,
     }
 }
@@ -202,43 +210,52 @@ fn set_records(call: Call, common: &[u8], text: &[u8], records: &mut [u64]) -> b
 
 // A line of records that is malformed counts as a case that fails.
 fn with_records(
+    rt: &impl Print,
     count: Count,
     call: Call,
     common: &[u8],
     line: &[u8],
     records: &mut [u64],
-) -> Count {
+) -> io::Result<Count> {
     if set_records(call, common, after(line, b'@'), records) {
-        return count;
+        return Ok(count);
     }
-    report(line, b" records", malformed());
-    counted(count, false)
+    report(rt, line, b" records", malformed())?;
+    Ok(counted(count, false))
 }
 
-fn line_at(count: Count, call: Call, file: &[u8], i: usize, records: &mut [u64]) -> Count {
+fn line_at(
+    rt: &impl Print,
+    count: Count,
+    call: Call,
+    file: &[u8],
+    i: usize,
+    records: &mut [u64],
+) -> io::Result<Count> {
     if !starts(file, i, b'\n') {
-        return count;
+        return Ok(count);
     }
     let line = piece(file, i, b'\n');
     let mark = byte_at(line, 0) as u8;
     if (line.len() == 0) | (mark == b'#') {
-        return count;
+        return Ok(count);
     }
     if mark == b'+' {
-        return Count {
+        return Ok(Count {
             cases: count.cases,
             right: count.right,
             common: i,
-        };
+        });
     }
     let common = after(piece(file, count.common, b'\n'), b'+');
     if mark == b'@' {
-        return with_records(count, call, common, line, records);
+        return with_records(rt, count, call, common, line, records);
     }
-    counted(count, holds(call, common, line, records))
+    let right = holds(rt, call, common, line, records)?;
+    Ok(counted(count, right))
 }
 
-fn count_of(call: Call, file: &[u8]) -> Count {
+fn count_of(rt: &impl Print, call: Call, file: &[u8]) -> io::Result<Count> {
     let mut count = Count {
         cases: 0,
         right: 0,
@@ -246,31 +263,42 @@ fn count_of(call: Call, file: &[u8]) -> Count {
     };
     let mut records = [0u64; 2480];
     for i in 0..file.len() {
-        let next = line_at(count, call, file, i, &mut records);
-        count = next;
+        count = line_at(rt, count, call, file, i, &mut records)?;
     }
-    count
+    Ok(count)
 }
 
-fn print_count(name: &[u8], count: Count) {
-    say(name)
-        .text(b": ")
-        .number(count.cases)
-        .text(b" cases, ")
-        .number(count.right)
-        .text(b" as expected\n")
-        .print();
+fn print_count(rt: &impl Print, name: &str, count: Count) -> io::Result<()> {
+    println!(rt;
+        "{name}: {} cases, {} as expected",
+        count.cases, count.right
+    )
+}
+
+// Reads into the buffer until it is full or the input ends, and answers how many bytes that were.
+fn fill(input: &mut impl Read, buffer: &mut [u8]) -> io::Result<usize> {
+    let mut filled = 0usize;
+    while filled < buffer.len() {
+        let count = input.read(&mut buffer[filled..])?;
+        if count == 0 {
+            break;
+        }
+        filled += count;
+    }
+    Ok(filled)
 }
 
 // A file that fills the room may go on.
-pub fn try_file(call: Call, name: &[u8]) {
-    let mut room = io::large_buffer();
-    let file = os::open_read(name);
-    let n = io::read_full(file, &mut room);
-    libc::close(file);
-    if 65535 < n {
-        say(name).text(b": too long\n").print();
-        return;
+pub fn try_file<R: Files + Print>(rt: &R, call: Call, name: &str) -> io::Result<()> {
+    let mut room = [0u8; 65536];
+    let length = match fs::open(rt, name) {
+        Ok(mut file) => fill(&mut file, &mut room)?,
+        // a file that can't be opened counts as empty
+        Err(_) => 0,
+    };
+    if 65535 < length {
+        return println!(rt; "{name}: too long");
     }
-    print_count(name, count_of(call, &room[..n]));
+    let count = count_of(rt, call, part(&room, 0, length))?;
+    print_count(rt, name, count)
 }

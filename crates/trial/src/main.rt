@@ -1,6 +1,8 @@
 // Tries the calls on books, blocks and plans of every kind. The cases are data, with the answers
 // that are worked out from documents 01 and 02 beside them; a case that answers something else gets
 // a line, and each file one with its counts.
+#![tactic(auto)]
+
 mod accesses; // accesses as text
 mod answers; // answers as text
 mod blocking; // Blocked
@@ -25,21 +27,23 @@ mod text; // parts of a text
 mod words; // reading and writing words
 
 use cases::{Call, try_file};
+use std::io;
 
-fn main() {
-    try_file(Call::Check, b"check.cases");
-    try_file(Call::Seal, b"seal.cases");
-    try_file(Call::Flows, b"flows.cases");
-    try_file(Call::Judge, b"judge.cases");
-    try_file(Call::Idle, b"idle.cases");
-    try_file(Call::Blocked, b"blocked.cases");
-    try_file(Call::Culprits, b"culprits.cases");
-    try_file(Call::Reserve, b"ledger.cases");
-    try_file(Call::Reserve, b"tally.cases");
-    try_file(Call::Reserve, b"holds.cases");
-    try_file(Call::Reserve, b"records.cases");
-    try_file(Call::Reserve, b"refusals.cases");
-    try_file(Call::Edit, b"edits.cases");
-    try_file(Call::Tree, b"tree.cases");
-    try_file(Call::Readers, b"readers.cases");
+fn main(rt: HostRuntime) -> io::Result<()> {
+    try_file(&rt, Call::Check, "check.cases")?;
+    try_file(&rt, Call::Seal, "seal.cases")?;
+    try_file(&rt, Call::Flows, "flows.cases")?;
+    try_file(&rt, Call::Judge, "judge.cases")?;
+    try_file(&rt, Call::Idle, "idle.cases")?;
+    try_file(&rt, Call::Blocked, "blocked.cases")?;
+    try_file(&rt, Call::Culprits, "culprits.cases")?;
+    try_file(&rt, Call::Reserve, "ledger.cases")?;
+    try_file(&rt, Call::Reserve, "tally.cases")?;
+    try_file(&rt, Call::Reserve, "holds.cases")?;
+    try_file(&rt, Call::Reserve, "records.cases")?;
+    try_file(&rt, Call::Reserve, "refusals.cases")?;
+    try_file(&rt, Call::Edit, "edits.cases")?;
+    try_file(&rt, Call::Tree, "tree.cases")?;
+    try_file(&rt, Call::Readers, "readers.cases")?;
+    Ok(())
 }

@@ -2,7 +2,7 @@
 // More than five, or something else than numbers.
 const MALFORMED: usize = 6;
 
-#[derive(Drop)]
+#[derive(Clone, Copy)]
 pub struct Numbers {
     values: [u32; 5],
     // How many there are, or MALFORMED.

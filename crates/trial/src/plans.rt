@@ -6,11 +6,10 @@ use crate::numbers;
 use crate::numbers::Numbers;
 use crate::spaces::{Space, zeros};
 use crate::text::{after, before, piece, starts};
-use std::num::wrapping_add_usize;
 
 // Writes byte k of a row and of those that repeat it.
 fn with_bytes(plan: Space, k: usize, row: Numbers, step: u32, times: u32) -> Space {
-    let start = wrapping_add_usize(plan.length, k);
+    let start = plan.length.wrapping_add(k);
     plan.put_times(start, 4, row.number(k), step, times)
 }
 

@@ -15,7 +15,6 @@ use crate::text::{after, before, piece, starts};
 use crate::words::put_word;
 use book::sets::word_at;
 use ledger::{Holds, Tally};
-use std::num::wrapping_add_usize;
 
 // Where the counts start.
 pub const ADMITTED: usize = 2112;
@@ -35,7 +34,7 @@ pub const NUMBERS: usize = 2472;
 fn counts_in(records: &[u64], start: usize) -> [u32; 32] {
     let mut counts = [0u32; 32];
     for i in 0..32usize {
-        let word = word_at(records, wrapping_add_usize(start, i));
+        let word = word_at(records, start.wrapping_add(i));
         counts[i] = (word % 4294967296) as u32;
     }
     counts
@@ -43,7 +42,7 @@ fn counts_in(records: &[u64], start: usize) -> [u32; 32] {
 
 fn put_counts(records: &mut [u64], start: usize, counts: [u32; 32]) {
     for i in 0..32usize {
-        put_word(records, wrapping_add_usize(start, i), counts[i] as u64);
+        put_word(records, start.wrapping_add(i), counts[i] as u64);
     }
 }
 
@@ -71,7 +70,7 @@ pub fn put_tally(records: &mut [u64], tally: Tally) {
 fn eight_in(records: &[u64], start: usize) -> [u32; 8] {
     let mut eight = [0u32; 8];
     for i in 0..8usize {
-        let word = word_at(records, wrapping_add_usize(start, i));
+        let word = word_at(records, start.wrapping_add(i));
         eight[i] = (word % 4294967296) as u32;
     }
     eight
@@ -79,7 +78,7 @@ fn eight_in(records: &[u64], start: usize) -> [u32; 8] {
 
 fn put_eight(records: &mut [u64], start: usize, eight: [u32; 8]) {
     for i in 0..8usize {
-        put_word(records, wrapping_add_usize(start, i), eight[i] as u64);
+        put_word(records, start.wrapping_add(i), eight[i] as u64);
     }
 }
 
@@ -148,7 +147,7 @@ fn join_times(records: &mut [u64], start: usize, times: u32, word: u64) {
     let mut at = start;
     for _ in 0..times {
         put_word(records, at, word_at(records, at) | word);
-        at = wrapping_add_usize(at, 1);
+        at = at.wrapping_add(1);
     }
 }
 
@@ -172,7 +171,7 @@ fn set_bits_at(records: &mut [u64], first: usize, words: u64, text: &[u8], i: us
         return false;
     }
     let word = bits(named.number(1), named.or(2, 1));
-    let start = wrapping_add_usize(first, named.number(0) as usize);
+    let start = first.wrapping_add(named.number(0) as usize);
     join_times(records, start, named.or(3, 1), word);
     true
 }
@@ -191,7 +190,7 @@ fn put_times(records: &mut [u64], start: usize, times: u32, number: u32) {
     let mut at = start;
     for _ in 0..times {
         put_word(records, at, number as u64);
-        at = wrapping_add_usize(at, 1);
+        at = at.wrapping_add(1);
     }
 }
 

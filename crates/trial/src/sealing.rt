@@ -9,7 +9,7 @@ use crate::text::same;
 use book::bytes::{byte_at, part};
 use book::{Checked, Sealed, check, seal};
 
-#[derive(Drop)]
+#[derive(Clone, Copy)]
 struct Outcome {
     sealed: Sealed,
     bytes: [u8; 18944],

@@ -1,7 +1,6 @@
 // Bytes in which a book or a plan is built. Nothing here writes past their end.
-use std::num::{wrapping_add_u32, wrapping_add_usize};
 
-#[derive(Drop)]
+#[derive(Clone, Copy)]
 pub struct Space {
     // 37 blocks: one more than the longest book.
     pub bytes: [u8; 18944],
@@ -47,14 +46,14 @@ impl Space {
         for _ in 0..times {
             let next = space.put(at, value);
             space = next;
-            at = wrapping_add_usize(at, stride);
-            value = wrapping_add_u32(value, step);
+            at = at.wrapping_add(stride);
+            value = value.wrapping_add(step);
         }
         space
     }
 
     pub fn longer(mut self, by: usize) -> Space {
-        self.length = wrapping_add_usize(self.length, by);
+        self.length = self.length.wrapping_add(by);
         self
     }
 
