@@ -1,8 +1,8 @@
 #!/usr/bin/env bash
-# All tests. Every crate is proved from nothing, each must-fail edit is refused, and what the programs
-# print is compared with what they should (rt ci). Then, over the proved engine: the report's refusals,
-# the example in C, the Rust wrapper, policies as text, and random books against a second
-# implementation. The last line is 'N passed, 0 failed'.
+# All tests. Every crate is proved, each must-fail edit is refused, and what the programs print is compared
+# with what they should (rt ci). Then, over the proved engine: the report's refusals, the example in C, the
+# Rust wrapper, policies as text, and random books against a second implementation. The last line is
+# 'N passed, 0 failed'.
 set -euo pipefail
 cd "$(dirname "$0")"
 . ./kit.sh
@@ -25,17 +25,24 @@ report() {
     same "report, $2" "$folder/wanted" "$folder/said"
 }
 
+# An edit that cannot be applied or read shows nothing, and rt ci passes it.
 rt ci | tee "$log"
+grep -q '^rt: ok' "$log" || { echo "FAILED: rt ci has no line 'rt: ok'"; exit 1; }
+if grep -qE '^rt: ok.*, [1-9][0-9]* bad' "$log"; then
+    echo "FAILED: bad must-fail edits"
+    exit 1
+fi
 
-report=$PWD/target/bin/policyreport
+# what rt ci built
+report=$PWD/crates/policyreport/out/policyreport
 report "refused 1 block 0" "no file"
 : > "$folder/small.book"
 report "refused 1 block 0" "an empty file"
 head -c 18944 /dev/zero > "$folder/small.book"
 report "refused 1 block 0" "37 blocks"
 
-rt staticlib capi > "$folder/staticlib" || { cat "$folder/staticlib"; exit 1; }
-cc -std=c99 -Wall -Wextra -Werror -Iinclude include/example.c target/staticlib/libcapi.a -o "$folder/example"
+(cd crates/capi && rt lib) > "$folder/lib" || { cat "$folder/lib"; exit 1; }
+cc -std=c99 -Wall -Wextra -Werror -Iinclude include/example.c crates/capi/out/libcapi.a -o "$folder/example"
 "$folder/example" crates/policyreport/data/small.book > "$folder/said"
 same "the example in C" include/example.out "$folder/said"
 

@@ -3,8 +3,9 @@
  * of each rule whether it is idle, whether it is blocked and by which rules, prints a plan's lineage trees, and
  * edits the book with the idle marks showing.
  *
- *   rt staticlib capi
- *   cc -Iinclude include/example.c target/staticlib/libcapi.a -o target/example
+ *   (cd crates/capi && rt lib)
+ *   mkdir -p target
+ *   cc -Iinclude include/example.c crates/capi/out/libcapi.a -o target/example
  *   target/example crates/policyreport/data/small.book
  *
  * For that book it prints include/example.out. Exit status 0; 1 where the book is refused; 2 where the

@@ -1,5 +1,6 @@
 /*
- * The PSpec policy engine for C: thirteen calls. Link with libcapi.a (rt staticlib capi; x86-64 Linux).
+ * The PSpec policy engine for C: thirteen calls. Link with libcapi.a (rt lib in crates/capi; x86-64
+ * Linux).
  *
  * Parameters. A slice is a pointer and a length in elements: bytes for a book, a block, a plan and a
  * buffer, 64-bit words for `words` and `ledger`. A record, `tally` or `holds`, is a pointer to one
@@ -28,10 +29,10 @@
  *
  * Not proved: this file, and that there is stack enough. On the largest book, on one with 64 categories in
  * a chain, and on a blocked rule of such books the smallest stacks that worked were 16 KiB for
- * pspec_check, pspec_flows, pspec_judge, pspec_ask and pspec_drop, 25 KiB for pspec_commit, 26 KiB for
- * pspec_tree, 50 KiB for pspec_idle, 56 KiB for pspec_blocked, 57 KiB for pspec_culprits, 67 KiB for
- * pspec_arrive and pspec_depart (bench stack); on a thread with less the process is stopped. Give them 128
- * KiB. The calls use memcpy, memmove and memset and nothing else from outside.
+ * pspec_check, pspec_flows, pspec_judge, pspec_commit, pspec_drop and pspec_tree, 32 KiB for pspec_ask, 54
+ * KiB for pspec_idle, 56 KiB for pspec_blocked, 58 KiB for pspec_culprits, 68 KiB for pspec_arrive and
+ * pspec_depart (bench stack); on a thread with less the process is stopped. Give them 128 KiB. The calls
+ * use memcpy, memmove and memset and nothing else from outside.
  */
 #ifndef PSPEC_H
 #define PSPEC_H

@@ -1,5 +1,5 @@
 //! Links the engine: `libcapi.a`, from the folder `PSPEC_LIB_DIR` or else from
-//! `target/staticlib` of the repository that holds this workspace.
+//! `crates/capi/out` of the repository that holds this workspace.
 
 use std::env;
 use std::path::{Path, PathBuf};
@@ -11,7 +11,7 @@ fn main() {
     println!("cargo:rerun-if-changed={}", library.display());
     if !library.is_file() {
         println!("cargo:warning={} is not there", library.display());
-        println!("cargo:warning=make it with 'rt staticlib capi', or set PSPEC_LIB_DIR");
+        println!("cargo:warning=make it with 'rt lib' in crates/capi, or set PSPEC_LIB_DIR");
     }
     println!("cargo:rustc-link-search=native={}", folder.display());
     println!("cargo:rustc-link-lib=static=capi");
@@ -20,6 +20,6 @@ fn main() {
 fn folder() -> PathBuf {
     match env::var_os("PSPEC_LIB_DIR") {
         Some(folder) => PathBuf::from(folder),
-        None => Path::new(env!("CARGO_MANIFEST_DIR")).join("../../target/staticlib"),
+        None => Path::new(env!("CARGO_MANIFEST_DIR")).join("../../crates/capi/out"),
     }
 }
