@@ -8,19 +8,15 @@ use mathlib.Core.List.{List}
 use lib.ListN.{get_or}
 use lib.Dec.{ltb}
 use lib.Bits.{bit_and, bit_or, and_le_l}
-use lib.Pow.{pow_mono}
-use native.Mathlib.Nat.{lt_of_lt_of_le, lt_of_le_of_lt}
+use native.Mathlib.Nat.{lt_of_le_of_lt}
 use native.Mathlib.Numerals.{add-one}
 use borrow.Author.Tests.{lt-ltb, ltb-true}
-use Rattle.book.specs.Lists.{up_to}
 use Rattle.book.specs.Sets.{has, WordOf}
 use Rattle.book.specs.Blocks.{head_of, rule_at, rule_count}
 use Rattle.book.specs.Rule.{reference_count}
 use Rattle.book.specs.Refusals.{BookAccepted}
 use Rattle.book.proofs.Lists.{and_end, and_false, or_end}
-use Rattle.book.proofs.Members.{has_and, has_high, has_not, has_or, has_zero, same_members}
-use Rattle.lineage.specs.Accesses.{word_of}
-use Rattle.lineage.proofs.Words.{word_of_law}
+use Rattle.book.proofs.Members.{has_and, has_high, has_not, has_or, has_zero}
 use Rattle.search.specs.Alone.{First, none, shown, first_alone}
 use Rattle.search.specs.Choices.{Candidate}
 use Rattle.search.specs.Inner.Table.{TableHolds, HadHolds, CoversHold}

@@ -11,7 +11,6 @@ use lib.Dec.{eqb, ltb}
 use borrow.Author.Tests.{eqb-true, eq-eqb}
 use Rattle.book.specs.Lists.{flat, all, any, up_to, keep}
 use Rattle.book.specs.Blocks.{head_of, rule_at, rule_count}
-use Rattle.book.specs.Hierarchies.{leaf}
 use Rattle.book.specs.Head.{data_count, function_count, is_user, operation, supports, user_count}
 use Rattle.book.specs.Rule.{reference_count}
 use Rattle.book.specs.Refusals.{BookAccepted}

@@ -1,5 +1,5 @@
 -- What the functions that test a book promise to each other. No call's promise leans on this file. Assumes nothing.
-use Rattle.std.specs.Prelude.{ℕ, ◌≤◌, ◌<◌, ◌≡◌, Bool, true, ◌&&◌, ◌||◌, not, List, ltb, leb}
+use Rattle.std.specs.Prelude.{ℕ, ◌≤◌, ◌<◌, ◌≡◌, Bool, true, ◌&&◌, ◌||◌, List, ltb, leb}
 use Rattle.book.specs.Lists.{all, up_to}
 use Rattle.book.specs.Sets.{has}
 use Rattle.book.specs.Hierarchies.{parent_holds}

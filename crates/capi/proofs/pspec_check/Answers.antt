@@ -1,5 +1,4 @@
 -- The answer is a refusal or the number of rules, and packs as such. Assumes nothing.
-use borrow.Author.Rules.{rules}
 use Rattle.capi.proofs.PackedLaws.{check_refused, check_accepted}
 use Rattle.capi.proofs.pspec_check.Goals as goal
 

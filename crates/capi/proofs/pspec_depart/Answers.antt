@@ -1,6 +1,5 @@
 -- The answer packs, and blocks, rules and marks are left as the call leaves them. Assumes nothing.
 use Rattle.capi.proofs.Edits.{depart_packs, depart_promised}
-use borrow.Author.Rules.{rules}
 use Rattle.capi.proofs.pspec_depart.Goals as goal
 
 pub returns : goal.returns

@@ -1,5 +1,4 @@
 -- One rule a turn, from the highest number down; what is left is what the trials leave. Assumes nothing.
-use Prim.Native.Nat.{◌-◌}
 use native.Mathlib.Omega.{arith}
 use Rattle.blocked.proofs.DroppingLaws.{cut_told, few_left_law, one_given, turns_more, turns_none}
 use borrow.Author.Rules.{rules}

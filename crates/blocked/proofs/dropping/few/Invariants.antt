@@ -1,7 +1,6 @@
 -- One rule a turn, from the highest number down; what is left is what the trials leave. Assumes nothing.
 use Prim.Native.Nat.{◌-◌, ◌≤◌}
 use Rattle.blocked.proofs.DroppingLaws.{Turns}
-use borrow.Author.Rules.{rules}
 use Rattle.blocked.proofs.dropping.few.Given as goal
 
 abbrev pub invariant-loop-i : goal.invariant-loop-i

@@ -1,5 +1,4 @@
 -- One restriction a turn: `pairs_skip` if it does not take the first place, `pairs_more` if it does. Assumes nothing.
-use Prim.Native.Nat.{◌-◌}
 use native.Mathlib.Omega.{arith}
 use Rattle.blocked.proofs.SliceLaws.{pairs_none, pairs_skip, pairs_more, pairs_end}
 use borrow.Author.Rules.{rules}

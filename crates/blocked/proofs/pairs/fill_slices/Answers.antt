@@ -1,6 +1,6 @@
 -- One order after the other (`Sliced`); each turn takes one rule off those that wait in its order (`Slicing`), which
 -- makes that word smaller. Assumes nothing.
-use Prim.Native.Nat.{◌-◌, ◌*◌, ◌+◌, ◌%◌}
+use Prim.Native.Nat.{◌*◌, ◌+◌, ◌%◌}
 use native.Mathlib.Omega.{arith}
 use mathlib.Core.Path.{refl, ◌∙◌}
 use lib.ListN.{length-set}

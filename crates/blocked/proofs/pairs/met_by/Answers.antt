@@ -1,5 +1,4 @@
 -- One rule a turn (`Marks`). Assumes nothing.
-use Prim.Native.Nat.{◌-◌}
 use native.Mathlib.Omega.{arith}
 use Rattle.verdicts.proofs.Marks.{marks_none, marks_more}
 use Rattle.search.specs.Inner.Table.{meets}

@@ -1,7 +1,6 @@
 -- Each turn takes one rule off those that wait (`Narrowing`), which makes that word smaller. Assumes nothing.
-use Prim.Native.Nat.{◌-◌, ◌%◌}
+use Prim.Native.Nat.{◌%◌}
 use Rattle.blocked.proofs.NarrowLaws.{Narrowing}
-use borrow.Author.Rules.{rules}
 use Rattle.blocked.proofs.pairs.narrowed.Given as goal
 
 abbrev pub invariant-loop-waiting : goal.invariant-loop-waiting

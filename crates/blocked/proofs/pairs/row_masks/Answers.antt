@@ -1,5 +1,5 @@
 -- One order a turn (`Filled`). Assumes nothing.
-use Prim.Native.Nat.{◌-◌, ◌+◌, ◌*◌, ◌%◌}
+use Prim.Native.Nat.{◌+◌, ◌*◌, ◌%◌}
 use native.Mathlib.Omega.{arith}
 use Rattle.book.proofs.Loops.{fill_none, fill_more}
 use Rattle.blocked.proofs.MetLaws.{order_word}

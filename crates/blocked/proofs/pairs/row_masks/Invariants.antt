@@ -3,7 +3,6 @@ use Prim.Native.Nat.{◌-◌, ◌<◌}
 use Rattle.book.proofs.Loops.{Filled}
 use Rattle.blocked.specs.Inner.Pairs.{MetHolds}
 use Rattle.blocked.proofs.MetLaws.{OrderWord}
-use borrow.Author.Rules.{rules}
 use Rattle.blocked.proofs.pairs.row_masks.Given as goal
 
 abbrev pub invariant-loop-v : goal.invariant-loop-v

@@ -1,5 +1,5 @@
 -- The orders have their turns one after the other (`Asking`); a word that is not 0 has a member. Assumes nothing.
-use Prim.Native.Nat.{◌%◌, ◌-◌}
+use Prim.Native.Nat.{◌%◌}
 use native.Mathlib.Omega.{arith}
 use mathlib.Core.Path.{◌≡◌}
 use lib.ListN.{get_or}

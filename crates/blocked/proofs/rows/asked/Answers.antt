@@ -1,8 +1,7 @@
 -- The cell of the first place that is left, one a turn (`Asked`). Assumes nothing.
-use Prim.Native.Nat.{◌+◌, ◌-◌, ◌*◌, ◌/◌, ◌<◌}
+use Prim.Native.Nat.{◌+◌, ◌*◌, ◌/◌, ◌<◌}
 use native.Mathlib.Omega.{arith}
 use mathlib.Core.Path.{◌≡◌, refl}
-use mathlib.Core.Logic.{⊎_elim}
 use Rattle.blocked.specs.Inner.Pairs.{Asked}
 use Rattle.blocked.proofs.RowLaws.{asked_gone, asked_skip, asked_start, asked_stays}
 use Rattle.blocked.proofs.rows.asked.Goals.{else-some_accepted, then-some_accepted}

@@ -1,7 +1,5 @@
 -- One place of the first cell after the other, in turn from the hint (`LeftFrom`). Assumes nothing.
-use Prim.Native.Nat.{◌-◌}
 use native.Mathlib.Omega.{arith}
-use mathlib.Core.Logic.{⊎_elim}
 use Rattle.book.specs.Sets.{has}
 use Rattle.blocked.proofs.RowLaws.{left_empty, left_end, left_more, left_start, prepared_places}
 use borrow.Author.Rules.{rules}

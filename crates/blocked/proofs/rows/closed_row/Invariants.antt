@@ -3,7 +3,6 @@ use Prim.Native.Nat.{◌-◌, ◌≤◌, ◌<◌}
 use Rattle.book.specs.Sets.{has}
 use Rattle.blocked.specs.Inner.Pairs.{Prepared}
 use Rattle.blocked.proofs.RowLaws.{LeftFrom}
-use borrow.Author.Rules.{rules}
 use Rattle.blocked.proofs.rows.closed_row.Given as goal
 
 abbrev pub invariant-loop-j : goal.invariant-loop-j

@@ -1,7 +1,6 @@
 -- What is left of the row, and its first place (`third_made`). Assumes nothing.
 use native.Mathlib.Omega.{arith}
 use Rattle.blocked.proofs.TripleLaws.{third_made}
-use borrow.Author.Rules.{rules}
 use Rattle.blocked.proofs.searching.closed_third.Goals as goal
 
 pub returns : goal.returns

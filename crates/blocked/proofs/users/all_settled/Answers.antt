@@ -1,5 +1,4 @@
 -- One user a turn: the rules of those before it are in the set. Assumes nothing.
-use Prim.Native.Nat.{◌-◌}
 use native.Mathlib.Omega.{arith}
 use mir.Syntax.{w64}
 use mir.Val.{Fits}

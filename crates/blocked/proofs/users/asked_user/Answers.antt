@@ -4,7 +4,6 @@ use lib.Bits.{bit_and}
 use lib.ListN.{set}
 use Rattle.book.specs.Sets.{has}
 use Rattle.blocked.proofs.UserLaws.{open_third, part_prepared, sets_set, settled_open, third_open}
-use borrow.Author.Rules.{rules}
 use Rattle.blocked.proofs.users.asked_user.Goals as goal
 
 pub returns-then-settled : goal.returns-then-settled

@@ -1,13 +1,11 @@
 -- One user a turn: the row is open to those before it. Assumes nothing.
-use Prim.Native.Nat.{◌-◌, ◌≤◌}
+use Prim.Native.Nat.{◌≤◌}
 use native.Mathlib.Omega.{arith}
-use mathlib.Core.Logic.{⊎_elim}
 use lib.Bits.{bit_and}
 use lib.ListN.{get_or, replicate, get_or-replicate}
 use borrow.Author.Count.{below_more}
 use Rattle.blocked.specs.Inner.Rows.{RowOpen, own_of}
 use Rattle.blocked.proofs.UserLaws.{own_user, sets_none, sets_set, third_open, within_open}
-use borrow.Author.Rules.{rules}
 use Rattle.blocked.proofs.users.denied_in.Goals.{else-loop-u-test, then-loop-u-test+then-before-u}
 use Rattle.blocked.proofs.users.denied_in.Goals as goal
 

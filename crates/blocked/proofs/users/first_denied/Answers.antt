@@ -1,5 +1,5 @@
 -- One first cell a turn (`RowsUpTo`). Assumes nothing.
-use Prim.Native.Nat.{◌*◌, ◌-◌}
+use Prim.Native.Nat.{◌*◌}
 use native.Mathlib.Omega.{arith}
 use mathlib.Core.Path.{refl}
 use Rattle.blocked.proofs.UserLaws.{denied_nobody, denied_user, rows_none}

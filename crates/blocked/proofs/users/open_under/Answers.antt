@@ -2,7 +2,6 @@
 use lib.Bits.{bit_and}
 use Rattle.book.specs.Sets.{has}
 use Rattle.blocked.proofs.UserLaws.{none_open, part_prepared, third_open}
-use borrow.Author.Rules.{rules}
 use Rattle.blocked.proofs.users.open_under.Goals as goal
 
 pub returns-then-third-lt-PAST_CELLS : goal.returns-then-third-lt-PAST_CELLS

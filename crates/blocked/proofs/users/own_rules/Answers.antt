@@ -1,5 +1,4 @@
 -- One user a turn (`Filled`). Assumes nothing.
-use Prim.Native.Nat.{◌-◌}
 use native.Mathlib.Omega.{arith}
 use Rattle.lineage.proofs.Tables.{fill_none, fill_more}
 use borrow.Author.Rules.{rules}

@@ -1,6 +1,5 @@
 -- The rules that cover the user, or none. Assumes nothing.
 use Rattle.blocked.proofs.UserLaws.{rules_for}
-use borrow.Author.Rules.{rules}
 use Rattle.blocked.proofs.users.rules_for.Goals as goal
 
 pub returns : goal.returns

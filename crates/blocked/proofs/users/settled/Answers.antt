@@ -1,5 +1,4 @@
 -- The first set that leaves no rule of the set outside. Assumes nothing.
-use Prim.Native.Nat.{◌-◌}
 use mir.Syntax.{w64}
 use mir.Val.{Fits}
 use mathlib.Core.Bool.{false≢true}

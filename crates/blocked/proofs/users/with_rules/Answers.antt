@@ -1,5 +1,5 @@
 -- A set that gets wider leaves the row open too (`sets_set`). Assumes nothing.
-use Prim.Native.Nat.{◌-◌, ◌%◌}
+use Prim.Native.Nat.{◌%◌}
 use native.Mathlib.Omega.{arith}
 use Rattle.blocked.proofs.UserLaws.{sets_set}
 use borrow.Author.Rules.{rules}

@@ -1,5 +1,4 @@
 -- One falling pass: the law `gathered_more` is its step. Assumes nothing.
-use Prim.Native.Nat.{◌-◌}
 use Rattle.book.specs.Inner.Reading.{parent_in}
 use Rattle.book.proofs.HeadWords.{Gathered}
 use Rattle.book.proofs.categories.descendants.Given as goal

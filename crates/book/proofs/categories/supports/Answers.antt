@@ -1,5 +1,5 @@
 -- One category a turn (`Filled`). Assumes nothing.
-use Prim.Native.Nat.{◌-◌, ◌<◌}
+use Prim.Native.Nat.{◌<◌}
 use native.Mathlib.Omega.{arith}
 use borrow.Author.Rules.{rules}
 use Rattle.book.proofs.Loops.{fill_none, fill_more}

@@ -1,9 +1,7 @@
 -- The loop tests the first i columns (`Passed`). With at most 64 categories the word of leaves has all of them
 -- (`label_same`). Assumes nothing.
 use borrow.Author.Rules.{rules}
-use Prim.Native.Nat.{◌-◌}
 use mathlib.Core.Path.{◌≡◌, ◌∙◌}
-use Rattle.book.specs.Head.{label}
 use Rattle.book.specs.Refusals.{label_holds, labels_hold}
 use Rattle.book.specs.Inner.Testing.{CountedWords}
 use Rattle.book.proofs.Loops.{passed_none, passed_more, passed_all}

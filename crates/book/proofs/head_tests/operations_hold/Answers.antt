@@ -1,8 +1,6 @@
 -- The loop tests the first i functions (`Passed`). Assumes nothing.
 use borrow.Author.Rules.{rules}
 use mathlib.Core.Path.{refl}
-use Prim.Native.Nat.{◌-◌}
-use Rattle.book.specs.Head.{operation}
 use Rattle.book.specs.Refusals.{functions_hold}
 use Rattle.book.proofs.Loops.{passed_none, passed_more, passed_all}
 use Rattle.book.proofs.head_tests.operations_hold.Goals as goal

@@ -1,6 +1,5 @@
 -- The loop tests the first i categories (`Passed`). Assumes nothing.
 use borrow.Author.Rules.{rules}
-use Prim.Native.Nat.{◌-◌}
 use Rattle.book.proofs.Loops.{passed_none, passed_more, passed_all}
 use Rattle.book.proofs.head_tests.owns_hold.Goals as goal
 

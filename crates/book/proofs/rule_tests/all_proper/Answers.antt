@@ -1,5 +1,4 @@
 -- A loop of tests: `PassedIn` is the invariant. Assumes nothing.
-use Prim.Native.Nat.{◌-◌}
 use native.Mathlib.Omega.{arith}
 use mathlib.Core.Path.{refl}
 use borrow.Author.Rules.{rules}

@@ -1,6 +1,5 @@
 -- The loop tests the first i references (`Passed`). Assumes nothing.
 use borrow.Author.Rules.{rules}
-use Prim.Native.Nat.{◌-◌}
 use Rattle.book.proofs.Loops.{passed_none, passed_more, passed_all}
 use Rattle.book.proofs.rule_tests.exclusion_counts_hold.Goals as goal
 

@@ -1,6 +1,5 @@
 -- A loop of tests, one restriction a turn: `Passed` is the invariant; the law `masks_all` says what the tests are.
 -- Assumes nothing.
-use Prim.Native.Nat.{◌-◌}
 use mathlib.Core.Path.{◌∙◌}
 use borrow.Author.Rules.{rules}
 use Rattle.book.proofs.Loops.{passed_none, passed_more, passed_all}

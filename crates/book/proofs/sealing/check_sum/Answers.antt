@@ -1,6 +1,6 @@
 -- The sum so far is the weighted sum of the bytes passed: those of the whole rows, then at most 130,050 for each byte.
 -- Assumes nothing.
-use Prim.Native.Nat.{◌≤◌, ◌-◌}
+use Prim.Native.Nat.{◌≤◌}
 use native.Mathlib.Omega.{arith}
 use lib.ListN.{length, get_or}
 use borrow.Author.Rules.{rules}

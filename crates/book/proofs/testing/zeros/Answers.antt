@@ -1,6 +1,5 @@
 -- The loop tests the first i bytes of the part (`PassedIn`). Assumes nothing.
 use borrow.Author.Rules.{rules}
-use Prim.Native.Nat.{◌-◌}
 use mathlib.Core.Path.{refl}
 use Rattle.book.specs.Refusals.{zeros}
 use Rattle.book.proofs.Loops.{passed_in_none, passed_in_more, passed_in_all}

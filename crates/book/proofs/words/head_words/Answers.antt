@@ -1,5 +1,4 @@
 -- The three parts are copied side by side (`Copied`), and the last words set: the law `words_made`. Assumes nothing.
-use Prim.Native.Nat.{◌-◌}
 use native.Mathlib.Omega.{arith}
 use mathlib.Core.Path.{◌≡◌}
 use borrow.Author.Rules.{rules}

@@ -1,5 +1,4 @@
 -- One pass over the categories; the law `supported_more` is its step. Assumes nothing.
-use Prim.Native.Nat.{◌-◌}
 use native.Mathlib.Omega.{arith}
 use borrow.Author.Rules.{rules}
 use Rattle.book.proofs.Support.{supported_none, supported_more, supported_end}

@@ -1,5 +1,4 @@
 -- The set is added to the words of the mask below k: the invariant `Added`. Assumes nothing.
-use Prim.Native.Nat.{◌-◌}
 use native.Mathlib.Omega.{arith}
 use mathlib.Core.Path.{sym}
 use lib.ListN.{get_or, length-set}

@@ -1,7 +1,6 @@
 -- What stands before the rule and what stands after it (`without_laid`). Assumes nothing.
 use native.Mathlib.Omega.{arith}
 use Rattle.editing.proofs.TestingLaws.{without_laid}
-use borrow.Author.Rules.{rules}
 use Rattle.editing.proofs.edits.lay_without.Goals as goal
 
 pub returns-then-rules-gt32 : goal.returns-then-rules-gt32

@@ -1,7 +1,6 @@
 -- The tests in their order, the last of them over the new book as it is laid (`book_tested`). Assumes nothing.
 use native.Mathlib.Omega.{arith}
 use Rattle.editing.proofs.TestingLaws.{book_tested, full_tested, length_tested}
-use borrow.Author.Rules.{rules}
 use Rattle.editing.proofs.edits.test_arrival.Goals as goal
 
 pub returns-then-rules-ge32 : goal.returns-then-rules-ge32

@@ -1,7 +1,6 @@
 -- The tests in their order (`departure_joined`). Assumes nothing.
 use native.Mathlib.Omega.{arith}
 use Rattle.editing.proofs.TestingLaws.{departure_joined, number_refused}
-use borrow.Author.Rules.{rules}
 use Rattle.editing.proofs.edits.test_departure.Goals as goal
 
 pub returns-then-rules-gt32 : goal.returns-then-rules-gt32

@@ -1,5 +1,4 @@
 -- After i turns the first i bytes are copied (`begun_more`). Assumes nothing.
-use Prim.Native.Nat.{◌-◌}
 use native.Mathlib.Omega.{arith}
 use mathlib.Core.Path.{refl, ◌∙◌}
 use lib.ListN.{get_or, length-set}

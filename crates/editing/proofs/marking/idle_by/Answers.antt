@@ -1,5 +1,5 @@
 -- After q turns the marks are those of the rules below q (`marks_more`). Assumes nothing.
-use Prim.Native.Nat.{ℕ, ◌-◌}
+use Prim.Native.Nat.{ℕ}
 use native.Mathlib.Omega.{arith}
 use mathlib.Core.Bool.{Bool, ◌&&◌}
 use Rattle.book.specs.Sets.{has}

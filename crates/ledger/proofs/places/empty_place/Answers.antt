@@ -1,8 +1,6 @@
 -- No place below is empty; the first that is, is the lowest (`first_at_law`). Assumes nothing.
-use Prim.Native.Nat.{◌-◌}
 use native.Mathlib.Omega.{arith}
 use mathlib.Core.Path.{◌≡◌, sym, ◌∙◌}
-use mathlib.Core.Bool.{false}
 use borrow.Author.Tests.{ne_eqb}
 use Rattle.book.specs.Lists.{up_to}
 use Rattle.book.proofs.Lists.{any_none, any_more}

@@ -1,9 +1,7 @@
 -- One place a turn (`count_step`). Assumes nothing.
-use Prim.Native.Nat.{◌-◌}
 use native.Mathlib.Omega.{arith}
 use mathlib.Core.Path.{◌≡◌, sym, ◌∙◌}
 use mathlib.Core.List.{[]}
-use mathlib.Core.Logic.{⊎_elim}
 use Rattle.ledger.specs.Places.{held_at, held_count, taken}
 use Rattle.ledger.specs.Inner.Steps.{places_with}
 use Rattle.ledger.proofs.Counting.{count_step, count_zero}

@@ -1,8 +1,6 @@
 -- The words of one place a turn, where it is the user's (`join_held`). Assumes nothing.
-use Prim.Native.Nat.{◌-◌}
 use native.Mathlib.Omega.{arith}
 use mathlib.Core.Path.{◌≡◌, refl, sym, ◌∙◌}
-use mathlib.Core.Logic.{⊎_elim}
 use lib.ListN.{replicate}
 use Rattle.book.proofs.Lists.{any_none, any_more, or_end}
 use Rattle.lineage.proofs.Steps.{get_d_zeros}

@@ -1,8 +1,6 @@
 -- One word a turn (`Laid`), past the end none; at the end all are written (`write_end`). Assumes nothing.
-use Prim.Native.Nat.{◌-◌}
 use native.Mathlib.Omega.{arith}
 use mathlib.Core.Path.{◌≡◌, refl}
-use mathlib.Core.Logic.{⊎_elim}
 use lib.ListN.{length}
 use borrow.Author.Rules.{rules}
 use Rattle.ledger.proofs.WordLaws.{lay_none, lay_more, lay_past, write_end}

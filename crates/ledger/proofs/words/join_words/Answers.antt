@@ -1,7 +1,5 @@
 -- One word a turn (`Laid`), past the ledger's end none; at the end all are joined (`join_end`). Assumes nothing.
-use Prim.Native.Nat.{◌-◌}
 use mathlib.Core.Path.{refl}
-use mathlib.Core.Logic.{⊎_elim}
 use lib.Bits.{bit_or}
 use Rattle.ledger.proofs.WordLaws.{lay_none, lay_more, lay_past, join_end}
 use Rattle.ledger.proofs.words.join_words.Goals.{else-first-w, then-first-w}

@@ -1,5 +1,4 @@
 -- One word a turn (`Filled`), and at the end all of them (`filled_map`). Assumes nothing.
-use Prim.Native.Nat.{◌-◌}
 use mathlib.Core.Path.{refl}
 use lib.Bits.{bit_or}
 use lib.ListN.{get_or}

@@ -1,5 +1,5 @@
 -- One word a turn (`Filled`), and at the end all of them (`filled_map`). Assumes nothing.
-use Prim.Native.Nat.{◌+◌, ◌*◌, ◌-◌}
+use Prim.Native.Nat.{◌+◌, ◌*◌}
 use mathlib.Core.Path.{refl}
 use lib.ListN.{get_or}
 use borrow.Author.Rules.{rules}

@@ -1,6 +1,5 @@
 -- One row a turn (`with_given`). Assumes nothing.
 use borrow.Author.Rules.{rules}
-use Prim.Native.Nat.{◌-◌}
 use native.Mathlib.Omega.{arith}
 use mathlib.Core.Path.{◌≡◌}
 use Rattle.lineage.proofs.Words.{gathered_none}

@@ -1,5 +1,4 @@
 -- One word of the row a turn (`Rowed`). Assumes nothing.
-use Prim.Native.Nat.{◌-◌}
 use native.Mathlib.Omega.{arith}
 use mathlib.Core.Path.{refl}
 use Rattle.lineage.proofs.Tables.{row_none, row_more, join_past, join_end}

@@ -1,5 +1,4 @@
 -- One word a turn (`Filled`), then word 16 joined to word 0: the law `operations_of_law`. Assumes nothing.
-use Prim.Native.Nat.{◌-◌}
 use native.Mathlib.Omega.{arith}
 use mathlib.Core.Path.{refl}
 use Rattle.lineage.proofs.Steps.{operations_of_law}

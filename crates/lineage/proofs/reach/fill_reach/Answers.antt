@@ -1,5 +1,4 @@
 -- Each turn stores the words of one row more: the law `reached_more`. Assumes nothing.
-use Prim.Native.Nat.{◌-◌}
 use native.Mathlib.Omega.{arith}
 use mathlib.Core.Path.{◌≡◌, refl, ◌∙◌}
 use lib.ListN.{length, length-replicate}

@@ -1,5 +1,4 @@
 -- One word a turn (`Filled`). Assumes nothing.
-use Prim.Native.Nat.{◌-◌}
 use native.Mathlib.Omega.{arith}
 use mathlib.Core.Path.{refl}
 use Rattle.lineage.proofs.Tables.{fill_none, fill_more}

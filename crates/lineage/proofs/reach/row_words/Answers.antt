@@ -1,5 +1,4 @@
 -- One word a turn (`Filled`); a table of whole rows that is too short has no word of the row. Assumes nothing.
-use Prim.Native.Nat.{◌-◌}
 use native.Mathlib.Omega.{arith}
 use mathlib.Core.Path.{refl, ◌∙◌}
 use Rattle.lineage.proofs.Steps.{get_d_zeros}

@@ -1,5 +1,5 @@
 -- One restriction a turn; the law `accepting_more` is the step. Assumes nothing.
-use Prim.Native.Nat.{◌-◌, ◌≤◌}
+use Prim.Native.Nat.{◌≤◌}
 use native.Mathlib.Omega.{arith}
 use mathlib.Core.Path.{refl}
 use Rattle.search.proofs.ClosingLaws.{room_for, accepting_none, accepting_more, accepting_end}

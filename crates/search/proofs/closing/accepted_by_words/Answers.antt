@@ -1,5 +1,4 @@
 -- One restriction a turn; the law `accepting_more` is the step. Assumes nothing.
-use Prim.Native.Nat.{◌-◌}
 use native.Mathlib.Omega.{arith}
 use Rattle.search.proofs.ClosingLaws.{accepting_none, accepting_more, accepting_end}
 use borrow.Author.Rules.{rules}

@@ -1,5 +1,4 @@
 -- Every word passed is 0, and past 33 words there is none. Assumes nothing.
-use Prim.Native.Nat.{◌-◌}
 use native.Mathlib.Omega.{arith}
 use mathlib.Core.Bool.{false≢true}
 use borrow.Author.Count.{below_none, below_more}

@@ -1,5 +1,4 @@
 -- Every two words passed are equal. Assumes nothing.
-use Prim.Native.Nat.{◌-◌}
 use native.Mathlib.Omega.{arith}
 use mathlib.Core.Bool.{false≢true}
 use borrow.Author.Count.{below_none, below_more}

@@ -1,6 +1,5 @@
 -- The candidates, sifted. Assumes nothing.
 use Rattle.search.proofs.Candidates.{possible_made}
-use borrow.Author.Rules.{rules}
 use Rattle.search.proofs.searching.alone.Goals as goal
 
 pub returns : goal.returns

@@ -1,5 +1,4 @@
 -- One first place a turn (`Seeking`). Assumes nothing.
-use Prim.Native.Nat.{◌-◌}
 use native.Mathlib.Omega.{arith}
 use Rattle.book.specs.Sets.{has}
 use Rattle.search.specs.Inner.Search.{solves_in, solves_first, Searched}

@@ -4,7 +4,6 @@ use Rattle.book.specs.Sets.{has}
 use Rattle.search.specs.Inner.Closing.{Within}
 use Rattle.search.specs.Inner.Search.{solves_in}
 use Rattle.search.proofs.Solutions.{Seeking}
-use borrow.Author.Rules.{rules}
 use Rattle.search.proofs.searching.among.Given as goal
 
 abbrev pub invariant-loop-a : goal.invariant-loop-a

@@ -1,7 +1,5 @@
 -- One second place a turn (`Seeking`), out of those that no rule has settled. Assumes nothing.
-use Prim.Native.Nat.{◌-◌}
 use native.Mathlib.Omega.{arith}
-use mathlib.Core.Bool.{true}
 use Rattle.book.specs.Sets.{has}
 use Rattle.search.specs.Inner.Search.{solves_beside, solves_pair, Searched}
 use Rattle.search.proofs.Solutions.{seeking_start, seeking_end}

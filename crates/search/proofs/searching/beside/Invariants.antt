@@ -8,7 +8,6 @@ use Rattle.search.specs.Inner.Places.{in_places}
 use Rattle.search.specs.Inner.Closing.{Within}
 use Rattle.search.specs.Inner.Search.{solves_beside}
 use Rattle.search.proofs.Solutions.{Seeking}
-use borrow.Author.Rules.{rules}
 use Rattle.search.proofs.searching.beside.Given as goal
 
 abbrev pub invariant-loop-y : goal.invariant-loop-y

@@ -1,5 +1,4 @@
 -- An absent reference has one place; any other one word a turn (`Candidates`). Assumes nothing.
-use Prim.Native.Nat.{◌-◌}
 use native.Mathlib.Omega.{arith}
 use mathlib.Core.Path.{refl}
 use lib.ListN.{replicate, get_or-replicate}

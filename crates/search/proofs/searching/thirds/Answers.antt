@@ -1,7 +1,6 @@
 -- Less what is accepted, and sifted. Assumes nothing.
 use mathlib.Core.Path.{refl}
 use Rattle.search.proofs.Candidates.{thirds_made}
-use borrow.Author.Rules.{rules}
 use Rattle.search.proofs.searching.thirds.Goals as goal
 
 pub returns : goal.returns

@@ -5,7 +5,6 @@ use lib.Dec.{eqb, ltb}
 use borrow.Author.Tests.{ltb-true}
 use Rattle.book.proofs.Lists.{and_left, and_right}
 use Rattle.search.proofs.SettlingLaws.{marked_none, marked_one}
-use borrow.Author.Rules.{rules}
 use Rattle.search.proofs.settling.settle.Goals as goal
 
 pub returns-then-turns-q : goal.returns-then-turns-q

@@ -1,5 +1,4 @@
 -- One operation a turn; the law `with_more` is the step. Assumes nothing.
-use Prim.Native.Nat.{◌-◌}
 use Rattle.search.proofs.SettlingLaws.{with_none, with_more}
 use Rattle.search.proofs.settling.settled_operations.Goals as goal
 

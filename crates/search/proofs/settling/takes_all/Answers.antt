@@ -1,5 +1,4 @@
 -- One word a turn (`Leaving`); the law `takes_all` reads the words as places. Assumes nothing.
-use Prim.Native.Nat.{◌-◌}
 use native.Mathlib.Omega.{arith}
 use mathlib.Core.Bool.{false≢true}
 use borrow.Author.Count.{below_none}

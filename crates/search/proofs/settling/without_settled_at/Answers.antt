@@ -1,5 +1,4 @@
 -- One word a turn (`Filled`); the law `settled_at` reads the words as places. Assumes nothing.
-use Prim.Native.Nat.{◌-◌}
 use native.Mathlib.Omega.{arith}
 use mathlib.Core.Bool.{◌&&◌}
 use mathlib.Core.Path.{sym, ◌∙◌}

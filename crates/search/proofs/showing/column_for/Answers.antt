@@ -1,8 +1,6 @@
 -- No column passed has the label; the first that has it is the lowest. Assumes nothing.
-use Prim.Native.Nat.{◌-◌}
 use native.Mathlib.Omega.{arith}
 use mathlib.Core.Path.{◌∙◌}
-use mathlib.Core.Bool.{false}
 use lib.Dec.{eqb}
 use borrow.Author.Count.{below_none, below_more}
 use Rattle.book.specs.Head.{column_count}

@@ -1,8 +1,6 @@
 -- The bytes passed are those of the plan, up to the count (`Copied`). Assumes nothing.
-use Prim.Native.Nat.{◌-◌}
 use native.Mathlib.Omega.{arith}
 use mathlib.Core.Path.{◌∙◌}
-use mathlib.Core.Logic.{⊎_elim}
 use lib.ListN.{get_or, length, length-set}
 use lib.Dec.{ltb}
 use borrow.Author.Tests.{ltb-true}

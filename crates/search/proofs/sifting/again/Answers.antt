@@ -5,7 +5,6 @@ use lib.Dec.{ltb}
 use borrow.Author.Tests.{ltb-true}
 use Rattle.book.proofs.Lists.{and_left, and_right}
 use Rattle.search.proofs.Sieves.{sifted_start, sifted_turn}
-use borrow.Author.Rules.{rules}
 use Rattle.search.proofs.sifting.again.Goals as goal
 
 pub returns-then-q-contains : goal.returns-then-q-contains

@@ -1,6 +1,5 @@
 -- A member of the later rules is one of the rules. Assumes nothing.
 use Rattle.search.proofs.Sieves.{later_member}
-use borrow.Author.Rules.{rules}
 use Rattle.search.proofs.sifting.next_after.Goals as goal
 
 pub returns-then-later-ne0 : goal.returns-then-later-ne0

@@ -1,6 +1,5 @@
 -- Each turn takes one rule off those that wait (`Sieving`), which makes that word smaller. Assumes nothing.
 use Rattle.search.proofs.Sieves.{Sieving}
-use borrow.Author.Rules.{rules}
 use Rattle.search.proofs.sifting.sift.Given as goal
 
 abbrev pub invariant-loop-waiting : goal.invariant-loop-waiting

@@ -1,5 +1,4 @@
 -- One word of each channel a turn (`Channels`). Assumes nothing.
-use Prim.Native.Nat.{◌-◌}
 use mathlib.Core.Path.{refl}
 use lib.ListN.{replicate}
 use Rattle.search.proofs.RuleWords.{channels_none, channels_more, channels_end}

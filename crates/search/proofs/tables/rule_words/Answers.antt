@@ -1,5 +1,5 @@
 -- One word a turn (`Filled`), of a reference's places and then of the restrictions. Assumes nothing.
-use Prim.Native.Nat.{◌+◌, ◌*◌, ◌-◌}
+use Prim.Native.Nat.{◌+◌, ◌*◌}
 use native.Mathlib.Omega.{arith}
 use Rattle.lineage.proofs.Tables.{fill_none, fill_more}
 use Rattle.search.proofs.RuleWords.{RulePart, places_part, restriction_part, parts_whole, fill_to}

@@ -1,9 +1,7 @@
 -- One user a turn (`Users`). Assumes nothing.
-use Prim.Native.Nat.{◌-◌}
 use mathlib.Core.Path.{refl}
 use lib.ListN.{replicate, get_or-replicate}
 use Rattle.search.proofs.UserLaws.{users_none, users_more, users_found, users_end}
-use borrow.Author.Rules.{rules}
 use Rattle.search.proofs.users.first_user.Goals as goal
 
 pub loop-u-init : goal.loop-u-init

@@ -1,5 +1,4 @@
 -- One rule a turn (`Marks`). Assumes nothing.
-use Prim.Native.Nat.{◌-◌}
 use native.Mathlib.Omega.{arith}
 use mathlib.Core.Bool.{◌&&◌, not}
 use lib.Dec.{eqb}

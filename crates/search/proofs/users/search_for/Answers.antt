@@ -3,7 +3,6 @@ use mathlib.Core.Path.{sym, ◌∙◌}
 use lib.ListN.{get_or}
 use borrow.Author.Tests.{not-true, not-false}
 use Rattle.search.proofs.UserLaws.{uncovered, settled_none, searched_for, nothing_for}
-use borrow.Author.Rules.{rules}
 use Rattle.search.proofs.users.search_for.Goals as goal
 
 pub returns-then-not-covers : goal.returns-then-not-covers

@@ -1,5 +1,4 @@
 -- The first mask with nothing outside the set. Assumes nothing.
-use Prim.Native.Nat.{◌-◌}
 use mir.Syntax.{w64}
 use mir.Val.{Fits}
 use mathlib.Core.Bool.{false≢true}

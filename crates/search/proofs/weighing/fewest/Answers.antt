@@ -3,7 +3,6 @@ use native.Mathlib.Omega.{arith}
 use mathlib.Core.Path.{◌≡◌}
 use Rattle.search.specs.Inner.Weight.{weight_at, LightestOf}
 use Rattle.search.proofs.WeightLaws.{fewest_found, fewest_kept, fewest_none, nobody_lighter}
-use borrow.Author.Rules.{rules}
 use Rattle.search.proofs.weighing.fewest.Goals as goal
 
 pub returns-in_default : goal.returns-in_default

@@ -1,9 +1,7 @@
 -- One weight a turn: none has fewer functions (`LightestOf`). Assumes nothing.
-use Prim.Native.Nat.{◌-◌}
 use native.Mathlib.Omega.{arith}
 use Rattle.search.specs.Inner.Weight.{solves_among, LightestOf}
 use Rattle.search.proofs.WeightLaws.{lightest_found, lightest_more, lightest_none}
-use borrow.Author.Rules.{rules}
 use Rattle.search.proofs.weighing.lightest.Goals as goal
 
 pub loop-weight-init : goal.loop-weight-init

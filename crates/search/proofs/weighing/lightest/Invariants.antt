@@ -2,7 +2,6 @@
 use Prim.Native.Nat.{◌-◌}
 use Rattle.search.specs.Inner.Weight.{solves_among, LightestOf}
 use Rattle.search.specs.declared.weighing.FirstPlaces.TheVariants.{NoPlaces}
-use borrow.Author.Rules.{rules}
 use Rattle.search.proofs.weighing.lightest.Given as goal
 
 abbrev pub invariant-loop-weight : goal.invariant-loop-weight

@@ -2,7 +2,6 @@
 use Rattle.book.proofs.Members.{has_zero}
 use Rattle.search.proofs.Sieves.{both}
 use Rattle.search.proofs.WeightLaws.{pattern_found, pattern_nothing}
-use borrow.Author.Rules.{rules}
 use Rattle.search.proofs.weighing.of_pattern.Goals as goal
 
 pub returns-in-Found : goal.returns-in-Found

@@ -1,12 +1,9 @@
 -- One pattern a turn (`weighed`). Assumes nothing.
-use Prim.Native.Nat.{◌-◌}
 use native.Mathlib.Omega.{arith}
-use mathlib.Core.Logic.{⊎_elim}
 use mathlib.Core.Bool.{◌&&◌}
 use lib.Dec.{eqb}
 use Rattle.search.specs.Inner.Weight.{solves_among, pattern_at}
 use Rattle.search.proofs.WeightLaws.{weighed, weighed_all, weighed_more, weighed_none, weighed_skip}
-use borrow.Author.Rules.{rules}
 use Rattle.search.proofs.weighing.of_weight.Goals.{else-functions-weight, then-functions-weight}
 use Rattle.search.proofs.weighing.of_weight.Goals as goal
 

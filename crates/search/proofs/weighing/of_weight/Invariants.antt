@@ -2,7 +2,6 @@
 use Prim.Native.Nat.{◌-◌}
 use Rattle.search.specs.Inner.Weight.{solves_among, FirstOf}
 use Rattle.search.proofs.WeightLaws.{weighed}
-use borrow.Author.Rules.{rules}
 use Rattle.search.proofs.weighing.of_weight.Given as goal
 
 abbrev pub invariant-loop-pattern : goal.invariant-loop-pattern

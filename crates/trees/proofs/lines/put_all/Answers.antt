@@ -1,5 +1,4 @@
 -- After k turns the first k bytes are written (`put_more`). Assumes nothing.
-use Prim.Native.Nat.{◌-◌}
 use Rattle.trees.proofs.Puts.{put_none, put_more, put_whole}
 use native.Mathlib.Omega.{arith}
 use borrow.Author.Rules.{rules}

@@ -1,5 +1,4 @@
 -- After k turns k spaces are written (`put_again`). Assumes nothing.
-use Prim.Native.Nat.{◌-◌}
 use mathlib.Core.Path.{◌≡◌, ap, ◌∙◌}
 use lib.ListN.{replicate}
 use Rattle.trees.specs.Inner.Writing.{puts}

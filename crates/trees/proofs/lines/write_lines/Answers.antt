@@ -1,7 +1,6 @@
 -- After k turns the first k lines are written (`lines_put`); all of them stand at the front where they fit. Assumes
 -- nothing.
 use borrow.Author.Rules.{rules}
-use Prim.Native.Nat.{◌-◌}
 use native.Mathlib.Omega.{arith}
 use Rattle.trees.proofs.Puts.{put_fits}
 use Rattle.trees.proofs.TextLaws.{lines_none, lines_put, lines_whole}

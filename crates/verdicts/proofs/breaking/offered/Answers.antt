@@ -1,5 +1,5 @@
 -- One operation a turn: the law `offers_met` is the test, `marks_more` the step. Assumes nothing.
-use Prim.Native.Nat.{◌+◌, ◌-◌}
+use Prim.Native.Nat.{◌+◌}
 use mathlib.Core.Bool.{not}
 use lib.ListN.{get_or}
 use lib.Dec.{eqb}

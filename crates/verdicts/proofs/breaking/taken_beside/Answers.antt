@@ -1,5 +1,4 @@
 -- One restriction a turn; the law `beside_more` is the step. Assumes nothing.
-use Prim.Native.Nat.{◌-◌}
 use native.Mathlib.Omega.{arith}
 use mathlib.Core.Path.{◌≡◌}
 use borrow.Author.Rules.{rules}

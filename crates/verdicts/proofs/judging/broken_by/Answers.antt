@@ -1,5 +1,5 @@
 -- One rule a turn; the law `marks_more` is the step, `mask_whole` the end. Assumes nothing.
-use Prim.Native.Nat.{ℕ, ◌-◌, ◌<◌}
+use Prim.Native.Nat.{ℕ, ◌<◌}
 use native.Mathlib.Omega.{arith}
 use borrow.Author.Rules.{rules}
 use Rattle.book.specs.Blocks.{head_of, rule_at}
