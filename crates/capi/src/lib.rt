@@ -130,7 +130,7 @@ pub extern "C" fn pspec_culprits(book: &[u8], rule: u32) -> u64
 }
 
 // A reply packed, and tally and hold record on leaving.
-#[derive(Drop)]
+#[derive(Clone, Copy)]
 struct Done {
     answer: u64,
     tally: Tally,

@@ -47,7 +47,7 @@ pub enum Reply {
 }
 
 // The reply, and tally and hold record on leaving.
-#[derive(Drop)]
+#[derive(Clone, Copy)]
 pub struct Outcome {
     pub reply: Reply,
     pub tally: Tally,
