@@ -40,7 +40,7 @@ proves() {
         echo "not proved: target/log/report says why" >&2
         exit 1
     fi
-    echo "$1 proved ($((SECONDS - begun)) s)" >&2
+    echo "rt: $1 proved ($((SECONDS - begun)) s)" >&2
 }
 
 mkdir -p target/log

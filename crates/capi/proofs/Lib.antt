@@ -4,3 +4,4 @@ pub mod PackedLaws
 pub mod Unpacking
 pub mod Headline
 pub mod Edits
+pub mod RecordSteps

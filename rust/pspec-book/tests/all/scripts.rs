@@ -90,8 +90,8 @@ fn run(folder: &Path, script: &[&str]) -> (i32, String, String) {
 
 /// What a script says while it proves: the crates, each with its seconds, which are left out here.
 const PROVED: &str = "proving and building the report: some minutes the first time\n\
-                      book proved\nlineage proved\nverdicts proved\nsearch proved\n\
-                      policyreport proved\n";
+                      rt: book proved\nrt: lineage proved\nrt: verdicts proved\n\
+                      rt: search proved\nrt: policyreport proved\n";
 
 fn without_seconds(complaint: &str) -> String {
     let line = |line: &str| match line.split_once(" proved (") {
