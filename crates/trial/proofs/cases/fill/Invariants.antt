@@ -1,3 +1,4 @@
+-- What is left of the buffer falls. Assumes nothing.
 use Rattle.std.proofs.Common.{length, ◌-◌}
 use Rattle.trial.proofs.cases.fill.Given as goal
 
