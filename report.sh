@@ -2,7 +2,7 @@
 # Proves, builds and runs the report. Without an argument it reports on the small shop.
 #   ./report.sh [BOOK]
 # While it proves: one line a crate, with its seconds; all the rest is in target/log/report.
-# Exit status: 1 where something is not proved, 2 where a file or a tool is missing.
+# Exit status: 1 where something is not proved, 2 where the book or a tool is missing or a second argument is given.
 set -euo pipefail
 root=$(cd "$(dirname "$0")" && pwd)
 [ $# -le 1 ] || { echo "found $# arguments; expected report.sh [BOOK]" >&2; exit 2; }

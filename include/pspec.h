@@ -1,6 +1,6 @@
 /*
- * The PSpec policy engine for C: thirteen calls. Link with libcapi.a (rt lib in crates/capi; x86-64
- * Linux).
+ * The PSpec policy engine for C: thirteen calls. Link with libcapi.a (rt lib in crates/capi; Linux on
+ * x86-64-v2).
  *
  * Parameters. A slice is a pointer and a length in elements: bytes for a book, a block, a plan and a
  * buffer, 64-bit words for `words` and `ledger`. A record, `tally` or `holds`, is a pointer to one

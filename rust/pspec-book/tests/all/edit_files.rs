@@ -73,6 +73,8 @@ fn what_stays_of_a_file() {
         .permissions()
         .mode();
     assert_eq!(mode & 0o777, 0o640);
+    // rt takes no link below the repository
+    fs::remove_file(folder.join("link")).expect("it was there");
 }
 
 /// What others wrote meanwhile is not written over.

@@ -2,7 +2,7 @@
 
 use crate::common::{file, text};
 use std::fs;
-use std::os::unix::fs::{symlink, PermissionsExt};
+use std::os::unix::fs::PermissionsExt;
 use std::path::{Path, PathBuf};
 use std::process::Command;
 
@@ -56,7 +56,7 @@ fn repository(test: &str) -> PathBuf {
     }
     for tool in TOOLS {
         let from = in_path(tool).expect("it is a usual tool");
-        symlink(from, folder.join("tools").join(tool)).expect("it is linked");
+        fs::copy(from, folder.join("tools").join(tool)).expect("it is copied");
     }
     put(
         &folder,

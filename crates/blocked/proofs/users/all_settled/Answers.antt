@@ -12,15 +12,12 @@ use Rattle.search.proofs.UserLaws.{mask_within_law}
 use borrow.Author.Rules.{rules}
 use Rattle.blocked.proofs.users.all_settled.Goals as goal
 
--- src/users.rt:175:5
 pub loop-u-init : goal.loop-u-init
 loop-u-init c = (search rules, λ v k. absurd (omega arith))
 
--- src/users.rt:177:13
 pub returns-then-all-own-ne0 : goal.returns-then-all-own-ne0
 returns-then-all-own-ne0 c e = absurd (false≢true e)
 
--- src/users.rt:175:5
 pub loop-u-preserved : goal.loop-u-preserved
 loop-u-preserved c =
     let a = c.args in
@@ -34,6 +31,5 @@ loop-u-preserved c =
           c.if-all-own-ne0.false),
     )
 
--- src/users.rt:172:1
 pub returns : goal.returns
 returns c e v k = c.loop-u.invariant.1 v (omega arith)

@@ -8,7 +8,6 @@ use Rattle.blocked.proofs.UserLaws.{rows_absent, rows_skip}
 use borrow.Author.Rules.{rules}
 use Rattle.blocked.proofs.users.asked_beside.Goals as goal
 
--- src/users.rt:352:9
 pub returns-then-not-has_cell : goal.returns-then-not-has_cell
 returns-then-not-has_cell c given small old =
     let a = c.args in
@@ -16,14 +15,12 @@ returns-then-not-has_cell c given small old =
     rows_skip a.t.now a.all a.scope a.own a.l a.before
     (sym (cell.ensures small) ∙ not-true cell.result c.if-not-has_cell.true-raw) old
 
--- src/users.rt:354:5
 pub loop-m-init : goal.loop-m-init
 loop-m-init c =
     let a = c.args in
     let e : 132 * a.l + 0 ≡ 132 * a.l = omega arith in
     (search rules, λ given small old. rw e old)
 
--- src/users.rt:354:5
 pub loop-m-preserved-then-not-has_cell-2 : goal.loop-m-preserved-then-not-has_cell-2
 loop-m-preserved-then-not-has_cell-2 c =
     let a = c.args in
@@ -39,7 +36,6 @@ loop-m-preserved-then-not-has_cell-2 c =
           small,
     )
 
--- src/users.rt:354:5
 pub loop-m-preserved : goal.loop-m-preserved
 loop-m-preserved c =
     let a = c.args in
@@ -64,7 +60,6 @@ loop-m-preserved c =
           (loop.invariant.1 given small old),
     )
 
--- src/users.rt:335:1
 pub returns : goal.returns
 returns c given small old =
     let a = c.args in

@@ -9,7 +9,6 @@ use Rattle.blocked.proofs.UserLaws.{own_user, sets_none, sets_set, third_open, w
 use Rattle.blocked.proofs.users.denied_in.Goals.{else-loop-u-test, then-loop-u-test+then-before-u}
 use Rattle.blocked.proofs.users.denied_in.Goals as goal
 
--- src/users.rt:279:9
 pub returns-then-all_settled : goal.returns-then-all_settled
 returns-then-all_settled c given small =
     let a = c.args in
@@ -25,7 +24,6 @@ returns-then-all_settled c given small =
       shut = λ k. absurd (omega arith);
     })
 
--- src/users.rt:281:5
 pub loop-u-init : goal.loop-u-init
 loop-u-init c =
     let a = c.args in
@@ -40,7 +38,6 @@ loop-u-init c =
       ),
     )
 
--- src/users.rt:289:13
 pub returns-then-asking-lt-PAST_CELLS : goal.returns-then-asking-lt-PAST_CELLS
 returns-then-asking-lt-PAST_CELLS c given small =
     let a =
@@ -61,7 +58,6 @@ returns-then-asking-lt-PAST_CELLS c given small =
       );
     })
 
--- src/users.rt:281:5
 pub loop-u-preserved : goal.loop-u-preserved
 loop-u-preserved c =
     let a =
@@ -82,7 +78,6 @@ loop-u-preserved c =
           ),
     )
 
--- src/users.rt:260:1
 pub returns : goal.returns
 returns c given small =
     let a = c.args in

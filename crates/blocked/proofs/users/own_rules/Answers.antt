@@ -4,14 +4,11 @@ use Rattle.lineage.proofs.Tables.{fill_none, fill_more}
 use borrow.Author.Rules.{rules}
 use Rattle.blocked.proofs.users.own_rules.Goals as goal
 
--- src/users.rt:85:5
 pub loop-u-init : goal.loop-u-init
 loop-u-init c = fill_none (search rules)
 
--- src/users.rt:85:5
 pub loop-u-preserved : goal.loop-u-preserved
 loop-u-preserved c = fill_more c.loop-u.invariant c.loop-u-test.true c.rules_for.ensures
 
--- src/users.rt:81:1
 pub returns : goal.returns
 returns c u q l = c.loop-u.invariant.at u (omega arith) q

@@ -5,18 +5,15 @@ use Rattle.blocked.proofs.UserLaws.{sets_set}
 use borrow.Author.Rules.{rules}
 use Rattle.blocked.proofs.users.with_rules.Goals as goal
 
--- src/users.rt:160:5
 pub loop-d-init : goal.loop-d-init
 loop-d-init c = (search rules, omega arith, search rules, λ free. free)
 
--- src/users.rt:160:5
 pub loop-d-preserved-then-joined-d : goal.loop-d-preserved-then-joined-d
 loop-d-preserved-then-joined-d c =
     let loop = c.loop-d in
     let below = c.loop-d-test.true in
     (omega arith, loop.invariant.1, loop.invariant.2, loop.invariant.3)
 
--- src/users.rt:167:13
 pub returns-then-wider-ne0 : goal.returns-then-wider-ne0
 returns-then-wider-ne0 c given own free =
     let a = c.args in
@@ -26,14 +23,12 @@ returns-then-wider-ne0 c given own free =
     sets_set a.t.now a.scope a.l a.m loop.sets loop.d wider.result.rules
     (loop.invariant.3 free) (wider.ensures given)
 
--- src/users.rt:160:5
 pub loop-d-preserved : goal.loop-d-preserved
 loop-d-preserved c =
     let loop = c.loop-d in
     let below = c.loop-d-test.true in
     (omega arith, loop.invariant.1, loop.invariant.2, loop.invariant.3)
 
--- src/users.rt:141:1
 pub returns : goal.returns
 returns c given own free =
     let a = c.args in
