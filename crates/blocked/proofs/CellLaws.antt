@@ -28,17 +28,6 @@ any_same_below f g n h = any_from_same f g 0 n (λ j lo hi. h j (omega arith))
 
 -- Groups of sixteen bits
 
--- the code's `word % 65536 != 0`
-some_low : (word : ℕ) → not (eqb (word % 65536) 0) ≡ any (has word) (up_to 16)
-some_low word =
-    not_empty 16 (word % 65536) (omega arith)
-    ∙ any_same_below (has (word % 65536)) (has word) 16 (λ k l. has_cut 16 word k l)
-
--- the same of the bits from s on
-some_from : (word s : ℕ) → any (has (word / 2 ^ s)) (up_to 16) ≡ any (λ k. has word (s + k)) (up_to 16)
-some_from word s =
-    any_same_below (has (word / 2 ^ s)) (λ k. has word (s + k)) 16 (λ k l. has_shift word s k)
-
 -- the code's `65535 << (16 * g)`
 group_mask : (g i : ℕ) → g < 4 → has ((65535 * 2 ^ (16 * g)) % 2 ^ 64) i ≡ eqb (i / 16) g
 group_mask g i l =
@@ -68,15 +57,15 @@ cell_bit places c k l =
     let bit : (16 * c + k) % 64 ≡ 16 * (c % 4) + k = omega arith in
     rw (word, bit)
 
--- the code's test of a group of a set's word
+-- the code's test of a cell's operations
 pub cell_group :
-    (places : List ℕ) (c : ℕ) → not (eqb (get_or places (c / 4) 0 / 2 ^ (16 * (c % 4)) % 65536) 0) ≡ in_cell places c
+    (places : List ℕ) (c word : ℕ)
+    → word < 65536
+    → ((k : ℕ) → k < 16 → has word k ≡ in_places places (16 * c + k))
+    → not (eqb word 0) ≡ in_cell places c
 unfolding in_cell
-cell_group places c =
-    some_low (get_or places (c / 4) 0 / 2 ^ (16 * (c % 4)))
-    ∙ some_from (get_or places (c / 4) 0) (16 * (c % 4))
-    ∙ any_same_below (λ k. has (get_or places (c / 4) 0) (16 * (c % 4) + k)) (λ k. in_places places (16 * c + k)) 16
-    (cell_bit places c)
+cell_group places c word small bits =
+    not_empty 16 word small ∙ any_same_below (has word) (λ k. in_places places (16 * c + k)) 16 bits
 
 -- the code's group of a set's word
 pub cell_bits :

@@ -1,30 +1,29 @@
 -- N1: what Blocked has tested, and what its answer says for every accepted book and rule of it with restrictions.
 -- Assumes nothing.
-use Prim.Native.Nat.{ℕ}
+use Prim.Native.Nat.{ℕ, ◌<◌}
 use native.Mathlib.Omega.{arith}
 use mathlib.Core.Path.{◌≡◌, refl, sym, subst, ◌∙◌}
 use mathlib.Core.Bool.{Bool, true, false≢true}
 use mathlib.Core.List.{List, ◌++◌}
+use Rattle.std.specs.Prelude.{Ok, Err}
 use lib.Dec.{ltb}
 use borrow.Author.Tests.{lt-ltb, ltb-true}
 use Rattle.book.specs.Blocks.{head_of, rule_at, rule_count}
 use Rattle.book.specs.Rule.{restriction_count}
-use Rattle.book.specs.Tests.{Passes, first_failing}
+use Rattle.book.specs.Tests.{Outcome, Passes, first_failing}
 use Rattle.book.specs.Refusals.{BookAccepted, book_tests}
-use Rattle.book.specs.Inner.Testing.{or_else}
-use Rattle.book.specs.declared.Refusal.{Refusal}
-use Rattle.book.specs.declared.Tested.{Tested}
-use Rattle.book.specs.declared.Tested.TheVariants as tested
+use Rattle.book.specs.declared.refusal.Refusal.{Refusal}
+use Rattle.book.specs.declared.refusal.Refusal.TheVariants.{NoRule, RuleForbids}
 use Rattle.book.proofs.Accepted.{accepted_head, accepted_rule}
-use Rattle.book.proofs.Answers.{answered_passed, answered_refused, append_passed, first_append, last_passed}
+use Rattle.book.proofs.Answers.{answered_passed, answered_refused, append_passed, last_passed}
+use Rattle.book.proofs.Calls.{passed_both}
 use Rattle.search.specs.Alone.{First, none, shown}
 use Rattle.search.specs.Answers.{rule_tests}
 use Rattle.blocked.specs.Associations.{Pair}
 use Rattle.blocked.specs.Open.{first_closed}
-use Rattle.blocked.specs.Answers.{blocked_answer, blocked_tests, blocking_of, closed_answer, forbid_tests}
+use Rattle.blocked.specs.Answers.{Blocking, blocked_answer, blocked_tests, blocking_of, closed_answer, forbid_tests}
+use Rattle.blocked.specs.Answers.{open_answer}
 use Rattle.blocked.specs.Demand.{Blocked, BlockedAccepted, ClosedFirst, InScope, NoneClosed}
-use Rattle.blocked.specs.declared.Blocking.{Blocking}
-use Rattle.blocked.specs.declared.Blocking.TheVariants as blocking
 use Rattle.blocked.proofs.ScopeLaws.{first_closed_law, none_closed}
 use Rattle.blocked.proofs.OpenLaws.{closed_means, means_closed}
 use Rattle.blocked.proofs.Names.{answer_names}
@@ -41,45 +40,49 @@ module _ (book : List ℕ) (r : ℕ) where
       let first = append_passed (book_tests book) (rule_tests book r) last.0 in
       record {
         book_accepted = first.0;
-        rule_there = ltb-true r (rule_count book) (last_passed 24 0 (ltb r (rule_count book)) first.1);
+        rule_there = ltb-true r (rule_count book) (last_passed NoRule (ltb r (rule_count book)) first.1);
         restricts =
-            ltb-true 0 (restriction_count rule) (last_passed 26 0 (ltb 0 (restriction_count rule)) last.1);
+            ltb-true 0 (restriction_count rule) (last_passed RuleForbids (ltb 0 (restriction_count rule)) last.1);
       }
+
+  rule_passes : r < rule_count book → Passes (rule_tests book r)
+  unfolding rule_tests first_failing
+  rule_passes there = rw (lt-ltb r (rule_count book) there)
+
+  forbid_passes : 0 < restriction_count (rule_at book r) → Passes (forbid_tests (rule_at book r))
+  unfolding forbid_tests first_failing
+  forbid_passes restricts = rw (lt-ltb 0 (restriction_count (rule_at book r)) restricts)
 
   -- and the other way
   pub blocked_passes : BlockedAccepted book r → Passes (blocked_tests book r)
-  unfolding blocked_tests rule_tests forbid_tests first_failing or_else
+  unfolding blocked_tests
   blocked_passes given =
-      rw (
-        first_append (book_tests book ++ rule_tests book r) (forbid_tests (rule_at book r)),
-        first_append (book_tests book) (rule_tests book r),
-        given.book_accepted,
-        lt-ltb r (rule_count book) given.rule_there,
-        lt-ltb 0 (restriction_count (rule_at book r)) given.restricts,
-      )
+      passed_both (book_tests book ++ rule_tests book r) (forbid_tests (rule_at book r))
+      (passed_both (book_tests book) (rule_tests book r) given.book_accepted (rule_passes given.rule_there))
+      (forbid_passes given.restricts)
 
   -- the answer where it accepts, and where it refuses
   pub blocked_answer_law : Passes (blocked_tests book r) → blocked_answer book r ≡ blocking_of (first_closed book r)
   unfolding blocked_answer
-  blocked_answer_law h = answered_passed (blocked_tests book r) blocking.Refused (blocking_of (first_closed book r)) h
+  blocked_answer_law h = answered_passed (blocked_tests book r) Err (blocking_of (first_closed book r)) h
 
   pub blocked_refused :
-      (x : Refusal) → first_failing (blocked_tests book r) ≡ tested.Refused x → blocking.Refused x ≡ blocked_answer book r
+      (x : Refusal) → first_failing (blocked_tests book r) ≡ Err x → Err x ≡ blocked_answer book r
   unfolding blocked_answer
   blocked_refused x h =
-      sym (answered_refused (blocked_tests book r) blocking.Refused (blocking_of (first_closed book r)) x h)
+      sym (answered_refused (blocked_tests book r) Err (blocking_of (first_closed book r)) x h)
 
   -- an answer that is no refusal was given to an accepted call
-  pub blocked_told : ((x : Refusal) → blocked_answer book r ≡ blocking.Refused x → ⊥) → BlockedAccepted book r
+  pub blocked_told : ((x : Refusal) → blocked_answer book r ≡ Err x → ⊥) → BlockedAccepted book r
   blocked_told told = go (first_failing (blocked_tests book r)) refl
     where
-      go : (f : Tested) → first_failing (blocked_tests book r) ≡ f → BlockedAccepted book r
-      go tested.Passed e = blocked_accepted e
-      go (tested.Refused x) e = absurd (told x (sym (blocked_refused x e)))
+      go : (f : Outcome) → first_failing (blocked_tests book r) ≡ f → BlockedAccepted book r
+      go (Ok done) e = blocked_accepted e
+      go (Err x) e = absurd (told x (sym (blocked_refused x e)))
 
 -- The demand
 
-unlike : (p : Pair) → closed_answer p ≡ blocking.Open → ⊥
+unlike : (p : Pair) → closed_answer p ≡ open_answer → ⊥
 unfolding closed_answer
 unlike p e =
     let z : ◌≡◌ {A = ℕ} 0 1 = cc in
@@ -141,5 +144,6 @@ demand book r given =
 pub blocked_promises :
     (book : List ℕ) (r : ℕ) (answer : Blocking)
     → answer ≡ blocked_answer book r
-    → (answer ≡ blocked_answer book r) × (BlockedAccepted book r → Blocked book r answer)
-blocked_promises book r answer e = (e, λ given. rw e (demand book r given))
+    → BlockedAccepted book r
+    → Blocked book r answer
+blocked_promises book r answer e given = rw e (demand book r given)

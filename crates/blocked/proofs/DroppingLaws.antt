@@ -1,11 +1,12 @@
 -- Laws of dropping rules among three cells: one third cell alone, and one rule tried. Assumes nothing.
-use Prim.Native.Nat.{ℕ, suc, ◌+◌, ◌-◌, ◌/◌, ◌^◌, ◌≤◌, ◌<◌}
+use Prim.Native.Nat.{ℕ, suc, ◌-◌, ◌/◌, ◌^◌, ◌<◌}
 use native.Mathlib.Omega.{arith}
 use mathlib.Core.Path.{◌≡◌, refl, sym, ap, subst, fun_ext, ◌∙◌}
 use mathlib.Core.Bool.{Bool, true, false, ◌&&◌, ◌||◌, not, false≢true}
 use mathlib.Core.List.{List}
 use lib.Bits.{bit_and}
 use lib.Dec.{eqb, ltb}
+use Rattle.std.specs.Prelude.{Option, Some, None}
 use borrow.Author.Tests.{eq-eqb, eqb-false, eqb-true, ltb-false, ne_eqb, not-true}
 use Rattle.book.specs.Sets.{WordOf, has}
 use Rattle.book.proofs.Lists.{and_end, and_false, and_first, and_left, and_right, and_true, and_where}
@@ -13,11 +14,12 @@ use Rattle.book.proofs.Lists.{or_neither}
 use Rattle.book.proofs.Members.{has_above}
 use Rattle.search.specs.Inner.Places.{PlacesOf, in_places}
 use Rattle.search.proofs.Sieves.{without_single}
+use Rattle.search.specs.declared.tables.RuleTable.{RuleTable}
 use Rattle.blocked.specs.Few.{after_trials, with_asking, without}
 use Rattle.blocked.specs.Inner.Cells.{in_cell}
 use Rattle.blocked.specs.Inner.Rows.{Given, OpensOf, RowThere, ThirdOf}
 use Rattle.blocked.specs.Inner.Few.{CellsGiven, Dropped, Keeps, OneGiven, ShutOf, Told}
-use Rattle.blocked.specs.declared.searching.Scope.{Scope}
+use Rattle.blocked.specs.declared.tables.Scope.{Scope}
 use Rattle.blocked.proofs.CellLaws.{cell_member, cell_place}
 use Rattle.blocked.proofs.RowLaws.{prepared_places}
 use Rattle.blocked.proofs.TrialLaws.{and_exchange, trial_absent, trial_gone, trial_kept}
@@ -25,7 +27,7 @@ use Rattle.blocked.proofs.UserLaws.{fewer_prepared}
 
 -- One third cell alone
 
-module _ (t met : List ℕ) (s : Scope) (thirds : List ℕ) (l m n counts : ℕ)
+module _ (t : List RuleTable) (met : List (List ℕ)) (s : Scope) (thirds : List ℕ) (l m n counts : ℕ)
     (alone : PlacesOf (λ p. in_places s.thirds p && eqb (p / 16) n) thirds)
     (given : CellsGiven t met counts s l m n) where
   abbrev cut : Scope
@@ -173,9 +175,9 @@ less_one word one q j fits small single =
     go true e h = refl
     go false e h = absurd (false≢true (sym (has_above 64 word j fits (ltb-false j 64 e)) ∙ h))
 
-module _ (t met : List ℕ) (s : Scope) (l m n r counts q before fewer : ℕ) (passes : (ℕ → Bool) → Bool)
+module _ (t : List RuleTable) (met : List (List ℕ)) (s : Scope) (l m n r counts q before fewer : ℕ) (passes : (ℕ → Bool) → Bool)
     (given : OneGiven t met counts s l m n) (told : Told t s l m n r counts passes) (keeps : Keeps r counts before)
-    (bits : (j : ℕ) → has fewer j ≡ (has before j && not (eqb j q))) (other : q ≡ r → ⊥) (cell : ℕ)
+    (bits : (j : ℕ) → has fewer j ≡ (has before j && not (eqb j q))) (other : q ≡ r → ⊥) (cell : Option ℕ)
     (row : Given t met fewer s → RowThere s l m → ThirdOf t (has fewer) s l m cell) where
   fewer_keeps : Keeps r counts fewer
   fewer_keeps =
@@ -197,10 +199,10 @@ module _ (t met : List ℕ) (s : Scope) (l m n r counts q before fewer : ℕ) (p
       (fewer_prepared t met s (has fewer) (has counts) (λ j k. fewer_keeps.within j) given.cells_given.prepared)
       (record { below = (cells.below.0, cells.below.1); first = cells.first; second = cells.second })
 
-  pub tried_shut : cell < 132 → Dropped passes r counts q before fewer
-  tried_shut low =
-      let shut = third.shut low in
-      let here : cell ≡ n = given.one cell low shut.cells.third in
+  pub tried_shut : (w : ℕ) → cell ≡ Some w → Dropped passes r counts q before fewer
+  tried_shut w e =
+      let shut = (rw e at third).shut in
+      let here : w ≡ n = given.one w shut.cells.below.2 shut.cells.third in
       let passed : passes (without (without (has before) r) q) ≡ true =
       rw tried
       (told.shut (without (has fewer) r)
@@ -210,67 +212,61 @@ module _ (t met : List ℕ) (s : Scope) (l m n r counts q before fewer : ℕ) (p
         trial = trial_gone passes q (without (has before) r) passed ∙ ap (after_trials passes q) tried;
       }
 
-  pub tried_open : 132 ≤ cell → Dropped passes r counts q before before
-  tried_open past =
+  pub tried_open : cell ≡ None → Dropped passes r counts q before before
+  tried_open e =
       let cells = given.cells_given.cells in
-      let small : n < 132 = cells.below.2 in
       let failed : passes (without (without (has before) r) q) ≡ false =
       rw tried
       (told.opens (without (has fewer) r)
       (subst (λ (rules : ℕ → Bool). OpensOf t rules s l m n) (sym (counted r counts fewer fewer_keeps))
-      (third.open_before n (omega arith) cells))) in
+      ((rw e at third) n cells))) in
       record { keeps = keeps; trial = trial_kept passes q (without (has before) r) failed }
 
 -- One rule after the other, from 31 down
 
--- the rules that are left once i have been tried
-abbrev pub Turns : List ℕ → List ℕ → Scope → ℕ → ℕ → ℕ → ℕ → ℕ → ℕ → ℕ → Type 0
-Turns t met s l m n r counts i rules =
+-- the rules that are left where those from k on have been tried
+abbrev pub Turns : List RuleTable → List (List ℕ) → Scope → ℕ → ℕ → ℕ → ℕ → ℕ → ℕ → ℕ → Type 0
+Turns t met s l m n r counts k rules =
     (passes : (ℕ → Bool) → Bool)
     → OneGiven t met counts s l m n
     → has counts r ≡ true
     → Told t s l m n r counts passes
     → Keeps r counts rules
-    × (after_trials passes 32 (without (has counts) r) ≡ after_trials passes (32 - i) (without (has rules) r))
+    × (after_trials passes 32 (without (has counts) r) ≡ after_trials passes k (without (has rules) r))
 
-module _ (t met : List ℕ) (s : Scope) (l m n r counts : ℕ) where
-  pub turns_none : Turns t met s l m n r counts 0 counts
+module _ (t : List RuleTable) (met : List (List ℕ)) (s : Scope) (l m n r counts : ℕ) where
+  pub turns_none : Turns t met s l m n r counts 32 counts
   turns_none passes given asking told = (record { within = λ q h. h; asking = asking }, refl)
 
   pub turns_more :
-      (i before after : ℕ)
-      → i < 32
-      → Turns t met s l m n r counts i before
-      → ((passes : (ℕ → Bool) → Bool) (k all : ℕ)
-      → 31 - i < 32
-      → OneGiven t met all s l m k
-      → Told t s l m k r all passes
+      (q k before after : ℕ)
+      → k ≡ suc q
+      → q < 32
+      → Turns t met s l m n r counts k before
+      → ((passes : (ℕ → Bool) → Bool) (w all : ℕ)
+      → q < 32
+      → OneGiven t met all s l m w
+      → Told t s l m w r all passes
       → Keeps r all before
-      → Dropped passes r all (31 - i) before after)
-      → Turns t met s l m n r counts (i + 1) after
-  turns_more i before after low old turn passes given asking told =
+      → Dropped passes r all q before after)
+      → Turns t met s l m n r counts q after
+  turns_more q k before after e low old turn passes given asking told =
       let so_far = old passes given asking told in
-      let one = turn passes n counts (omega arith) given told so_far.0 in
-      let e : 32 - i ≡ suc (31 - i) = omega arith in
-      let f : 31 - i ≡ 32 - (i + 1) = omega arith in (
+      let one = turn passes n counts low given told so_far.0 in (
         one.keeps,
-        so_far.1
-            ∙ ap (λ k. after_trials passes k (without (has before) r)) e
-            ∙ one.trial
-            ∙ ap (λ k. after_trials passes k (without (has after) r)) f,
+        so_far.1 ∙ ap (λ j. after_trials passes j (without (has before) r)) e ∙ one.trial,
       )
 
 -- after all of them, those left but for r
 pub few_left_law :
-    (passes : (ℕ → Bool) → Bool) (r counts i rules one q : ℕ)
-    → 32 ≤ i
+    (passes : (ℕ → Bool) → Bool) (r counts k rules one q : ℕ)
+    → k ≡ 0
     → rules < 2 ^ 64
     → one < 2 ^ 64
     → WordOf (λ j. eqb j r) one
-    → after_trials passes 32 (without (has counts) r) ≡ after_trials passes (32 - i) (without (has rules) r)
+    → after_trials passes 32 (without (has counts) r) ≡ after_trials passes k (without (has rules) r)
     → has (bit_and rules ((2 ^ 64 - 1) - one)) q ≡ after_trials passes 32 (without (has counts) r) q
 unfolding after_trials without
-few_left_law passes r counts i rules one q past fits small single e =
-    let none : 32 - i ≡ 0 = omega arith in
+few_left_law passes r counts k rules one q none fits small single e =
     less_one rules one r q fits small single
     ∙ sym (ap (λ (f : ℕ → Bool). f q) (e ∙ ap (λ k. after_trials passes k (without (has rules) r)) none))

@@ -1,11 +1,12 @@
 -- N6: the rules that are left when the others have been tried leave the association closed with the asking rule, none
 -- of them can be spared, and their mask is the least; what Culprits answers says so. Assumes nothing.
-use Prim.Native.Nat.{ℕ, ◌%◌, ◌^◌, ◌≤◌, ◌<◌}
+use Prim.Native.Nat.{ℕ, ◌^◌, ◌≤◌, ◌<◌}
 use native.Mathlib.Nat.{le_trans, lt_of_le_of_lt, lt_of_lt_of_le}
 use native.Mathlib.Omega.{arith}
 use mathlib.Core.Path.{◌≡◌, refl, sym, ap, subst, fun_ext, ◌∙◌}
 use mathlib.Core.Bool.{Bool, true, false, ◌&&◌, ◌||◌, not, false≢true}
 use mathlib.Core.List.{List}
+use Rattle.std.specs.Prelude.{Some, Ok, Err}
 use lib.Bits.{bit_and, and_le_l, and_le_r}
 use lib.Dec.{eqb, ltb}
 use lib.Pow.{pow_mono}
@@ -14,11 +15,9 @@ use Rattle.book.specs.Lists.{up_to}
 use Rattle.book.specs.Sets.{has}
 use Rattle.book.specs.Blocks.{rule_count}
 use Rattle.book.specs.Refusals.{BookAccepted}
-use Rattle.book.specs.Tests.{Passes, first_failing}
-use Rattle.book.specs.declared.Refusal.{Refusal}
-use Rattle.book.specs.declared.Tested.{Tested}
-use Rattle.book.specs.declared.Tested.TheVariants as tested
-use Rattle.book.proofs.Answers.{answered_passed, answered_refused}
+use Rattle.book.specs.Tests.{Outcome, Passes, first_failing}
+use Rattle.book.specs.declared.refusal.Refusal.{Refusal}
+use Rattle.book.proofs.Answers.{answered_passed, answered_refused, refused_passed}
 use Rattle.book.proofs.Lists.{and_left, and_right, and_second, and_true}
 use Rattle.book.proofs.Members.{has_and, same_members}
 use Rattle.lineage.specs.Accesses.{word_of}
@@ -30,11 +29,10 @@ use Rattle.search.proofs.Solutions.{fails}
 use Rattle.blocked.specs.Associations.{Pair}
 use Rattle.blocked.specs.Open.{first_closed, is_closed, is_closed_under}
 use Rattle.blocked.specs.Few.{few_left, few_rules, leaves_closed, others, with_asking, without}
-use Rattle.blocked.specs.Answers.{blocked_answer, blocked_tests, blocking_of, causes_of, closed_answer, culprits_answer}
+use Rattle.blocked.specs.Answers.{blocked_answer, blocked_tests, blocking_of, closed_answer}
+use Rattle.blocked.specs.Answers.{Causes, causes_of, culprits_answer, few_answer, unblocked}
 use Rattle.blocked.specs.Demand.{BlockedAccepted}
 use Rattle.blocked.specs.Minimal.{Behind, Caused, Lowest, Minimal, OpenUnder, ProperPart}
-use Rattle.blocked.specs.declared.Causes.{Causes}
-use Rattle.blocked.specs.declared.Causes.TheVariants as causes
 use Rattle.blocked.proofs.OpenLaws.{closed_means, means_closed, open_choice, some_broken_law}
 use Rattle.blocked.proofs.ScopeLaws.{first_closed_law}
 use Rattle.blocked.proofs.DemandLaws.{blocked_accepted, blocked_answer_law, blocked_passes, first_means, none_means}
@@ -193,38 +191,23 @@ module _ (book : List ℕ) (accepted : BookAccepted book) where
 module _ (book : List ℕ) (r : ℕ) where
   pub culprits_answer_law : Passes (blocked_tests book r) → culprits_answer book r ≡ causes_of book r (first_closed book r)
   unfolding culprits_answer
-  culprits_answer_law h = answered_passed (blocked_tests book r) causes.Refused (causes_of book r (first_closed book r)) h
+  culprits_answer_law h = answered_passed (blocked_tests book r) Err (causes_of book r (first_closed book r)) h
 
   pub culprits_refused :
-      (x : Refusal) → first_failing (blocked_tests book r) ≡ tested.Refused x → causes.Refused x ≡ culprits_answer book r
+      (x : Refusal) → first_failing (blocked_tests book r) ≡ Err x → Err x ≡ culprits_answer book r
   unfolding culprits_answer
   culprits_refused x h =
-      sym (answered_refused (blocked_tests book r) causes.Refused (causes_of book r (first_closed book r)) x h)
+      sym (answered_refused (blocked_tests book r) Err (causes_of book r (first_closed book r)) x h)
 
   -- an answer that is no refusal was given to an accepted call
-  pub culprits_given : ((x : Refusal) → culprits_answer book r ≡ causes.Refused x → ⊥) → BlockedAccepted book r
+  pub culprits_given : ((x : Refusal) → culprits_answer book r ≡ Err x → ⊥) → BlockedAccepted book r
   culprits_given told = go (first_failing (blocked_tests book r)) refl
     where
-      go : (f : Tested) → first_failing (blocked_tests book r) ≡ f → BlockedAccepted book r
-      go tested.Passed e = blocked_accepted book r e
-      go (tested.Refused x) e = absurd (told x (sym (culprits_refused x e)))
+      go : (f : Outcome) → first_failing (blocked_tests book r) ≡ f → BlockedAccepted book r
+      go (Ok done) e = blocked_accepted book r e
+      go (Err x) e = absurd (told x (sym (culprits_refused x e)))
 
-  -- the rule by its number
-  pub culprits_told :
-      (answer : Causes)
-      → (BookAccepted book
-      → r % 256 < rule_count book
-      → answer ≡ causes_of book (r % 256) (first_closed book (r % 256)))
-      → Passes (blocked_tests book r)
-      → answer ≡ culprits_answer book r
-  culprits_told answer told passes =
-      let accepted = blocked_accepted book r passes in
-      let few : rule_count book ≤ 32 = few_rules_law book accepted.book_accepted in
-      let l : r < rule_count book = accepted.rule_there in
-      let e : r % 256 ≡ r = omega arith in
-      (rw e at (told accepted.book_accepted (omega arith))) ∙ sym (culprits_answer_law passes)
-
-unlike : (mask : ℕ) → causes.Few mask ≡ causes.Unblocked → ⊥
+unlike : (mask : ℕ) → few_answer mask ≡ unblocked → ⊥
 unlike mask e =
     let z : ◌≡◌ {A = ℕ} 0 1 = cc in
     omega arith
@@ -269,7 +252,7 @@ caused book r given =
 -- a mask that is given has 32 bits, and the asking rule's is clear
 pub culprits_mask :
     (book : List ℕ) (r mask : ℕ)
-    → culprits_answer book r ≡ causes.Few mask
+    → culprits_answer book r ≡ few_answer mask
     → BlockedAccepted book r × (r < 32) × (mask < 2 ^ 32) × (has mask r ≡ false)
 unfolding causes_of
 culprits_mask book r mask h =
@@ -279,14 +262,14 @@ culprits_mask book r mask h =
     let told = go given few (first_closed book r) (sym (culprits_answer_law book r (blocked_passes book r given)) ∙ h) in
     (given, omega arith, told.0, told.1)
   where
-    refused : (x : Refusal) → causes.Few mask ≡ causes.Refused x → ⊥
-    refused x e = let z : ◌≡◌ {A = ℕ} 0 1 = cc in omega arith
+    refused : (x : Refusal) → few_answer mask ≡ Err x → ⊥
+    refused x e = refused_passed x (Some mask) (sym e)
 
     go :
         BlockedAccepted book r
         → rule_count book ≤ 32
         → (f : First Pair)
-        → causes_of book r f ≡ causes.Few mask
+        → causes_of book r f ≡ few_answer mask
         → (mask < 2 ^ 32) × (has mask r ≡ false)
     go given few none e = let z : ◌≡◌ {A = ℕ} 0 1 = cc in absurd (omega arith)
     go given few (shown p) e =
@@ -300,5 +283,6 @@ culprits_mask book r mask h =
 pub culprits_promises :
     (book : List ℕ) (r : ℕ) (answer : Causes)
     → answer ≡ culprits_answer book r
-    → (answer ≡ culprits_answer book r) × (BlockedAccepted book r → Caused book r answer)
-culprits_promises book r answer e = (e, λ given. rw e (caused book r given))
+    → BlockedAccepted book r
+    → Caused book r answer
+culprits_promises book r answer e given = rw e (caused book r given)

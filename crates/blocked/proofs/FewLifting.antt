@@ -8,6 +8,7 @@ use mathlib.Core.Bool.{Bool, true, false, ◌&&◌, ◌||◌, not, false≢true}
 use mathlib.Core.List.{List}
 use lib.Dec.{eqb, ltb}
 use lib.Pow.{pow_mono}
+use Rattle.std.specs.Prelude.{Option, Some, None}
 use borrow.Author.Tests.{le-ltb, lt-ltb, ltb-false, ltb-true}
 use Rattle.book.specs.Lists.{up_to}
 use Rattle.book.specs.Sets.{has}
@@ -24,7 +25,7 @@ use Rattle.search.proofs.Solutions.{fails}
 use Rattle.blocked.specs.Associations.{Pair}
 use Rattle.blocked.specs.Open.{first_closed, is_closed, is_closed_under, operation_choices, some_broken}
 use Rattle.blocked.specs.Few.{after_trials, few_left, few_rules, leaves_closed, others, with_asking, without}
-use Rattle.blocked.specs.Answers.{causes_of}
+use Rattle.blocked.specs.Answers.{causes_of, few_answer, unblocked}
 use Rattle.blocked.specs.Inner.Cells.{Cells}
 use Rattle.blocked.specs.Inner.Pairs.{Ready}
 use Rattle.blocked.specs.Inner.Rows.{OpensOf}
@@ -32,10 +33,9 @@ use Rattle.blocked.specs.Inner.Users.{DeniedFirst, DeniedUser, counting_rules, c
 use Rattle.blocked.specs.Inner.First.{FirstDenied, pair_at}
 use Rattle.blocked.specs.Inner.Few.{CellsGiven, Told}
 use Rattle.blocked.specs.Inner.Start.{Started}
-use Rattle.blocked.specs.declared.Causes.TheVariants as causes
-use Rattle.blocked.specs.declared.calls.Start.{Start}
-use Rattle.blocked.specs.declared.users.Denied.{Denied}
-use Rattle.blocked.specs.declared.users.Denied.TheVariants.{Nobody, User}
+use Rattle.blocked.specs.Inner.Tables.{CellsBy, FirstBy, ReadyBy}
+use Rattle.blocked.specs.declared.tables.Tables.{Tables}
+use Rattle.blocked.specs.declared.users.Denial.{Denial}
 use Rattle.blocked.proofs.ScopeLaws.{first_closed_law}
 use Rattle.blocked.proofs.TripleLaws.{opens_fewer}
 use Rattle.blocked.proofs.UserLaws.{fewer_prepared}
@@ -68,32 +68,30 @@ covering_same book p r left =
     go false true false d = refl
     go false false c d = refl
 
-module _ (book : List ℕ) (accepted : BookAccepted book) (r : ℕ) (l : r < rule_count book) (t met : List ℕ) (s : Start)
-    (given : Started book r t met s) where
-  pub started_ready : Ready t met s.all s.scope.seconds s.scope.thirds s.covered
+module _ (book : List ℕ) (accepted : BookAccepted book) (r : ℕ) (l : r < rule_count book) (s : Tables)
+    (given : Started book r s) where
+  pub started_ready : Ready s.rules s.met s.all s.scope.seconds s.scope.thirds s.covered
   started_ready =
-      ready book accepted given.bytes r l t given.had s.covered given.tables given.hads given.covers
-      s.scope.firsts s.scope.seconds s.scope.thirds given.first given.second given.third met
+      ready book accepted r l s.rules given.had s.covered given.tables given.hads given.covers
+      s.scope.firsts s.scope.seconds s.scope.thirds given.first given.second given.third s.met
       s.all given.met_holds given.all_rules
 
-  abbrev Finds : Denied → Type 0
-  Finds found =
-      Ready t met s.all s.scope.seconds s.scope.thirds s.covered
-      → DeniedFirst t r s.scope.firsts s.scope.seconds s.scope.thirds s.covered found
+  abbrev Finds : Option Denial → Type 0
+  Finds found = ReadyBy s → FirstBy s r found
 
-  pub started_denied : (found : Denied) → Finds found → FirstDenied book r found
+  pub started_denied : (found : Option Denial) → Finds found → FirstDenied book r found
   started_denied found h =
-      lifted book accepted given.bytes r l t given.had s.covered given.tables given.hads given.covers
+      lifted book accepted r l s.rules given.had s.covered given.tables given.hads given.covers
       s.scope.firsts s.scope.seconds s.scope.thirds given.first given.second given.third found
       (h started_ready)
 
-  pub nobody_causes : (found : Denied) → found ≡ Nobody → Finds found → causes.Unblocked ≡ causes_of book r (first_closed book r)
+  pub nobody_causes : (found : Option Denial) → found ≡ None → Finds found → unblocked ≡ causes_of book r (first_closed book r)
   unfolding FirstDenied causes_of
   nobody_causes found e h = sym (ap (causes_of book r) (rw e at (started_denied found h)))
 
   -- The user and the cells that were found
 
-  module _ (u b z w : ℕ) (denied : DeniedUser t r s.scope.firsts s.scope.seconds s.scope.thirds s.covered u b z w)
+  module _ (u b z w : ℕ) (denied : DeniedUser s.rules r s.scope.firsts s.scope.seconds s.scope.thirds s.covered u b z w)
       (counts : ℕ) (bits : (q : ℕ) → has counts q ≡ (ltb q 32 && covering_rules s.covered u q)) where
     abbrev here : Pair
     here = pair_at u b z w
@@ -113,11 +111,11 @@ module _ (book : List ℕ) (accepted : BookAccepted book) (r : ℕ) (l : r < rul
         let few = few_rules_law book accepted in
         bits r ∙ rw (lt-ltb r 32 (omega arith)) denied.covers
 
-    pub cells_given : CellsGiven t met counts s.scope b z w
+    pub cells_given : CellsGiven s.rules s.met counts s.scope b z w
     cells_given =
         record {
           prepared =
-              fewer_prepared t met s.scope (has counts) (has s.all)
+              fewer_prepared s.rules s.met s.scope (has counts) (has s.all)
               (λ q low h. started_ready.among u q denied.below low (covered_small q h).1)
               started_ready.prepared;
           cells = cells;
@@ -126,7 +124,7 @@ module _ (book : List ℕ) (accepted : BookAccepted book) (r : ℕ) (l : r < rul
     user : covers_user (head_of book) (rule_at book r) u ≡ true
     user =
         sym
-        (covers_rule book accepted given.bytes r l t given.had s.covered given.tables given.hads
+        (covers_rule book accepted r l s.rules given.had s.covered given.tables given.hads
         given.covers s.scope.firsts s.scope.seconds s.scope.thirds given.first given.second
         given.third u denied.below)
         ∙ denied.covers
@@ -135,13 +133,13 @@ module _ (book : List ℕ) (accepted : BookAccepted book) (r : ℕ) (l : r < rul
     counting : (ℕ → Bool) → ℕ → Bool
     counting rules q = rules q && has counts q
 
-    opens_pair : (rules : ℕ → Bool) → OpensOf t (counting rules) s.scope b z w → is_closed_under book rules here ≡ false
+    opens_pair : (rules : ℕ → Bool) → OpensOf s.rules (counting rules) s.scope b z w → is_closed_under book rules here ≡ false
     unfolding counting
     opens_pair rules o =
-        opens_open book accepted given.bytes r l t given.had s.covered given.tables given.hads
+        opens_open book accepted r l s.rules given.had s.covered given.tables given.hads
         given.covers s.scope.firsts s.scope.seconds s.scope.thirds given.first given.second
         given.third b z w cells rules u denied.below
-        (opens_fewer t s.scope (counting_rules rules s.covered u) (counting rules)
+        (opens_fewer s.rules s.scope (counting_rules rules s.covered u) (counting rules)
         (λ q low h.
         and_true (rules q) (has counts q) (and_left (rules q) (covering_rules s.covered u q) h)
         (bits q
@@ -149,19 +147,19 @@ module _ (book : List ℕ) (accepted : BookAccepted book) (r : ℕ) (l : r < rul
         (and_right (rules q) (covering_rules s.covered u q) h)))
         b z w o)
 
-    pair_opens : (rules : ℕ → Bool) → is_closed_under book rules here ≡ false → OpensOf t (counting rules) s.scope b z w
+    pair_opens : (rules : ℕ → Bool) → is_closed_under book rules here ≡ false → OpensOf s.rules (counting rules) s.scope b z w
     unfolding counting
     pair_opens rules h =
-        opens_fewer t s.scope (counting rules) (counting_rules rules s.covered u)
+        opens_fewer s.rules s.scope (counting rules) (counting_rules rules s.covered u)
         (λ q low g.
         and_true (rules q) (covering_rules s.covered u q) (and_left (rules q) (has counts q) g)
         (covered_small q (and_right (rules q) (has counts q) g)).1)
         b z w
-        (open_opens book accepted given.bytes r l t given.had s.covered given.tables given.hads
+        (open_opens book accepted r l s.rules given.had s.covered given.tables given.hads
         given.covers s.scope.firsts s.scope.seconds s.scope.thirds given.first given.second
         given.third b z w cells rules u denied.below user h)
 
-    pub cells_told : Told t s.scope b z w r counts (leaves_closed book r here)
+    pub cells_told : Told s.rules s.scope b z w r counts (leaves_closed book r here)
     unfolding leaves_closed counting
     cells_told =
         record {
@@ -198,7 +196,7 @@ module _ (book : List ℕ) (accepted : BookAccepted book) (r : ℕ) (l : r < rul
 
     closed : is_closed book here ≡ true
     unfolding DeniedFirst FirstDenied
-    closed = (first_closed_law book r here (started_denied (User u b z w) (λ i. denied)).0).1
+    closed = (first_closed_law book r here (started_denied (Some (record { user = u; first = b; second = z; third = w })) (λ i. denied)).0).1
 
     -- those left of the rules that cover the user are those left of all
     pub few_counted :
@@ -222,11 +220,11 @@ module _ (book : List ℕ) (accepted : BookAccepted book) (r : ℕ) (l : r < rul
         (λ q past h. absurd (false≢true (sym (others_past book accepted r here q past) ∙ h))))
 
     pub user_causes :
-        (found : Denied) (word : ℕ)
-        → found ≡ User u b z w
+        (found : Option Denial) (word : ℕ)
+        → found ≡ Some (record { user = u; first = b; second = z; third = w })
         → Finds found
         → ((q : ℕ) → has word q ≡ after_trials (leaves_closed book r here) 32 (without (has counts) r) q)
-        → causes.Few (word % 4294967296) ≡ causes_of book r (first_closed book r)
+        → few_answer (word % 4294967296) ≡ causes_of book r (first_closed book r)
     unfolding FirstDenied causes_of
     user_causes found word e h few =
         let some = few_rules_law book accepted in
@@ -238,22 +236,22 @@ module _ (book : List ℕ) (accepted : BookAccepted book) (r : ℕ) (l : r < rul
         rw same (sym (ap (causes_of book r) (rw e at (started_denied found h)).0))
 
   pub user_found :
-      (u b z w : ℕ) (found : Denied)
-      → found ≡ User u b z w
+      (d : Denial) (found : Option Denial)
+      → found ≡ Some d
       → Finds found
       → (counts : ℕ)
-      → ((q : ℕ) → has counts q ≡ (ltb q 32 && covering_rules s.covered u q))
+      → ((q : ℕ) → has counts q ≡ (ltb q 32 && covering_rules s.covered d.user q))
       → (word : ℕ)
       → ((passes : (ℕ → Bool) → Bool)
-      → CellsGiven t met counts s.scope b z w
+      → CellsBy s d counts
       → has counts r ≡ true
-      → Told t s.scope b z w r counts passes
+      → Told s.rules s.scope d.first d.second d.third r counts passes
       → (q : ℕ)
       → has word q ≡ after_trials passes 32 (without (has counts) r) q)
-      → causes.Few (word % 4294967296) ≡ causes_of book r (first_closed book r)
+      → few_answer (word % 4294967296) ≡ causes_of book r (first_closed book r)
   unfolding DeniedFirst
-  user_found u b z w found e h counts bits word few =
+  user_found d found e h counts bits word few =
       let denied = rw e at (h started_ready) in
-      user_causes u b z w denied counts bits found word e h
-      (few (leaves_closed book r (pair_at u b z w)) (cells_given u b z w denied counts bits)
-      (asking_counts u b z w denied counts bits) (cells_told u b z w denied counts bits))
+      user_causes d.user d.first d.second d.third denied counts bits found word e h
+      (few (leaves_closed book r (pair_at d.user d.first d.second d.third)) (cells_given d.user d.first d.second d.third denied counts bits)
+      (asking_counts d.user d.first d.second d.third denied counts bits) (cells_told d.user d.first d.second d.third denied counts bits))

@@ -3,6 +3,7 @@ pub mod OpenLaws
 pub mod Names
 pub mod DemandLaws
 pub mod Plans
+pub mod Selecting
 pub mod CellLaws
 pub mod MetLaws
 pub mod SliceLaws

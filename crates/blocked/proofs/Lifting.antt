@@ -19,11 +19,10 @@ use Rattle.book.proofs.Accepted.{RuleHolds, accepted_head, accepted_rule}
 use Rattle.book.proofs.Lists.{and_assoc, and_both, and_false, and_left, and_right, and_true, any_from_same, or_either}
 use Rattle.book.proofs.Lists.{same_test}
 use Rattle.verdicts.specs.Accesses.{Access, fits, members}
-use Rattle.verdicts.specs.Inner.Words.{RuleSound}
 use Rattle.verdicts.specs.Breaking.{breaks, some_choice_refused}
 use Rattle.verdicts.proofs.Accesses.{leaf_set_below, Apart}
 use Rattle.verdicts.proofs.Quantifiers.{any_below}
-use Rattle.verdicts.proofs.Sound.{few_rules_law, rules_sound}
+use Rattle.verdicts.proofs.Sound.{few_rules_law}
 use Rattle.verdicts.proofs.Users.{user_below}
 use Rattle.search.specs.Obtainable.{can_be_had, labelled, operated}
 use Rattle.search.specs.Choices.{is_choice}
@@ -34,6 +33,7 @@ use Rattle.search.specs.Inner.Search.{candidate, covers_in}
 use Rattle.search.proofs.Placements.{closes_broken}
 use Rattle.search.proofs.ChoicePlaces.{Stand, choice_places, places_choice, stands_at, stands_most}
 use Rattle.search.proofs.ChoiceTables.{candidate_stands}
+use Rattle.search.specs.declared.tables.RuleTable.{RuleTable}
 use Rattle.blocked.specs.Associations.{Datum, Pair, access_to, association_before, datum_of, in_scope_at, is_association}
 use Rattle.blocked.specs.Associations.{is_association_from, pair_before}
 use Rattle.blocked.specs.Open.{is_closed, is_closed_under, some_broken}
@@ -42,8 +42,8 @@ use Rattle.blocked.specs.Inner.Cells.{Cells, Opens, spares}
 use Rattle.blocked.specs.Inner.Pairs.{MetHolds, Ready, Whole}
 use Rattle.blocked.specs.Inner.Users.{DeniedFirst, DeniedUser, counting_rules, covering_rules}
 use Rattle.blocked.specs.Inner.First.{FirstDenied, association_at, pair_at}
-use Rattle.blocked.specs.declared.users.Denied.{Denied}
-use Rattle.blocked.specs.declared.users.Denied.TheVariants.{Nobody, User}
+use Rattle.std.specs.Prelude.{Option, Some, None}
+use Rattle.blocked.specs.declared.users.Denial.{Denial}
 use Rattle.blocked.proofs.ScopeLaws.{closed_first, closed_none, covers_user_law, pair}
 use Rattle.blocked.proofs.OpenLaws.{choice_chooses, choice_open, chooses_choice, open_choice}
 use Rattle.blocked.proofs.CellLaws.{cell_member, cell_place}
@@ -69,8 +69,8 @@ module _ (head rule : List ℕ) where
       let rest = plain n (suc i) a b.1 in
       record { to = ap (λ (d : List Datum). x ∷ d) rest.to; had = rw (f.0, rest.had) }
 
-module _ (book : List ℕ) (accepted : BookAccepted book) (bytes : (i : ℕ) → get_or book i 0 < 256)
-    (r : ℕ) (l : r < rule_count book) (t had covered : List ℕ)
+module _ (book : List ℕ) (accepted : BookAccepted book)
+    (r : ℕ) (l : r < rule_count book) (t : List RuleTable) (had covered : List ℕ)
     (tables : TableHolds book (rule_count book) t) (hads : HadHolds (head_of book) had)
     (covers : CoversHold book (rule_count book) covered)
     (firsts seconds thirds : List ℕ)
@@ -85,9 +85,6 @@ module _ (book : List ℕ) (accepted : BookAccepted book) (bytes : (i : ℕ) →
   leaves_apart : (q : ℕ) → q < rule_count book → Apart (head_of book) (rule_at book q)
   leaves_apart q k i j d li lj h =
       (holding q k).apart i j d li lj (leaf_set_below (head_of book) (rule_at book q) i d h) h
-
-  sound : (q : ℕ) → q < rule_count book → RuleSound (head_of book) (rule_at book q)
-  sound q k = rules_sound book accepted bytes q k
 
   pub covers_rule : (u : ℕ) → u < 32 → covers_in covered r u ≡ covers_user (head_of book) (rule_at book r) u
   covers_rule u lu =
@@ -133,7 +130,7 @@ module _ (book : List ℕ) (accepted : BookAccepted book) (bytes : (i : ℕ) →
       (λ h. lt-ltb (16 * (p / 16)) nowhere (omega (arith, ltb-true p nowhere h))) in
       at p lq li lp ∙ sym (at (16 * (p / 16)) lq li (omega arith) ∙ rw (channel, leaf, low))
 
-  module _ (met : List ℕ) (all : ℕ)
+  module _ (met : List (List ℕ)) (all : ℕ)
       (holds : MetHolds t met) (rules : WordOf (λ q. ltb q (rule_count book)) all) where
     rule_below : (q : ℕ) → q < 32 → has all q ≡ true → q < rule_count book
     rule_below q l h =
@@ -175,18 +172,18 @@ module _ (book : List ℕ) (accepted : BookAccepted book) (bytes : (i : ℕ) →
     a_choice : is_choice (head_of book) (rule_at book r) (choice_at a y x) ≡ true
     unfolding is_choice
     a_choice =
-        places_choice (head_of book) (rule_at book r) (reference_count (rule_at book r)) (sound r l).some (sound r l).few
+        places_choice (head_of book) (rule_at book r) (reference_count (rule_at book r)) (tables.sound r l).some (tables.sound r l).few
         a y x stand
 
     of_cells : map datum_of (choice_at a y x) ≡ association_at (a / 16) (y / 16) (x / 16)
     of_cells =
-        choice_association (head_of book) (rule_at book r) a y x (reference_count (rule_at book r)) (sound r l).some
-        (sound r l).few stand
+        choice_association (head_of book) (rule_at book r) a y x (reference_count (rule_at book r)) (tables.sound r l).some
+        (tables.sound r l).few stand
 
     shape : Shape (reference_count (rule_at book r)) (a / 16) (y / 16) (x / 16)
     shape =
-        stand_shape (head_of book) (rule_at book r) a y x (reference_count (rule_at book r)) (sound r l).some
-        (sound r l).few stand
+        stand_shape (head_of book) (rule_at book r) a y x (reference_count (rule_at book r)) (tables.sound r l).some
+        (tables.sound r l).few stand
 
     closes_rule :
         (q : ℕ)
@@ -194,7 +191,7 @@ module _ (book : List ℕ) (accepted : BookAccepted book) (bytes : (i : ℕ) →
         → closes t q a y x ≡ some_choice_refused (head_of book) (rule_at book q) (members (choice_at a y x))
     closes_rule q k =
         let m = stands_most (head_of book) (rule_at book r) (reference_count (rule_at book r)) in
-        closes_broken book (rule_count book) t tables q k (sound q k) (leaves_apart q k)
+        closes_broken book (rule_count book) t tables q k (tables.sound q k) (leaves_apart q k)
         (holding q k).restrictions_most a y x (m 0 a stand.first) (m 1 y stand.second) (m 2 x stand.third)
 
     -- the rules that count and cover a user are broken by the places as by their accesses
@@ -286,7 +283,7 @@ module _ (book : List ℕ) (accepted : BookAccepted book) (bytes : (i : ℕ) →
           let same : association_at (a / 16) (y / 16) (x / 16) ≡ association_at b z w =
           sym (of_cells a y x s) ∙ ap (map datum_of) (sym e) ∙ to in
           let q =
-          shape_same (a / 16) (y / 16) (x / 16) b z w n (sound r l).few (shape a y x s) cells_shape.0 same in
+          shape_same (a / 16) (y / 16) (x / 16) b z w n (tables.sound r l).few (shape a y x s) cells_shape.0 same in
           let m = stands_most (head_of book) (rule_at book r) n in
           let la = m 0 a s.first in
           let ly = m 1 y s.second in
@@ -316,7 +313,7 @@ module _ (book : List ℕ) (accepted : BookAccepted book) (bytes : (i : ℕ) →
           (record { covered = user; association = cells_shape.1 }) found.1 in
           let p =
           choice_places (head_of book) (rule_at book r) (accepted_head book accepted) (reference_count (rule_at book r))
-          (sound r l).some (sound r l).few found.0 choice in
+          (tables.sound r l).some (tables.sound r l).few found.0 choice in
           choice_opens found.0 p.0 p.1 p.2 p.3 p.4 found.1.to found.2
 
   -- an association in scope has its cells
@@ -332,7 +329,7 @@ module _ (book : List ℕ) (accepted : BookAccepted book) (bytes : (i : ℕ) →
       let c = map (λ x. access_to x 0) p.association in
       let zeros = plain head rule n 0 p.association within.association in
       let at =
-      choice_places head rule (accepted_head book accepted) n (sound r l).some (sound r l).few c
+      choice_places head rule (accepted_head book accepted) n (tables.sound r l).some (tables.sound r l).few c
       (chooses_choice head rule p c within zeros) in
       let a = at.0 in
       let y = at.1 in
@@ -399,36 +396,39 @@ module _ (book : List ℕ) (accepted : BookAccepted book) (bytes : (i : ℕ) →
       let q = and_both (eqb p.user u) (association_before p.association (association_at b z w)) v in
       rw (eqb-true p.user u q.0)
       (denied.earliest c y x
-      (shape_before c y x b z w n (sound r l).few (cells_shape c y x own).0 (cells_shape b z w cells).0
+      (shape_before c y x b z w n (tables.sound r l).few (cells_shape c y x own).0 (cells_shape b z w cells).0
       (rw e at q.1))
       own))
       (or_either (ltb p.user u) (eqb p.user u && association_before p.association (association_at b z w)) before)
 
   pub lifted :
-      (found : Denied) → DeniedFirst t r firsts seconds thirds covered found → FirstDenied book r found
+      (found : Option Denial) → DeniedFirst t r firsts seconds thirds covered found → FirstDenied book r found
   unfolding DeniedFirst FirstDenied
-  lifted Nobody h =
+  lifted None h =
       closed_none book r
       (λ p within.
       pair_open p within
       (λ b z w small e cells.
       h p.user small (covers_rule p.user small ∙ within.covered) b z w cells))
-  lifted (User u b z w) h =
-      let cells = h.shut.cells in
-      let here = cells_shape b z w cells in
-      let user = sym (covers_rule u h.below) ∙ h.covers in (
-        closed_first book r (pair_at u b z w) (record { covered = user; association = here.1 })
-            (go user cells (is_closed book (pair_at u b z w)) refl)
+  lifted (Some d) h =
+      let here = cells_shape d.first d.second d.third h.shut.cells in
+      let user = sym (covers_rule d.user h.below) ∙ h.covers in (
+        closed_first book r (pair_at d.user d.first d.second d.third)
+            (record { covered = user; association = here.1 })
+            (go user h.shut.cells (is_closed book (pair_at d.user d.first d.second d.third)) refl)
             (λ p within before.
-            pair_open p within (λ c y x small e own. earlier p u b z w c y x within h cells small e own before)),
-        shape_standing b z w (reference_count (rule_at book r)) (sound r l).few here.0,
+            pair_open p within
+            (λ c y x small e own.
+            earlier p d.user d.first d.second d.third c y x within h h.shut.cells small e own before)),
+        shape_standing d.first d.second d.third (reference_count (rule_at book r)) (tables.sound r l).few here.0,
       )
     where
       go :
-          covers_user (head_of book) (rule_at book r) u ≡ true
-          → Cells firsts seconds thirds b z w
+          covers_user (head_of book) (rule_at book r) d.user ≡ true
+          → Cells firsts seconds thirds d.first d.second d.third
           → (c : Bool)
-          → is_closed book (pair_at u b z w) ≡ c
+          → is_closed book (pair_at d.user d.first d.second d.third) ≡ c
           → c ≡ true
       go user cells true e = refl
-      go user cells false e = absurd (h.shut.closed (open_opens b z w cells (λ q. true) u h.below user e))
+      go user cells false e =
+          absurd (h.shut.closed (open_opens d.first d.second d.third cells (λ q. true) d.user h.below user e))

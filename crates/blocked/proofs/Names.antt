@@ -1,7 +1,7 @@
 -- The bytes of an answer of Blocked name one user and association of the rule's scope. Assumes nothing.
 use Prim.Native.Nat.{ℕ, zero, suc, ◌+◌, ◌*◌, ◌≤◌, ◌<◌}
 use native.Mathlib.Omega.{arith}
-use mathlib.Core.Path.{◌≡◌, refl, subst}
+use mathlib.Core.Path.{◌≡◌, refl, subst, ap}
 use mathlib.Core.Bool.{true, false≢true}
 use mathlib.Core.List.{List, [], ◌∷◌}
 use Rattle.book.specs.Head.{data_count}
@@ -10,6 +10,7 @@ use Rattle.book.proofs.Lists.{and_both}
 use Rattle.blocked.specs.Associations.{Datum, Pair, in_scope_at, is_association, is_association_from}
 use Rattle.blocked.specs.Answers.{closed_answer, datum_byte}
 use Rattle.blocked.specs.Demand.{InScope}
+use Rattle.blocked.specs.declared.Closed.{Closed}
 use Rattle.blocked.proofs.ScopeLaws.{datum, datum_bounds, pair}
 
 module _ (head rule : List ℕ) (most : data_count head ≤ 64) where
@@ -37,6 +38,15 @@ module _ (head rule : List ℕ) (most : data_count head ≤ 64) where
       let rest = bytes_name n (suc i) a b xs.1 ys.1 (λ j l. same (suc j) (omega arith)) in
       subst (λ (z : Datum). x ∷ a ≡ z ∷ b) first (rw rest)
 
+  abbrev numbers : Pair → Closed
+  numbers p =
+      record {
+        user = p.user;
+        first = datum_byte p.association 0;
+        second = datum_byte p.association 1;
+        third = datum_byte p.association 2;
+      }
+
   -- "128 + 64 × action + leaf; 0 for an absent reference": a pair of the scope by its bytes
   pub answer_names :
       reference_count rule ≤ 3
@@ -47,10 +57,11 @@ module _ (head rule : List ℕ) (most : data_count head ≤ 64) where
       → p ≡ q
   unfolding closed_answer is_association
   answer_names few p q within other e =
-      let u : p.user ≡ q.user = cc in
-      let first : datum_byte p.association 0 ≡ datum_byte q.association 0 = cc in
-      let second : datum_byte p.association 1 ≡ datum_byte q.association 1 = cc in
-      let third : datum_byte p.association 2 ≡ datum_byte q.association 2 = cc in
+      let all : numbers p ≡ numbers q = cc in
+      let u = ap (λ (c : Closed). c.user) all in
+      let first = ap (λ (c : Closed). c.first) all in
+      let second = ap (λ (c : Closed). c.second) all in
+      let third = ap (λ (c : Closed). c.third) all in
       let a =
       bytes_name (reference_count rule) 0 p.association q.association within.association other.association
       (λ j l. bytes first second third j (omega arith)) in

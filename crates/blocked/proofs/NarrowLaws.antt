@@ -1,6 +1,6 @@
 -- Laws of pairs of operations that rules narrow: one rule after another takes what it does not accept.
 -- Assumes nothing.
-use Prim.Native.Nat.{ℕ, zero, suc, ◌+◌, ◌-◌, ◌*◌, ◌/◌, ◌%◌, ◌^◌, ◌≤◌, ◌<◌}
+use Prim.Native.Nat.{ℕ, zero, suc, ◌+◌, ◌-◌, ◌/◌, ◌%◌, ◌^◌, ◌≤◌, ◌<◌}
 use native.Mathlib.Nat.{lt_of_le_of_lt}
 use native.Mathlib.Omega.{arith}
 use mathlib.Core.Path.{◌≡◌, refl, sym, ap, ◌∙◌}
@@ -21,7 +21,7 @@ use Rattle.search.proofs.Fours.{has_cut}
 use Rattle.search.proofs.Sieves.{both, low_rules, without_single}
 use Rattle.search.proofs.PlaceLaws.{trailing_member}
 use Rattle.search.specs.Inner.Table.{in_four}
-use Rattle.blocked.specs.Inner.Pairs.{Narrowed, Accepts, Answers}
+use Rattle.blocked.specs.Inner.Pairs.{Narrowed, Accepts, Answers, slice_at}
 
 implies : (a c : Bool) → (a ≡ true → c ≡ true) → (not a || c) ≡ true
 implies true c h = h refl
@@ -64,14 +64,11 @@ to_joined rest b (suc (suc (suc (suc w)))) l h = absurd (omega arith)
 
 -- The loop over rules
 
--- the word of rule q in order v
-abbrev pub slice_at : List ℕ → ℕ → ℕ → ℕ → ℕ
-slice_at s v q w = get_or s (24 * q + 4 * v + w) 0
-
 -- the rules of a set that do not wait have had their turn
-pub record Narrowing (s : List ℕ) (v rules : ℕ) (before rest : List ℕ) (waiting : ℕ) : Type 0 where
+pub record Narrowing (s : List (List ℕ)) (rules : ℕ) (before rest : List ℕ) (waiting : ℕ) : Type 0 where
   pub fits : waiting < 2 ^ 64
   pub size : length rest ≡ 4
+  pub fewer : (w : ℕ) → w < 4 → get_or rest w 0 ≤ get_or before w 0
   pub members : (q : ℕ) → has waiting q ≡ true → (q < 32) × (has rules q ≡ true)
   pub within : (w b : ℕ) → w < 4 → has (get_or rest w 0) b ≡ true → has (get_or before w 0) b ≡ true
   pub passed :
@@ -81,73 +78,64 @@ pub record Narrowing (s : List ℕ) (v rules : ℕ) (before rest : List ℕ) (wa
       → has rules q ≡ true
       → has waiting q ≡ false
       → has (get_or rest w 0) b ≡ true
-      → has (slice_at s v q w) b ≡ true
+      → has (slice_at s q w) b ≡ true
   pub stays :
       (w b : ℕ)
       → w < 4
       → has (get_or before w 0) b ≡ true
-      → ((q : ℕ) → q < 32 → has rules q ≡ true → has waiting q ≡ false → has (slice_at s v q w) b ≡ true)
+      → ((q : ℕ) → q < 32 → has rules q ≡ true → has waiting q ≡ false → has (slice_at s q w) b ≡ true)
       → has (get_or rest w 0) b ≡ true
 
 -- word k of some words, cut by a word
 abbrev pub cut_at : List ℕ → ℕ → ℕ → List ℕ
 cut_at rest k a = set rest k (bit_and (get_or rest k 0) a)
 
-pub cut_size :
-    (rest : List ℕ) (a b c d : ℕ)
-    → length rest ≡ 4
-    → length (cut_at (cut_at (cut_at (cut_at rest 0 a) 1 b) 2 c) 3 d) ≡ 4
-cut_size rest a b c d n = rw (length-set, length-set, length-set, length-set) n
+-- each of four words cut by one of four others
+abbrev pub cut_by : List ℕ → List ℕ → List ℕ
+cut_by rest words =
+    cut_at (cut_at (cut_at (cut_at rest 0 (get_or words 0 0)) 1 (get_or words 1 0)) 2 (get_or words 2 0)) 3
+    (get_or words 3 0)
 
--- four words, each cut by one of four in a row
-pub four_cut :
-    (s : List ℕ) (base a b c d : ℕ) (rest : List ℕ)
+pub cut_size : (rest words : List ℕ) → length rest ≡ 4 → length (cut_by rest words) ≡ 4
+cut_size rest words n = rw (length-set, length-set, length-set, length-set) n
+
+four_cut :
+    (words rest : List ℕ)
     → length rest ≡ 4
-    → a ≡ get_or s base 0
-    → b ≡ get_or s (base + 1) 0
-    → c ≡ get_or s (base + 2) 0
-    → d ≡ get_or s (base + 3) 0
     → (w : ℕ)
     → w < 4
-    → get_or (cut_at (cut_at (cut_at (cut_at rest 0 a) 1 b) 2 c) 3 d) w 0
-    ≡ bit_and (get_or rest w 0) (get_or s (base + w) 0)
-four_cut s base a b c d (x ∷ y ∷ z ∷ u ∷ []) n ha hb hc hd zero l =
-    let e : base + 0 ≡ base = omega arith in
-    rw (ha, e)
-four_cut s base a b c d (x ∷ y ∷ z ∷ u ∷ []) n ha hb hc hd (suc zero) l = rw hb
-four_cut s base a b c d (x ∷ y ∷ z ∷ u ∷ []) n ha hb hc hd (suc (suc zero)) l = rw hc
-four_cut s base a b c d (x ∷ y ∷ z ∷ u ∷ []) n ha hb hc hd (suc (suc (suc zero))) l = rw hd
-four_cut s base a b c d (x ∷ y ∷ z ∷ u ∷ []) n ha hb hc hd (suc (suc (suc (suc w)))) l = absurd (omega arith)
-four_cut s base a b c d [] n ha hb hc hd w l = absurd (omega arith)
-four_cut s base a b c d (x ∷ []) n ha hb hc hd w l = absurd (omega arith)
-four_cut s base a b c d (x ∷ y ∷ []) n ha hb hc hd w l = absurd (omega arith)
-four_cut s base a b c d (x ∷ y ∷ z ∷ []) n ha hb hc hd w l = absurd (omega arith)
-four_cut s base a b c d (x ∷ y ∷ z ∷ u ∷ t ∷ l) n ha hb hc hd w k = absurd (omega arith)
+    → get_or (cut_by rest words) w 0 ≡ bit_and (get_or rest w 0) (get_or words w 0)
+four_cut words (x ∷ y ∷ z ∷ u ∷ []) n zero l = refl
+four_cut words (x ∷ y ∷ z ∷ u ∷ []) n (suc zero) l = refl
+four_cut words (x ∷ y ∷ z ∷ u ∷ []) n (suc (suc zero)) l = refl
+four_cut words (x ∷ y ∷ z ∷ u ∷ []) n (suc (suc (suc zero))) l = refl
+four_cut words (x ∷ y ∷ z ∷ u ∷ []) n (suc (suc (suc (suc w)))) l = absurd (omega arith)
+four_cut words [] n w l = absurd (omega arith)
+four_cut words (x ∷ []) n w l = absurd (omega arith)
+four_cut words (x ∷ y ∷ []) n w l = absurd (omega arith)
+four_cut words (x ∷ y ∷ z ∷ []) n w l = absurd (omega arith)
+four_cut words (x ∷ y ∷ z ∷ u ∷ t ∷ l) n w k = absurd (omega arith)
 
 -- a rule's turn
 pub turn :
-    (s : List ℕ) (v q a b c d : ℕ) (rest : List ℕ)
+    (s : List (List ℕ)) (q : ℕ) (rest : List ℕ)
     → length rest ≡ 4
-    → a ≡ get_or s (24 * (q % 64) + 4 * v) 0
-    → b ≡ get_or s (24 * (q % 64) + 4 * v + 1) 0
-    → c ≡ get_or s (24 * (q % 64) + 4 * v + 2) 0
-    → d ≡ get_or s (24 * (q % 64) + 4 * v + 3) 0
     → q < 32
     → (w : ℕ)
     → w < 4
-    → get_or (cut_at (cut_at (cut_at (cut_at rest 0 a) 1 b) 2 c) 3 d) w 0 ≡ bit_and (get_or rest w 0) (slice_at s v q w)
-turn s v q a b c d rest n ha hb hc hd l w k =
-    let same : q % 64 ≡ q = omega arith in
-    four_cut s (24 * (q % 64) + 4 * v) a b c d rest n ha hb hc hd w k
-    ∙ ap (λ (x : ℕ). bit_and (get_or rest w 0) (slice_at s v x w)) same
+    → get_or (cut_by rest (get_or s (q % 32) [])) w 0 ≡ bit_and (get_or rest w 0) (slice_at s q w)
+turn s q rest n l w k =
+    let same : q % 32 ≡ q = omega arith in
+    four_cut (get_or s (q % 32) []) rest n w k ∙ ap (λ (x : ℕ). bit_and (get_or rest w 0) (slice_at s x w)) same
 
-module _ (s : List ℕ) (v rules : ℕ) where
+module _ (s : List (List ℕ)) (rules : ℕ) where
   -- all wait first
-  pub narrowing_start : (rest : List ℕ) → length rest ≡ 4 → Narrowing s v rules rest rest (rules % 4294967296)
+  pub narrowing_start : (rest : List ℕ) → length rest ≡ 4 → Narrowing s rules rest rest (rules % 4294967296)
   narrowing_start rest n =
       record {
         fits = omega arith;
         size = n;
+        fewer = λ w l. omega arith;
         members = low_rules rules;
         within = λ w b l h. h;
         passed = λ w b q l m h d. both (has_cut 32 rules q m ∙ h) d;
@@ -161,21 +149,25 @@ module _ (s : List ℕ) (v rules : ℕ) where
       → WordOf (λ i. eqb i q) one
       → has waiting q ≡ true
       → length after ≡ 4
-      → (q < 32 → (w : ℕ) → w < 4 → get_or after w 0 ≡ bit_and (get_or rest w 0) (slice_at s v q w))
-      → Narrowing s v rules before rest waiting
-      → Narrowing s v rules before after (bit_and waiting ((2 ^ 64 - 1) - one))
+      → (q < 32 → (w : ℕ) → w < 4 → get_or after w 0 ≡ bit_and (get_or rest w 0) (slice_at s q w))
+      → Narrowing s rules before rest waiting
+      → Narrowing s rules before after (bit_and waiting ((2 ^ 64 - 1) - one))
   narrowing_more before rest after waiting one q lo single h n turn old =
       record {
         fits = lt_of_le_of_lt (and_le_l waiting ((2 ^ 64 - 1) - one)) old.fits;
         size = n;
+        fewer = λ w l.
+            let less : get_or after w 0 ≤ get_or rest w 0 =
+            rw (turn small w l) (and_le_l (get_or rest w 0) (slice_at s q w)) in
+            omega (arith, old.fewer w l);
         members = λ j m. old.members j (later j m);
         within = λ w b l m.
-            old.within w b l (and_left (has (get_or rest w 0) b) (has (slice_at s v q w) b) (cut w b l m));
+            old.within w b l (and_left (has (get_or rest w 0) b) (has (slice_at s q w) b) (cut w b l m));
         passed = λ w b j l m r d k. passes w b j l m r d (cut w b l k) (eqb j q) refl;
         stays = λ w b l m each.
             ap (λ (x : ℕ). has x b) (turn small w l)
-            ∙ has_and (get_or rest w 0) (slice_at s v q w) b
-            ∙ and_true (has (get_or rest w 0) b) (has (slice_at s v q w) b)
+            ∙ has_and (get_or rest w 0) (slice_at s q w) b
+            ∙ and_true (has (get_or rest w 0) b) (has (slice_at s q w) b)
             (old.stays w b l m (λ j k r d. each j k r (not_later j d)))
             (each q small (old.members q h).1 gone);
       }
@@ -200,9 +192,9 @@ module _ (s : List ℕ) (v rules : ℕ) where
           (w b : ℕ)
           → w < 4
           → has (get_or after w 0) b ≡ true
-          → (has (get_or rest w 0) b && has (slice_at s v q w) b) ≡ true
+          → (has (get_or rest w 0) b && has (slice_at s q w) b) ≡ true
       cut w b l m =
-          sym (has_and (get_or rest w 0) (slice_at s v q w) b) ∙ ap (λ (x : ℕ). has x b) (sym (turn small w l)) ∙ m
+          sym (has_and (get_or rest w 0) (slice_at s q w) b) ∙ ap (λ (x : ℕ). has x b) (sym (turn small w l)) ∙ m
 
       passes :
           (w b j : ℕ)
@@ -210,32 +202,32 @@ module _ (s : List ℕ) (v rules : ℕ) where
           → j < 32
           → has rules j ≡ true
           → has (bit_and waiting ((2 ^ 64 - 1) - one)) j ≡ false
-          → (has (get_or rest w 0) b && has (slice_at s v q w) b) ≡ true
+          → (has (get_or rest w 0) b && has (slice_at s q w) b) ≡ true
           → (x : Bool)
           → eqb j q ≡ x
-          → has (slice_at s v j w) b ≡ true
+          → has (slice_at s j w) b ≡ true
       passes w b j l m r d k true e =
           let same : j ≡ q = eqb-true j q e in
-          rw same (and_right (has (get_or rest w 0) b) (has (slice_at s v q w) b) k)
+          rw same (and_right (has (get_or rest w 0) b) (has (slice_at s q w) b) k)
       passes w b j l m r d k false e =
           old.passed w b j l m r
           (rw (without j, ne_eqb j q (eqb-false j q e), and_false, and_end) at d)
-          (and_left (has (get_or rest w 0) b) (has (slice_at s v q w) b) k)
+          (and_left (has (get_or rest w 0) b) (has (slice_at s q w) b) k)
 
   -- what every rule of the set accepts is left
   narrowing_left :
       (before rest : List ℕ) (waiting w b : ℕ)
       → w < 4
-      → Narrowing s v rules before rest waiting
-      → (has (get_or before w 0) b && all (λ q. not (has rules q) || has (slice_at s v q w) b) (up_to 32)) ≡ true
+      → Narrowing s rules before rest waiting
+      → (has (get_or before w 0) b && all (λ q. not (has rules q) || has (slice_at s q w) b) (up_to 32)) ≡ true
       → has (get_or rest w 0) b ≡ true
   narrowing_left before rest waiting w b l old h =
       old.stays w b l
-      (and_left (has (get_or before w 0) b) (all (λ q. not (has rules q) || has (slice_at s v q w) b) (up_to 32)) h)
+      (and_left (has (get_or before w 0) b) (all (λ q. not (has rules q) || has (slice_at s q w) b) (up_to 32)) h)
       (λ q k r d.
-      or_holds (has rules q) (has (slice_at s v q w) b)
-      (all_at (λ q. not (has rules q) || has (slice_at s v q w) b) 32
-      (and_right (has (get_or before w 0) b) (all (λ q. not (has rules q) || has (slice_at s v q w) b) (up_to 32)) h) q
+      or_holds (has rules q) (has (slice_at s q w) b)
+      (all_at (λ q. not (has rules q) || has (slice_at s q w) b) 32
+      (and_right (has (get_or before w 0) b) (all (λ q. not (has rules q) || has (slice_at s q w) b) (up_to 32)) h) q
       k)
       r)
 
@@ -243,16 +235,16 @@ module _ (s : List ℕ) (v rules : ℕ) where
   pub narrowing_end :
       (before rest : List ℕ) (waiting : ℕ)
       → waiting ≡ 0
-      → Narrowing s v rules before rest waiting
-      → Narrowed s v rules before rest
+      → Narrowing s rules before rest waiting
+      → Narrowed s rules before rest
   narrowing_end before rest waiting z old w b l m =
       same_test (has (get_or rest w 0) b)
-      (has (get_or before w 0) b && all (λ q. not (has rules q) || has (slice_at s v q w) b) (up_to 32))
+      (has (get_or before w 0) b && all (λ q. not (has rules q) || has (slice_at s q w) b) (up_to 32))
       (λ h.
-      and_true (has (get_or before w 0) b) (all (λ q. not (has rules q) || has (slice_at s v q w) b) (up_to 32))
+      and_true (has (get_or before w 0) b) (all (λ q. not (has rules q) || has (slice_at s q w) b) (up_to 32))
       (old.within w b l h)
-      (at_all (λ q. not (has rules q) || has (slice_at s v q w) b) 32
-      (λ q k. implies (has rules q) (has (slice_at s v q w) b) (λ r. old.passed w b q l k r (idle q) h))))
+      (at_all (λ q. not (has rules q) || has (slice_at s q w) b) 32
+      (λ q k. implies (has rules q) (has (slice_at s q w) b) (λ r. old.passed w b q l k r (idle q) h))))
       (narrowing_left before rest waiting w b l old)
     where
       idle : (q : ℕ) → has waiting q ≡ false
@@ -262,18 +254,18 @@ module _ (s : List ℕ) (v rules : ℕ) where
   pub narrowing_empty :
       (before rest : List ℕ) (waiting : ℕ)
       → joined rest ≡ 0
-      → Narrowing s v rules before rest waiting
-      → Narrowed s v rules before rest
+      → Narrowing s rules before rest waiting
+      → Narrowed s rules before rest
   narrowing_empty before rest waiting none old w b l m =
       same_test (has (get_or rest w 0) b)
-      (has (get_or before w 0) b && all (λ q. not (has rules q) || has (slice_at s v q w) b) (up_to 32))
+      (has (get_or before w 0) b && all (λ q. not (has rules q) || has (slice_at s q w) b) (up_to 32))
       (λ h. both (to_joined rest b w l h) (ap (λ (x : ℕ). has x b) none ∙ has_zero b))
       (narrowing_left before rest waiting w b l old)
 
 -- The loop over orders
 
 -- the orders below v have had their turn
-pub record Asking (s met masks : List ℕ) (n : ℕ) (first rest : List ℕ) (v : ℕ) : Type 0 where
+pub record Asking (s : List (List (List ℕ))) (met masks first rest : List ℕ) (v : ℕ) : Type 0 where
   pub bound : v ≤ 6
   pub words : (w : ℕ) → w < 4 → get_or rest w 0 < 2 ^ 64
   pub within : (w b : ℕ) → w < 4 → b < 64 → has (get_or rest w 0) b ≡ true → has (get_or first w 0) b ≡ true
@@ -284,9 +276,9 @@ pub record Asking (s met masks : List ℕ) (n : ℕ) (first rest : List ℕ) (v 
       → j < v
       → q < 32
       → has (get_or masks j 0) q ≡ true
-      → has (get_or met (3 * n + j / 2) 0) q ≡ true
+      → has (get_or met (j / 2) 0) q ≡ true
       → has (get_or rest w 0) b ≡ true
-      → has (slice_at s j q w) b ≡ true
+      → has (slice_at (get_or s j []) q w) b ≡ true
   pub stays :
       (w b : ℕ)
       → w < 4
@@ -296,13 +288,13 @@ pub record Asking (s met masks : List ℕ) (n : ℕ) (first rest : List ℕ) (v 
       → j < v
       → q < 32
       → has (get_or masks j 0) q ≡ true
-      → has (get_or met (3 * n + j / 2) 0) q ≡ true
-      → has (slice_at s j q w) b ≡ true)
+      → has (get_or met (j / 2) 0) q ≡ true
+      → has (slice_at (get_or s j []) q w) b ≡ true)
       → has (get_or rest w 0) b ≡ true
 
-module _ (s met masks : List ℕ) (n : ℕ) where
+module _ (s : List (List (List ℕ))) (met masks : List ℕ) where
   pub asking_start :
-      (first : List ℕ) → ((w : ℕ) → w < 4 → get_or first w 0 < 2 ^ 64) → Asking s met masks n first first 0
+      (first : List ℕ) → ((w : ℕ) → w < 4 → get_or first w 0 < 2 ^ 64) → Asking s met masks first first 0
   asking_start first words =
       record {
         bound = omega arith;
@@ -316,11 +308,11 @@ module _ (s met masks : List ℕ) (n : ℕ) where
   pub asking_more :
       (first rest after : List ℕ) (word v : ℕ)
       → v < 6
-      → word ≡ get_or met (3 * n + v / 2) 0
+      → word ≡ get_or met (v / 2) 0
       → ((w : ℕ) → w < 4 → get_or after w 0 < 2 ^ 64)
-      → Narrowed s v (bit_and (get_or masks v 0) word) rest after
-      → Asking s met masks n first rest v
-      → Asking s met masks n first after (v + 1)
+      → Narrowed (get_or s v []) (bit_and (get_or masks v 0) word) rest after
+      → Asking s met masks first rest v
+      → Asking s met masks first after (v + 1)
   asking_more first rest after word v small met_word words turn old =
       record {
         bound = omega arith;
@@ -329,11 +321,11 @@ module _ (s met masks : List ℕ) (n : ℕ) where
         passed = λ w b j q l m k i a c h. passes w b j q l m k i a c h (eqb j v) refl;
         stays = λ w b l m h each.
             turn w b l m
-            ∙ and_true (has (get_or rest w 0) b) (all (λ q. not (has waits q) || has (slice_at s v q w) b) (up_to 32))
+            ∙ and_true (has (get_or rest w 0) b) (all (λ q. not (has waits q) || has (slice_at (get_or s v []) q w) b) (up_to 32))
             (old.stays w b l m h (λ j q k. each j q (omega arith)))
-            (at_all (λ q. not (has waits q) || has (slice_at s v q w) b) 32
+            (at_all (λ q. not (has waits q) || has (slice_at (get_or s v []) q w) b) 32
             (λ q k.
-            implies (has waits q) (has (slice_at s v q w) b)
+            implies (has waits q) (has (slice_at (get_or s v []) q w) b)
             (λ r.
             each v q (omega arith) k (and_left (has (get_or masks v 0) q) (has word q) (parts q r))
             (ap (λ (x : ℕ). has x q) (sym met_word)
@@ -348,7 +340,7 @@ module _ (s met masks : List ℕ) (n : ℕ) where
 
       left : (w b : ℕ) → w < 4 → b < 64 → has (get_or after w 0) b ≡ true → has (get_or rest w 0) b ≡ true
       left w b l m h =
-          and_left (has (get_or rest w 0) b) (all (λ q. not (has waits q) || has (slice_at s v q w) b) (up_to 32))
+          and_left (has (get_or rest w 0) b) (all (λ q. not (has waits q) || has (slice_at (get_or s v []) q w) b) (up_to 32))
           (sym (turn w b l m) ∙ h)
 
       passes :
@@ -358,19 +350,19 @@ module _ (s met masks : List ℕ) (n : ℕ) where
           → j < v + 1
           → q < 32
           → has (get_or masks j 0) q ≡ true
-          → has (get_or met (3 * n + j / 2) 0) q ≡ true
+          → has (get_or met (j / 2) 0) q ≡ true
           → has (get_or after w 0) b ≡ true
           → (x : Bool)
           → eqb j v ≡ x
-          → has (slice_at s j q w) b ≡ true
+          → has (slice_at (get_or s j []) q w) b ≡ true
       passes w b j q l m k i a c h true e =
           let same : j ≡ v = eqb-true j v e in
           let a' : has (get_or masks v 0) q ≡ true = rw same at a in
-          let c' : has (get_or met (3 * n + v / 2) 0) q ≡ true = rw same at c in
+          let c' : has (get_or met (v / 2) 0) q ≡ true = rw same at c in
           rw same
-          (or_holds (has waits q) (has (slice_at s v q w) b)
-          (all_at (λ q. not (has waits q) || has (slice_at s v q w) b) 32
-          (and_right (has (get_or rest w 0) b) (all (λ q. not (has waits q) || has (slice_at s v q w) b) (up_to 32))
+          (or_holds (has waits q) (has (slice_at (get_or s v []) q w) b)
+          (all_at (λ q. not (has waits q) || has (slice_at (get_or s v []) q w) b) 32
+          (and_right (has (get_or rest w 0) b) (all (λ q. not (has waits q) || has (slice_at (get_or s v []) q w) b) (up_to 32))
           (sym (turn w b l m) ∙ h))
           q i)
           (has_and (get_or masks v 0) word q
@@ -415,11 +407,12 @@ same_four x b = go (ltb b 16) (ltb b 32) (ltb b 48)
     go false false false = refl
 
 module _
-    (s met masks pairs rest : List ℕ)
-    (third thirds n v : ℕ)
+    (s : List (List (List ℕ)))
+    (met masks pairs rest : List ℕ)
+    (third thirds v : ℕ)
     (spread : (b : ℕ) → b < 64 → has thirds b ≡ in_four third third third third b)
     (past : 6 ≤ v)
-    (asked : Asking s met masks n (begun pairs thirds) rest v)
+    (asked : Asking s met masks (begun pairs thirds) rest v)
   where
     starts :
         (w b : ℕ)
@@ -431,7 +424,7 @@ module _
         ∙ has_and (get_or pairs w 0) thirds b
         ∙ ap (λ (x : Bool). has (get_or pairs w 0) b && x) (spread b m ∙ same_four third b)
 
-    accepts_left : (w b : ℕ) → w < 4 → b < 64 → has (get_or rest w 0) b ≡ true → Accepts s met masks pairs third n w b
+    accepts_left : (w b : ℕ) → w < 4 → b < 64 → has (get_or rest w 0) b ≡ true → Accepts s met masks pairs third w b
     accepts_left w b l m h =
         let both_parts = sym (starts w b l m) ∙ asked.within w b l m h in
         record {
@@ -440,14 +433,14 @@ module _
           each = λ j q k i a c. asked.passed w b j q l m (omega arith) i a c h;
         }
 
-    left_accepts : (w b : ℕ) → w < 4 → b < 64 → Accepts s met masks pairs third n w b → has (get_or rest w 0) b ≡ true
+    left_accepts : (w b : ℕ) → w < 4 → b < 64 → Accepts s met masks pairs third w b → has (get_or rest w 0) b ≡ true
     left_accepts w b l m one =
         asked.stays w b l m
         (starts w b l m ∙ and_true (has (get_or pairs w 0) b) (has third (b % 16)) one.pair one.operation)
         (λ j q k i a c. one.each j q (omega (arith, asked.bound)) i a c)
 
     -- some word is not empty where some pair is left
-    pub asking_end : Answers s met masks pairs third n (not (eqb (joined rest) 0))
+    pub asking_end : Answers s met masks pairs third (not (eqb (joined rest) 0))
     asking_end = record { found = finds; none = λ e w b l m one. misses e w b l m one }
       where
         fits : joined rest < 2 ^ 64
@@ -462,7 +455,7 @@ module _
 
         finds :
             not (eqb (joined rest) 0) ≡ true
-            → (w b : ℕ) × (w < 4) × (b < 64) × Accepts s met masks pairs third n w b
+            → (w b : ℕ) × (w < 4) × (b < 64) × Accepts s met masks pairs third w b
         finds e =
             let full = eqb-false (joined rest) 0 (not-true (eqb (joined rest) 0) e) in
             let some = trailing_member 64 (joined rest) fits full in
@@ -479,7 +472,7 @@ module _
             → (w b : ℕ)
             → w < 4
             → b < 64
-            → Accepts s met masks pairs third n w b
+            → Accepts s met masks pairs third w b
             → ⊥
         misses e w b l m one =
             let zero_word : joined rest ≡ 0 = eqb-true (joined rest) 0 (turned (eqb (joined rest) 0) e) in

@@ -5,7 +5,8 @@ use native.Mathlib.Omega.{arith}
 use mathlib.Core.Path.{◌≡◌, refl, sym, ap, ◌∙◌}
 use mathlib.Core.Logic.{⊎_elim}
 use mathlib.Core.Bool.{Bool, true, false, ◌&&◌, ◌||◌, not}
-use mathlib.Core.List.{List}
+use mathlib.Core.List.{List, [], ◌∷◌}
+use lib.ListN.{get_or}
 use borrow.Author.Tests.{not-true}
 use Rattle.book.specs.Lists.{up_to}
 use Rattle.book.proofs.Lists.{and_both, and_true, any_from_same, any_same, or_either, or_left, or_right}
@@ -13,14 +14,51 @@ use Rattle.search.specs.Inner.Table.{meets, takes_at}
 use Rattle.search.specs.Inner.Closing.{accepted_at, closes, closes_at, closes_by}
 use Rattle.search.proofs.Sieves.{both}
 use Rattle.search.proofs.Solutions.{fails}
+use Rattle.search.specs.declared.tables.RuleTable.{RuleTable}
 use Rattle.blocked.specs.Inner.Pairs.{Repeats, first_at, second_at, third_at}
+use Rattle.blocked.specs.declared.pairs.Order.{Order}
+
+-- the orders as the code has them
+abbrev pub orders : List Order
+orders =
+    record { first = 1; second = 2; third = 0 }
+    ∷ record { first = 2; second = 1; third = 0 }
+    ∷ record { first = 2; second = 0; third = 1 }
+    ∷ record { first = 0; second = 2; third = 1 }
+    ∷ record { first = 0; second = 1; third = 2 }
+    ∷ record { first = 1; second = 0; third = 2 }
+    ∷ []
+
+abbrev pub order_at : ℕ → Order
+order_at v = get_or orders v (record { first = 0; second = 0; third = 0 })
+
+pub same_order :
+    (v : ℕ)
+    → v < 6
+    → ((order_at v).first ≡ first_at v) × ((order_at v).second ≡ second_at v) × ((order_at v).third ≡ third_at v)
+same_order zero l = (refl, refl, refl)
+same_order (suc zero) l = (refl, refl, refl)
+same_order (suc (suc zero)) l = (refl, refl, refl)
+same_order (suc (suc (suc zero))) l = (refl, refl, refl)
+same_order (suc (suc (suc (suc zero)))) l = (refl, refl, refl)
+same_order (suc (suc (suc (suc (suc zero))))) l = (refl, refl, refl)
+same_order (suc (suc (suc (suc (suc (suc v)))))) l = absurd (omega arith)
+
+pub order_first : (v : ℕ) → v < 6 → (order_at v).first ≡ first_at v
+order_first v l = (same_order v l).0
+
+pub order_second : (v : ℕ) → v < 6 → (order_at v).second ≡ second_at v
+order_second v l = (same_order v l).1
+
+pub order_third : (v : ℕ) → v < 6 → (order_at v).third ≡ third_at v
+order_third v l = (same_order v l).2
 
 swap : (x y z : Bool) → (x && (y && z)) ≡ (y && (x && z))
 swap true y z = refl
 swap false true z = refl
 swap false false z = refl
 
-module _ (t : List ℕ) (q : ℕ) where
+module _ (t : List RuleTable) (q : ℕ) where
   -- two places and their references exchanged together
   accepted_turned : (i k l b c p : ℕ) → accepted_at t q i k l c b p ≡ accepted_at t q i l k b c p
   unfolding accepted_at
@@ -166,7 +204,7 @@ module _ (t : List ℕ) (q : ℕ) where
 
 -- whether a restriction takes places depends on their operations alone
 pub accepted_operations :
-    (t : List ℕ) (rules : ℕ → Bool) (q i k l a c p y x : ℕ)
+    (t : List RuleTable) (rules : ℕ → Bool) (q i k l a c p y x : ℕ)
     → Repeats t rules
     → q < 32
     → rules q ≡ true

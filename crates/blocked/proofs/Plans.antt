@@ -18,8 +18,8 @@ use Rattle.lineage.specs.Answers.{PlanAccepted}
 use Rattle.lineage.proofs.Accepted.{accepted_plan}
 use Rattle.verdicts.specs.Accesses.{Access, accesses_of, members, same}
 use Rattle.verdicts.specs.Breaking.{breaks, broken_mask}
-use Rattle.verdicts.specs.Answers.{judge_answer}
-use Rattle.verdicts.specs.declared.Judged.TheVariants.{Broken}
+use Rattle.verdicts.specs.Answers.{broken, judge_answer}
+use Rattle.verdicts.specs.declared.Broken.{Broken}
 use Rattle.verdicts.proofs.Accesses.{same_self}
 use Rattle.verdicts.proofs.JudgeLaws.{judge_answer_law, judge_passes}
 use Rattle.verdicts.proofs.Monotone.{breaks_monotone, breaks_same}
@@ -57,6 +57,11 @@ reads_choice head plan (x ∷ association) reads =
       and_true (accesses_of head plan y) (all (accesses_of head plan) rest.0) one.1 rest.2,
     )
 
+mask_told : (mask other : ℕ) → broken mask ≡ broken other → mask ≡ other
+mask_told mask other e =
+    let same : ◌≡◌ {A = Broken} (record { mask = mask }) (record { mask = other }) = cc in
+    ap (λ (b : Broken). b.mask) same
+
 module _ (book : List ℕ) (p : Pair) (plan : List ℕ)
     (plans : PlanAccepted (head_of book) plan) (reads : Reads (head_of book) plan p.association) where
   -- some rule that counts is broken by every accepted plan that has some access to each datum, whatever else it does
@@ -69,12 +74,12 @@ module _ (book : List ℕ) (p : Pair) (plan : List ℕ)
       let had =
       member_all (can_be_had head) c
       (λ x m. plan_had head plan (accepted_plan head plan plans) x (all_member D c chosen.2 x m)) in
-      let broken = closed c (record { to = chosen.1; had = had }) in (
-        broken.0,
-        broken.1,
-        broken.2,
-        breaks_monotone head (rule_at book broken.0) (members c) D (members_within c D chosen.2) p.user
-            broken.3,
+      let found = closed c (record { to = chosen.1; had = had }) in (
+        found.0,
+        found.1,
+        found.2,
+        breaks_monotone head (rule_at book found.0) (members c) D (members_within c D chosen.2) p.user
+            found.3,
       )
 
   -- so Judge never answers that none is
@@ -82,7 +87,7 @@ module _ (book : List ℕ) (p : Pair) (plan : List ℕ)
       Closed book p
       → BookAccepted book
       → is_user (head_of book) p.user ≡ true
-      → judge_answer book p.user plan ≡ Broken 0
+      → judge_answer book p.user plan ≡ broken 0
       → ⊥
   closed_judged closed accepted u e =
       let D = accesses_of (head_of book) plan in
@@ -90,12 +95,11 @@ module _ (book : List ℕ) (p : Pair) (plan : List ℕ)
       let answer =
       judge_answer_law book p.user plan
       (judge_passes book p.user plan (record { book_accepted = accepted; a_user = u; plan_accepted = plans })) in
-      let b : Broken mask ≡ Broken 0 = sym answer ∙ e in
-      let nothing : mask ≡ 0 = cc in
-      let broken = closed_plans (λ q. true) closed in
-      let bit : has mask broken.0 ≡ true =
-      mask_bit book p.user D broken.0 ∙ rw (lt-ltb broken.0 (rule_count book) broken.1) broken.3 in
-      false≢true (sym (has_zero broken.0) ∙ (rw nothing at bit))
+      let nothing : mask ≡ 0 = mask_told mask 0 (sym answer ∙ e) in
+      let found = closed_plans (λ q. true) closed in
+      let bit : has mask found.0 ≡ true =
+      mask_bit book p.user D found.0 ∙ rw (lt-ltb found.0 (rule_count book) found.1) found.3 in
+      false≢true (sym (has_zero found.0) ∙ (rw nothing at bit))
 
 -- Open
 
@@ -137,7 +141,7 @@ module _ (book : List ℕ) (accepted : BookAccepted book) (r : ℕ) (l : r < rul
       → (plan : List ℕ)
       × PlanAccepted (head_of book) plan
       × Reads (head_of book) plan p.association
-      × (judge_answer book p.user plan ≡ Broken 0)
+      × (judge_answer book p.user plan ≡ broken 0)
   unfolding some_broken
   open_plan h =
       let head = head_of book in
@@ -152,7 +156,7 @@ module _ (book : List ℕ) (accepted : BookAccepted book) (r : ℕ) (l : r < rul
         shown.1,
         shown.2,
         answer
-            ∙ ap Broken
+            ∙ ap broken
             (none_broken book p.user (accesses_of head shown.0)
             (λ q k.
             shown.3 q
@@ -193,6 +197,6 @@ few_for_plans book r given p mask behind =
             shown.0,
             shown.1,
             shown.2,
-            λ broken. free.2 (broken.0, broken.1, broken.2, sym (shown.3 broken.0) ∙ broken.3),
+            λ found. free.2 (found.0, found.1, found.2, sym (shown.3 found.0) ∙ found.3),
           );
     }

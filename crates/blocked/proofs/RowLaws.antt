@@ -4,7 +4,7 @@ use Prim.Native.Nat.{ℕ, ◌+◌, ◌-◌, ◌*◌, ◌/◌, ◌%◌, ◌≤◌
 use native.Mathlib.Omega.{arith}
 use mathlib.Core.Path.{◌≡◌, refl, sym, ap, ◌∙◌}
 use mathlib.Core.Bool.{Bool, true, false, ◌&&◌, ◌||◌, not}
-use mathlib.Core.List.{List}
+use mathlib.Core.List.{List, []}
 use lib.ListN.{get_or}
 use lib.Dec.{eqb, ltb}
 use borrow.Author.Tests.{not-true, eqb-true, eqb-false, eq-eqb, ne_eqb, lt-ltb, ltb-true, ltb-false}
@@ -17,6 +17,7 @@ use Rattle.search.specs.Inner.Table.{meets}
 use Rattle.search.specs.Inner.Closing.{accepted_at, closes}
 use Rattle.search.proofs.Sieves.{both}
 use Rattle.search.proofs.Solutions.{fails}
+use Rattle.search.specs.declared.tables.RuleTable.{RuleTable}
 use Rattle.blocked.specs.Inner.Cells.{Left, Opens, Tried, in_cell, spares}
 use Rattle.blocked.specs.Inner.Pairs.{Accepts, Answers, Asked, CellOperations, MasksHold, Prepared, SecondPairs}
 use Rattle.blocked.specs.Inner.Pairs.{SlicesHold, first_at, second_at, third_at}
@@ -30,7 +31,7 @@ none_in set none x = rw (none (x / 64)) (has_zero (x % 64))
 
 -- The sieve
 
-module _ (t : List ℕ) (rules : ℕ → Bool) (a y x : ℕ) where
+module _ (t : List RuleTable) (rules : ℕ → Bool) (a y x : ℕ) where
   pub spares_each : spares t rules a y x ≡ true → (q : ℕ) → q < 32 → rules q ≡ true → closes t q a y x ≡ false
   unfolding spares
   spares_each h q l m =
@@ -51,7 +52,8 @@ module _ (t : List ℕ) (rules : ℕ → Bool) (a y x : ℕ) where
 -- Pairs and places
 
 -- what one first place a opens beside cell m, by its words
-module _ (t met : List ℕ) (rules : ℕ) (seconds before : List ℕ) (a m : ℕ) (masks s pairs : List ℕ)
+module _ (t : List RuleTable) (met : List (List ℕ)) (rules : ℕ) (seconds before : List ℕ) (a m : ℕ) (masks : List ℕ)
+    (s : List (List (List ℕ))) (pairs : List ℕ)
     (given : Prepared t met (has rules) seconds before) (masked : MasksHold t rules a m masks)
     (sliced : SlicesHold t masks a s) (paired : SecondPairs seconds m pairs) (second_small : m < 132) where
   module _ (n third : ℕ) (small : n < 132) (word : CellOperations before n third)
@@ -80,7 +82,7 @@ module _ (t met : List ℕ) (rules : ℕ) (seconds before : List ℕ) (a m : ℕ
 
     -- a pair that every rule accepts is two places that break none
     pub accepts_spares :
-        Accepts s met masks pairs third n w b
+        Accepts s (get_or met n []) masks pairs third w b
         → (in_places seconds y ≡ true) × (in_places before x ≡ true) × (spares t (has rules) a y x ≡ true)
     accepts_spares found =
         let member : in_places seconds y ≡ true =
@@ -100,7 +102,7 @@ module _ (t met : List ℕ) (rules : ℕ) (seconds before : List ℕ) (a m : ℕ
               given.met_holds n (third_at v) q small (omega arith)
               ∙ rw (lt-ltb q 32 lq, third_meets q v lq lv member left rule, mx) in
               accepted_there q v lq lv member left rule
-              ∙ sym (sliced q v w b lq lv lw lb in_mask)
+              ∙ sym (sliced v lv q w b lq lw lb in_mask)
               ∙ found.each v q lv lq in_mask in_met)),
         )
 
@@ -109,7 +111,7 @@ module _ (t met : List ℕ) (rules : ℕ) (seconds before : List ℕ) (a m : ℕ
         in_places seconds y ≡ true
         → in_places before x ≡ true
         → spares t (has rules) a y x ≡ true
-        → Accepts s met masks pairs third n w b
+        → Accepts s (get_or met n []) masks pairs third w b
     spares_accepts member left spared =
         record {
           pair = paired w b lw lb ∙ ap (in_places seconds) (sym ey) ∙ member;
@@ -125,7 +127,7 @@ module _ (t met : List ℕ) (rules : ℕ) (seconds before : List ℕ) (a m : ℕ
               let met_third =
               and_right (ltb q 32) (meets t q (third_at v) (16 * n))
               (sym (given.met_holds n (third_at v) q small (omega arith)) ∙ in_met) in
-              sliced q v w b lq lv lw lb in_mask
+              sliced v lv q w b lq lw lb in_mask
               ∙ sym (accepted_there q v lq lv member left rule)
               ∙ spared_accepts t q a y x v lv (spares_each t (has rules) a y x spared q lq rule)
               (sym (third_meets q v lq lv member left rule) ∙ met_third) two.0
@@ -134,7 +136,7 @@ module _ (t met : List ℕ) (rules : ℕ) (seconds before : List ℕ) (a m : ℕ
 
 -- One cell after the other
 
-module _ (s met masks pairs before : List ℕ) where
+module _ (s : List (List (List ℕ))) (met : List (List ℕ)) (masks pairs before : List ℕ) where
   pub asked_start : Asked s met masks pairs 0 before before
   asked_start =
       record {
@@ -165,7 +167,7 @@ module _ (s met masks pairs before : List ℕ) where
             → in_cell before n ≡ true
             → (b : Bool)
             → ltb n c ≡ b
-            → (third : ℕ) × CellOperations before n third × Answers s met masks pairs third n (old.answer n)
+            → (third : ℕ) × CellOperations before n third × Answers s (get_or met n []) masks pairs third (old.answer n)
         go n l h true e = old.told n (ltb-true n c e) h
         go n l h false e =
             let z = cell_place before n h in
@@ -176,7 +178,7 @@ module _ (s met masks pairs before : List ℕ) where
             (next.skipped z.0 (omega arith) (omega arith))
 
     module _ (third : ℕ) (answer : Bool) (small : c < 132) (word : CellOperations rest c third)
-        (here : Answers s met masks pairs third c answer) where
+        (here : Answers s (get_or met c []) masks pairs third answer) where
       -- what was told of the cells before, and is told of this one
       telling :
           (told : ℕ → Bool)
@@ -187,7 +189,7 @@ module _ (s met masks pairs before : List ℕ) where
           → in_cell before n ≡ true
           → (b : Bool)
           → eqb n c ≡ b
-          → (z : ℕ) × CellOperations before n z × Answers s met masks pairs z n (told n)
+          → (z : ℕ) × CellOperations before n z × Answers s (get_or met n []) masks pairs z (told n)
       telling told others this n l h true e =
           let same = eqb-true n c e in
           rw (same, this) (third, λ k m. word k m ∙ same_later (16 * c + k) (omega arith) (omega arith), here)
@@ -229,11 +231,7 @@ module _ (s met masks pairs before : List ℕ) where
 
 -- One first place
 
--- the code's place is that of the cell
-pub pair_first : (l k : ℕ) → l < 132 → k < 16 → 16 * (l % 256) + k % 16 ≡ 16 * l + k
-pair_first l k a b = omega arith
-
-module _ (t : List ℕ) (rules : ℕ) (firsts seconds : List ℕ) (l m k : ℕ) (before : List ℕ) where
+module _ (t : List RuleTable) (rules : ℕ) (firsts seconds : List ℕ) (l m k : ℕ) (before : List ℕ) where
   pub tried_outside : in_places firsts (16 * l + k) ≡ false → Tried t rules firsts seconds l m k before before
   tried_outside out =
       record {
@@ -243,7 +241,7 @@ module _ (t : List ℕ) (rules : ℕ) (firsts seconds : List ℕ) (l m k : ℕ) 
         gone = λ x b h n. both h n;
       }
 
-  module _ (a : ℕ) (met masks s pairs after : List ℕ) (ea : a ≡ 16 * l + k) (first : in_places firsts a ≡ true)
+  module _ (a : ℕ) (met : List (List ℕ)) (masks : List ℕ) (s : List (List (List ℕ))) (pairs after : List ℕ) (ea : a ≡ 16 * l + k) (first : in_places firsts a ≡ true)
       (second_small : m < 132) (given : Prepared t met (has rules) seconds before)
       (masked : MasksHold t rules a m masks) (sliced : SlicesHold t masks a s) (paired : SecondPairs seconds m pairs)
       (asked : Asked s met masks pairs 132 before after) where
@@ -334,7 +332,7 @@ module _ (t : List ℕ) (rules : ℕ) (firsts seconds : List ℕ) (l m k : ℕ) 
 
 -- fewer places
 pub prepared_places :
-    (t met : List ℕ) (rules : ℕ → Bool) (seconds places rest : List ℕ)
+    (t : List RuleTable) (met : List (List ℕ)) (rules : ℕ → Bool) (seconds places rest : List ℕ)
     → ((x : ℕ) → x < 2112 → in_places rest x ≡ true → in_places places x ≡ true)
     → Prepared t met rules seconds places
     → Prepared t met rules seconds rest
@@ -348,7 +346,7 @@ prepared_places t met rules seconds places rest fewer given =
 
 -- what is left when j places of cell l have been tried, in turn from the h-th
 pub record LeftFrom
-    (t : List ℕ)
+    (t : List RuleTable)
     (rules : ℕ)
     (firsts seconds thirds : List ℕ)
     (l m h j : ℕ)
@@ -365,7 +363,7 @@ pub record LeftFrom
       → in_places seconds y ≡ true
       → spares t (has rules) (16 * l + (h + i) % 16) y x ≡ false
 
-module _ (t : List ℕ) (rules : ℕ) (firsts seconds thirds : List ℕ) (l m h : ℕ) where
+module _ (t : List RuleTable) (rules : ℕ) (firsts seconds thirds : List ℕ) (l m h : ℕ) where
   pub left_start : LeftFrom t rules firsts seconds thirds l m h 0 thirds
   left_start =
       record {

@@ -1,27 +1,26 @@
--- Laws of pairs of operations as words: one restriction more, four words written in a row, and the words of each rule
--- and order. Assumes nothing.
+-- Laws of pairs of operations as words: one restriction more, and the words of each order and rule. Assumes nothing.
 use Prim.Native.Nat.{ℕ, zero, suc, ◌+◌, ◌-◌, ◌*◌, ◌/◌, ◌%◌, ◌^◌, ◌≤◌, ◌<◌}
-use native.Mathlib.Nat.{zero-add, add-zero, eq-or-lt_of_le, lt_of_le_of_lt}
+use native.Mathlib.Nat.{zero-add, lt_of_le_of_lt}
 use native.Mathlib.Omega.{arith}
 use mathlib.Core.Path.{◌≡◌, refl, sym, ◌∙◌, ap}
 use mathlib.Core.Bool.{Bool, true, false, ◌&&◌, ◌||◌, not}
-use mathlib.Core.Logic.{⊎_elim}
 use mathlib.Core.List.{List, [], ◌∷◌}
 use lib.ListN.{length, get_or, set, length-set}
 use lib.Seq.{get_or-set_same, get_or-set_other}
-use lib.Dec.{eqb, ltb}
+use lib.Dec.{eqb}
 use lib.Bits.{bit_and, bit_or, and_le_l}
 use borrow.Author.Tests.{eqb-true, eqb-false, ne_eqb}
 use Rattle.book.specs.Lists.{any, up_to}
 use Rattle.book.specs.Sets.{has, WordOf}
 use Rattle.book.proofs.Lists.{any_none, any_more, or_end, and_end, and_false}
 use Rattle.book.proofs.Members.{has_zero, has_or, has_and}
-use Rattle.search.specs.Inner.Table.{takes_at}
+use Rattle.search.specs.Inner.Table.{takes_at, takes_words}
 use Rattle.search.specs.Inner.Closing.{accepted_at}
 use Rattle.search.proofs.Fours.{has_cut}
 use Rattle.search.proofs.Sieves.{both, later_member, low_rules, without_single}
 use Rattle.search.proofs.PlaceLaws.{has_shift}
-use Rattle.blocked.specs.Inner.Pairs.{AcceptedWords, SlicesHold, third_at, first_at, second_at}
+use Rattle.search.specs.declared.tables.RuleTable.{RuleTable}
+use Rattle.blocked.specs.Inner.Pairs.{AcceptedWords, OrderHolds, first_at, second_at, slice_at, third_at}
 
 -- what holds of each of four words
 pub four_words :
@@ -39,7 +38,7 @@ four_words P a b c d pa pb pc pd (suc (suc zero)) h = pc
 four_words P a b c d pa pb pc pd (suc (suc (suc zero))) h = pd
 four_words P a b c d pa pb pc pd (suc (suc (suc (suc w)))) h = absurd (omega arith)
 
-module _ (t : List ℕ) (q i k l a : ℕ) where
+module _ (t : List RuleTable) (q i k l a : ℕ) where
   -- restriction j takes pair b of word w
   abbrev pub taking_pair : ℕ → ℕ → ℕ → Bool
   taking_pair w b j = takes_at t q i j b && (takes_at t q k j a && takes_at t q l j (4 * w + b / 16))
@@ -61,13 +60,13 @@ module _ (t : List ℕ) (q i k l a : ℕ) where
   pub pairs_skip :
       (j first : ℕ) (x : Bool) (words : List ℕ)
       → PairWords j words
-      → first ≡ get_or t (128 * q + 99 + 8 * k + j) 0
+      → first ≡ get_or (takes_words t q k) j 0
       → x ≡ has first (a % 64)
       → not x ≡ true
       → PairWords (j + 1) words
   unfolding takes_at
   pairs_skip j first x words old ef ex e w m b n =
-      let no : has (get_or t (128 * q + 99 + 8 * k + j) 0) (a % 64) ≡ false = rw (← ef) (sym ex ∙ off x e) in
+      let no : has (get_or (takes_words t q k) j 0) (a % 64) ≡ false = rw (← ef) (sym ex ∙ off x e) in
       rw (any_more (taking_pair w b) j, no, and_false, or_end) (old w m b n)
     where
       off : (y : Bool) → not y ≡ true → y ≡ false
@@ -78,11 +77,11 @@ module _ (t : List ℕ) (q i k l a : ℕ) where
   pub pairs_more :
       (j first second third r₀ r₁ r₂ r₃ : ℕ) (x : Bool) (words : List ℕ)
       → PairWords j words
-      → first ≡ get_or t (128 * q + 99 + 8 * k + j) 0
+      → first ≡ get_or (takes_words t q k) j 0
       → x ≡ has first (a % 64)
       → not x ≡ false
-      → second ≡ get_or t (128 * q + 99 + 8 * l + j) 0
-      → third ≡ get_or t (128 * q + 99 + 8 * i + j) 0
+      → second ≡ get_or (takes_words t q l) j 0
+      → third ≡ get_or (takes_words t q i) j 0
       → ((n : ℕ) → n < 64 → has r₀ n ≡ has second (n / 16))
       → ((n : ℕ) → n < 64 → has r₁ n ≡ has (second / 2 ^ 4) (n / 16))
       → ((n : ℕ) → n < 64 → has r₂ n ≡ has (second / 2 ^ 8) (n / 16))
@@ -117,172 +116,123 @@ module _ (t : List ℕ) (q i k l a : ℕ) where
           → ((n : ℕ) → n < 64 → has r n ≡ has second (4 * w + n / 16))
           → PairWord (j + 1) w (bit_or (get_or words w 0) (bit_and r third))
       one w m r er b n =
-          let taken : has (get_or t (128 * q + 99 + 8 * k + j) 0) (a % 64) ≡ true = rw (← ef) (sym ex ∙ on x e) in
+          let taken : has (get_or (takes_words t q k) j 0) (a % 64) ≡ true = rw (← ef) (sym ex ∙ on x e) in
           let low : b % 64 ≡ b = omega arith in
           let lower : (4 * w + b / 16) % 64 ≡ 4 * w + b / 16 = omega arith in
           rw (has_or, has_and, old w m b n, er b n, any_more (taking_pair w b) j, taken, low, lower, es, et)
           (ap (λ (z : Bool). any (taking_pair w b) (up_to j) || z)
-          (swap (has (get_or t (128 * q + 99 + 8 * l + j) 0) (4 * w + b / 16))
-          (has (get_or t (128 * q + 99 + 8 * i + j) 0) b)))
+          (swap (has (get_or (takes_words t q l) j 0) (4 * w + b / 16))
+          (has (get_or (takes_words t q i) j 0) b)))
 
   pub pairs_end : (n : ℕ) (words : List ℕ) → n ≡ 8 → PairWords n words → AcceptedWords t q i k l a words
   unfolding accepted_at
   pairs_end n words e old w b m s = rw (← e) (old w m b s)
 
--- Four words written in a row
+-- The words of each rule of a mask
 
--- a list with four words from n on
-abbrev pub with_four : List ℕ → ℕ → List ℕ → List ℕ
-with_four s n words =
-    set (set (set (set s n (get_or words 0 0)) (n + 1) (get_or words 1 0)) (n + 2) (get_or words 2 0)) (n + 3)
-    (get_or words 3 0)
+module _ (t : List RuleTable) (mask i k l a : ℕ) where
+  -- what the four words of rule q tell
+  abbrev pub SliceOf : List (List ℕ) → ℕ → Type 0
+  SliceOf s q =
+      (w b : ℕ) → w < 4 → b < 64 → has (slice_at s q w) b ≡ accepted_at t q i k l a (4 * w + b / 16) b
 
-pub four_size : (s : List ℕ) (n : ℕ) (words : List ℕ) → length (with_four s n words) ≡ length s
-four_size s n words = simp length-set
-
-four_other :
-    (s : List ℕ) (n : ℕ) (words : List ℕ) (m : ℕ)
-    → ((i : ℕ) → i < 4 → m ≡ n + i → ⊥)
-    → get_or (with_four s n words) m 0 ≡ get_or s m 0
-four_other s n words m other =
-    rw (
-      get_or-set_other _ (n + 3) m (get_or words 3 0) 0 (other 3 (omega arith)),
-      get_or-set_other _ (n + 2) m (get_or words 2 0) 0 (other 2 (omega arith)),
-      get_or-set_other _ (n + 1) m (get_or words 1 0) 0 (other 1 (omega arith)),
-      get_or-set_other s n m (get_or words 0 0) 0 (λ z. other 0 (omega arith) (omega arith)),
-    )
-
-pub four_written :
-    (s : List ℕ) (n : ℕ) (words : List ℕ)
-    → n + 3 < length s
-    → (w : ℕ)
-    → w < 4
-    → get_or (with_four s n words) (n + w) 0 ≡ get_or words w 0
-four_written s n words h zero m =
-    let a = set s n (get_or words 0 0) in
-    let b = set a (n + 1) (get_or words 1 0) in
-    let c = set b (n + 2) (get_or words 2 0) in
-    get_or-set_other c (n + 3) (n + 0) (get_or words 3 0) 0 (λ z. omega arith)
-    ∙ get_or-set_other b (n + 2) (n + 0) (get_or words 2 0) 0 (λ z. omega arith)
-    ∙ get_or-set_other a (n + 1) (n + 0) (get_or words 1 0) 0 (λ z. omega arith)
-    ∙ rw (add-zero) (get_or-set_same s n (get_or words 0 0) 0 (omega arith))
-four_written s n words h (suc zero) m =
-    let a = set s n (get_or words 0 0) in
-    let b = set a (n + 1) (get_or words 1 0) in
-    let c = set b (n + 2) (get_or words 2 0) in
-    let la : length a ≡ length s = length-set s n (get_or words 0 0) in
-    get_or-set_other c (n + 3) (n + 1) (get_or words 3 0) 0 (λ z. omega arith)
-    ∙ get_or-set_other b (n + 2) (n + 1) (get_or words 2 0) 0 (λ z. omega arith)
-    ∙ get_or-set_same a (n + 1) (get_or words 1 0) 0 (omega arith)
-four_written s n words h (suc (suc zero)) m =
-    let a = set s n (get_or words 0 0) in
-    let b = set a (n + 1) (get_or words 1 0) in
-    let c = set b (n + 2) (get_or words 2 0) in
-    let la : length a ≡ length s = length-set s n (get_or words 0 0) in
-    let lb : length b ≡ length a = length-set a (n + 1) (get_or words 1 0) in
-    get_or-set_other c (n + 3) (n + 2) (get_or words 3 0) 0 (λ z. omega arith)
-    ∙ get_or-set_same b (n + 2) (get_or words 2 0) 0 (omega arith)
-four_written s n words h (suc (suc (suc zero))) m =
-    let a = set s n (get_or words 0 0) in
-    let b = set a (n + 1) (get_or words 1 0) in
-    let c = set b (n + 2) (get_or words 2 0) in
-    let la : length a ≡ length s = length-set s n (get_or words 0 0) in
-    let lb : length b ≡ length a = length-set a (n + 1) (get_or words 1 0) in
-    let lc : length c ≡ length b = length-set b (n + 2) (get_or words 2 0) in
-    get_or-set_same c (n + 3) (get_or words 3 0) 0 (omega arith)
-four_written s n words h (suc (suc (suc (suc w)))) m = absurd (omega arith)
-
--- The words of each rule and order
-
-module _ (t masks : List ℕ) (a : ℕ) where
-  -- what the four words of rule q in order v tell
-  abbrev pub SliceOf : List ℕ → ℕ → ℕ → Type 0
-  SliceOf s q v =
-      (w b : ℕ)
-      → w < 4
-      → b < 64
-      → has (get_or s (24 * q + 4 * v + w) 0) b
-      ≡ accepted_at t q (third_at v) (first_at v) (second_at v) a (4 * w + b / 16) b
-
-  -- the orders below v have had their turn
-  abbrev pub Sliced : List ℕ → ℕ → Type 0
-  Sliced s v = (q u : ℕ) → q < 32 → u < v → has (get_or masks u 0) q ≡ true → SliceOf s q u
-
-  -- and the rules of order v that do not wait
-  pub record Slicing (s : List ℕ) (v waiting : ℕ) : Type 0 where
+  -- the rules that do not wait have had their turn
+  pub record Slicing (s : List (List ℕ)) (waiting : ℕ) : Type 0 where
+    pub size : length s ≡ 32
     pub fits : waiting < 2 ^ 64
     pub members : (q : ℕ) → has waiting q ≡ true → q < 32
-    pub earlier : Sliced s v
-    pub turned : (q : ℕ) → q < 32 → has (get_or masks v 0) q ≡ true → has waiting q ≡ false → SliceOf s q v
-
-  pub sliced_none : (s : List ℕ) → Sliced s 0
-  sliced_none s q u lq lu = absurd (omega arith)
+    pub turned : (q : ℕ) → q < 32 → has mask q ≡ true → has waiting q ≡ false → SliceOf s q
 
   -- all wait first
-  pub slicing_start : (s : List ℕ) (v : ℕ) → Sliced s v → Slicing s v (get_or masks v 0 % 4294967296)
-  slicing_start s v old =
+  pub slicing_start : (s : List (List ℕ)) → length s ≡ 32 → Slicing s (mask % 4294967296)
+  slicing_start s size =
       record {
+        size = size;
         fits = omega arith;
-        members = λ q h. (low_rules (get_or masks v 0) q h).0;
-        earlier = old;
-        turned = λ q lq h none. both (has_cut 32 (get_or masks v 0) q lq ∙ h) none;
+        members = λ q h. (low_rules mask q h).0;
+        turned = λ q lq h none. both (has_cut 32 mask q lq ∙ h) none;
       }
 
   -- rule q has had its turn
   pub slicing_more :
-      (s words : List ℕ) (v waiting one q n k l : ℕ)
-      → v < 6
+      (s : List (List ℕ)) (words : List ℕ) (waiting one q : ℕ)
       → one < 2 ^ 64
-      → WordOf (λ i. eqb i q) one
+      → WordOf (λ j. eqb j q) one
       → has waiting q ≡ true
-      → n ≡ 24 * q + 4 * v
-      → n + 3 < length s
-      → k ≡ first_at v
-      → l ≡ second_at v
-      → AcceptedWords t q (third_at v) k l a words
-      → Slicing s v waiting
-      → Slicing (with_four s n words) v (bit_and waiting ((2 ^ 64 - 1) - one))
-  slicing_more s words v waiting one q n k l lv lo single member en room ek el new old =
+      → AcceptedWords t q i k l a words
+      → Slicing s waiting
+      → Slicing (set s (q % 32) words) (bit_and waiting ((2 ^ 64 - 1) - one))
+  slicing_more s words waiting one q lo single member new old =
       record {
+        size = length-set s (q % 32) words ∙ old.size;
         fits = lt_of_le_of_lt (and_le_l waiting ((2 ^ 64 - 1) - one)) old.fits;
         members = λ j h. old.members j (later_member waiting one j h);
-        earlier = λ j u lj lu h w b lw lb. rw (other j u w lw (λ z. omega arith)) (old.earlier j u lj lu h w b lw lb);
         turned = λ j lj h none. go j lj h none (eqb j q) refl;
       }
     where
-      without :
-          (j : ℕ) → has (bit_and waiting ((2 ^ 64 - 1) - one)) j ≡ (has waiting j && not (ltb j 64 && eqb j q))
-      without j = without_single waiting one q j old.fits lo single
-
-      other :
-          (j u w : ℕ)
-          → w < 4
-          → (6 * j + u ≡ 6 * q + v → ⊥)
-          → get_or (with_four s n words) (24 * j + 4 * u + w) 0 ≡ get_or s (24 * j + 4 * u + w) 0
-      other j u w lw apart = four_other s n words (24 * j + 4 * u + w) (λ i li e. apart (omega arith))
+      here : q % 32 ≡ q
+      here =
+          let low : q < 32 = old.members q member in
+          omega arith
 
       go :
           (j : ℕ)
           → j < 32
-          → has (get_or masks v 0) j ≡ true
+          → has mask j ≡ true
           → has (bit_and waiting ((2 ^ 64 - 1) - one)) j ≡ false
           → (x : Bool)
           → eqb j q ≡ x
-          → SliceOf (with_four s n words) j v
+          → SliceOf (set s (q % 32) words) j
       go j lj h none true e w b lw lb =
-          rw (eqb-true j q e, ← en, four_written s n words room w lw, ← ek, ← el) (new w b lw lb)
+          let low : q < 32 = old.members q member in
+          let size : length s ≡ 32 = old.size in
+          rw (eqb-true j q e, here, get_or-set_same s q words [] (omega arith)) (new w b lw lb)
       go j lj h none false e w b lw lb =
           let apart = eqb-false j q e in
-          rw (other j v w lw (λ z. apart (omega arith)))
-          (old.turned j lj h (rw (without j, ne_eqb j q apart, and_false, and_end) at none) w b lw lb)
+          rw (here, get_or-set_other s q j words [] apart)
+          (old.turned j lj h
+          (rw (without_single waiting one q j old.fits lo single, ne_eqb j q apart, and_false, and_end) at none)
+          w b lw lb)
 
   -- none waits any more
-  pub slicing_end : (s : List ℕ) (v waiting : ℕ) → waiting ≡ 0 → Slicing s v waiting → Sliced s (v + 1)
-  slicing_end s v waiting z old q u lq lu h =
-      ⊎_elim (λ e. here e) (λ l. old.earlier q u lq l h) (eq-or-lt_of_le (omega arith))
-    where
-      here : u ≡ v → SliceOf s q u
-      here e = rw e (old.turned q lq (rw e at h) (rw z (has_zero q)))
+  pub slicing_end : (s : List (List ℕ)) (waiting : ℕ) → waiting ≡ 0 → Slicing s waiting → OrderHolds t mask i k l a s
+  slicing_end s waiting z old q w b lq lw lb h = old.turned q lq h (rw z (has_zero q)) w b lw lb
 
-  pub sliced_end : (s : List ℕ) (v : ℕ) → 6 ≤ v → Sliced s v → SlicesHold t masks a s
-  sliced_end s v all old q u w b lq lu lw lb h = old q u lq (omega arith) h w b lw lb
+-- The words of each order
+
+module _ (t : List RuleTable) (masks : List ℕ) (a : ℕ) where
+  -- the orders below v have had their turn
+  pub record Sliced (s : List (List (List ℕ))) (v : ℕ) : Type 0 where
+    pub size : length s ≡ 6
+    pub bound : v ≤ 6
+    pub turned :
+        (u : ℕ) → u < v → OrderHolds t (get_or masks u 0) (third_at u) (first_at u) (second_at u) a (get_or s u [])
+
+  pub sliced_more :
+      (s : List (List (List ℕ))) (v i k l : ℕ) (words : List (List ℕ))
+      → v < 6
+      → k ≡ first_at v
+      → l ≡ second_at v
+      → i ≡ third_at v
+      → OrderHolds t (get_or masks v 0) i k l a words
+      → Sliced s v
+      → Sliced (set s v words) (v + 1)
+  sliced_more s v i k l words lv ek el ei new old =
+      record {
+        size = length-set s v words ∙ old.size;
+        bound = omega arith;
+        turned = λ u lu. go u lu (eqb u v) refl;
+      }
+    where
+      go :
+          (u : ℕ)
+          → u < v + 1
+          → (x : Bool)
+          → eqb u v ≡ x
+          → OrderHolds t (get_or masks u 0) (third_at u) (first_at u) (second_at u) a (get_or (set s v words) u [])
+      go u lu true e =
+          let size : length s ≡ 6 = old.size in
+          rw (eqb-true u v e, get_or-set_same s v words [] (omega arith), ← ek, ← el, ← ei) new
+      go u lu false e =
+          let other = eqb-false u v e in
+          rw (get_or-set_other s v u words [] other) (old.turned u (omega arith))

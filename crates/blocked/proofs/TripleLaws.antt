@@ -1,5 +1,5 @@
 -- Laws of three cells: fewer rules, and the third cells beside two others. Assumes nothing.
-use Prim.Native.Nat.{ℕ, ◌+◌, ◌*◌, ◌/◌, ◌%◌, ◌<◌}
+use Prim.Native.Nat.{ℕ, ◌+◌, ◌*◌, ◌/◌, ◌%◌, ◌≤◌, ◌<◌}
 use native.Mathlib.Omega.{arith}
 use mathlib.Core.Path.{◌≡◌}
 use mathlib.Core.Bool.{Bool, true, false}
@@ -7,13 +7,14 @@ use mathlib.Core.List.{List}
 use Rattle.book.specs.Sets.{has}
 use Rattle.search.specs.Inner.Places.{FirstFrom}
 use Rattle.search.proofs.Sieves.{both}
+use Rattle.search.specs.declared.tables.RuleTable.{RuleTable}
 use Rattle.blocked.specs.Inner.Cells.{Left, in_cell, spares}
-use Rattle.blocked.specs.Inner.Rows.{CellsOf, OpensOf, RowThere, ThirdOf}
-use Rattle.blocked.specs.declared.searching.Scope.{Scope}
+use Rattle.blocked.specs.Inner.Rows.{CellsOf, OpensOf, RowOpen, RowThere, ShutThird}
+use Rattle.blocked.specs.declared.tables.Scope.{Scope}
 use Rattle.blocked.proofs.CellLaws.{cell_member, cell_place}
 use Rattle.blocked.proofs.RowLaws.{each_spares, spares_each}
 
-module _ (t : List ℕ) (s : Scope) where
+module _ (t : List RuleTable) (s : Scope) where
   -- Fewer rules
 
   module _ (some rules : ℕ → Bool) (within : (q : ℕ) → q < 32 → some q ≡ true → rules q ≡ true) where
@@ -78,22 +79,26 @@ module _ (t : List ℕ) (s : Scope) where
         (left.whole x z small (omega arith) ez (found.member small) o.in_third.1)
         (rw fa o.in_first.1) o.in_second.0 o.in_second.1))
 
-    pub third_made : RowThere s l m → ThirdOf t (has rules) s l m (x / 16)
-    third_made there =
+    -- past all places every third cell is open
+    pub third_none : 2112 ≤ x → RowOpen t (has rules) s l m
+    third_none past w cells =
+        let small : w < 132 = cells.below.2 in
+        before_open w small cells.third (omega arith)
+
+    pub third_made : x < 2112 → RowThere s l m → ShutThird t (has rules) s l m (x / 16)
+    third_made small there =
         record {
           open_before = λ w low cells.
-              let small : w < 132 = cells.below.2 in
-              before_open w small cells.third (omega arith);
-          shut = λ below.
-              let small : x < 2112 = omega arith in
-              record {
-                cells =
-                    record {
-                      below = (there.below.0, there.below.1, below);
-                      first = there.first;
-                      second = there.second;
-                      third = cell_member s.thirds x (left.fewer x small (found.member small));
-                    };
-                closed = left_shut small;
-              };
+              let below : w < 132 = cells.below.2 in
+              before_open w below cells.third (omega arith);
+          shut = record {
+            cells =
+                record {
+                  below = (there.below.0, there.below.1, omega arith);
+                  first = there.first;
+                  second = there.second;
+                  third = cell_member s.thirds x (left.fewer x small (found.member small));
+                };
+            closed = left_shut small;
+          };
         }

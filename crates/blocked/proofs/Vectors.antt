@@ -3,6 +3,7 @@
 use Prim.Native.Nat.{ℕ}
 use mathlib.Core.Path.{◌≡◌, refl, ◌∙◌}
 use mathlib.Core.List.{List, [], ◌∷◌, ◌++◌, map}
+use Rattle.std.specs.Prelude.{Some, Ok, Err}
 use Rattle.book.specs.Lists.{all, any, flat, up_to, from, keep}
 use Rattle.book.specs.Sets.{has, less}
 use Rattle.book.specs.Hierarchies.{upward_in, upward, under, leaf, covers, proper_descendant, support_along, support}
@@ -18,13 +19,11 @@ use Rattle.book.specs.Refusals.{mask_allows, mask_holds, masks_hold, length_test
 use Rattle.book.specs.Refusals.{users_block_tests, data_block_tests, columns_block_tests, functions_block_tests}
 use Rattle.book.specs.Refusals.{rule_block_tests, block_tests, content_tests, block_by_block, book_tests, seal_tests}
 use Rattle.book.specs.Refusals.{BookAccepted}
-use Rattle.book.specs.Tests.{first_failing, refused_or, answered}
+use Rattle.book.specs.Tests.{Outcome, first_failing, refused_or, answered}
 use Rattle.book.specs.Answers.{with_check, seal_bytes}
-use Rattle.book.specs.Inner.Testing.{or_else}
 use Rattle.book.specs.Shop.{padded, block, users, categories, columns, functions, rule, rule0, rule1, rule2, shop}
-use Rattle.book.specs.declared.Refusal.{Refusal}
-use Rattle.book.specs.declared.Tested.{Tested}
-use Rattle.book.specs.declared.Tested.TheVariants.{Passed}
+use Rattle.book.specs.declared.refusal.Refusal.{Refusal}
+use Rattle.book.specs.declared.refusal.Refusal.TheVariants.{NoRule, RuleForbids}
 use Rattle.book.proofs.Answers.{first_append}
 use Rattle.lineage.specs.Accesses.{word_of}
 use Rattle.lineage.specs.Paths.{labels}
@@ -38,11 +37,7 @@ use Rattle.blocked.specs.Associations.{access_to, in_scope_at, every_datum, asso
 use Rattle.blocked.specs.Open.{operation_choices, some_broken, is_closed_under, first_closed}
 use Rattle.blocked.specs.Few.{with_asking, others, without, after_trials, leaves_closed, few_left, few_rules}
 use Rattle.blocked.specs.Answers.{forbid_tests, blocked_tests, datum_byte, closed_answer, blocking_of, blocked_answer}
-use Rattle.blocked.specs.Answers.{causes_of, culprits_answer}
-use Rattle.blocked.specs.declared.Blocking.{Blocking}
-use Rattle.blocked.specs.declared.Blocking.TheVariants as blocking
-use Rattle.blocked.specs.declared.Causes.{Causes}
-use Rattle.blocked.specs.declared.Causes.TheVariants as causes
+use Rattle.blocked.specs.Answers.{Blocking, Causes, causes_of, culprits_answer, few_answer, open_answer, unblocked}
 
 -- The rules
 
@@ -99,26 +94,26 @@ abbrev Both : Type 0
 Both = Blocking × Causes
 
 abbrev open_to_all : Both
-open_to_all = (blocking.Open, causes.Unblocked)
+open_to_all = (open_answer, unblocked)
 
-abbrev refused : ℕ → Both
-refused number =
-    (blocking.Refused (record { number = number; place = 0 }), causes.Refused (record { number = number; place = 0 }))
+abbrev refused : Refusal → Both
+refused refusal = (Err refusal, Err refusal)
 
 -- user, the bytes of the references, and the other rules
 abbrev closed : ℕ → ℕ → ℕ → ℕ → ℕ → Both
-closed user first second third others = (blocking.Closed user first second third, causes.Few others)
+closed user first second third others =
+    (Ok (Some (record { user = user; first = first; second = second; third = third })), few_answer others)
 
 -- a book, rules of it, and what is answered
 unfoldable pub cases : List (Book × List ℕ × List Both)
 cases =
-    (shop, 0 ∷ 1 ∷ 2 ∷ 3 ∷ [], open_to_all ∷ open_to_all ∷ open_to_all ∷ refused 24 ∷ [])
+    (shop, 0 ∷ 1 ∷ 2 ∷ 3 ∷ [], open_to_all ∷ open_to_all ∷ open_to_all ∷ refused NoRule ∷ [])
     -- avg for one rule, sum for another: no operation on Price is left for Report. Rule 0 takes both, so rules 1 and 3
     -- are needed; rule 2 demands avg as rule 1 does, and is dropped
     ∷ (
       shop ++ sums,
       0 ∷ 1 ∷ 2 ∷ 3 ∷ 4 ∷ [],
-      closed 1 130 132 0 10 ∷ closed 1 132 0 0 8 ∷ closed 1 130 132 0 8 ∷ closed 1 132 0 0 2 ∷ refused 24 ∷ [],
+      closed 1 130 132 0 10 ∷ closed 1 132 0 0 8 ∷ closed 1 130 132 0 8 ∷ closed 1 132 0 0 2 ∷ refused NoRule ∷ [],
     )
     -- two rules that demand sum: the lower number stays
     ∷ (
@@ -129,9 +124,9 @@ cases =
     -- three needed together
     ∷ (threes, 0 ∷ 1 ∷ 2 ∷ [], closed 1 132 0 0 6 ∷ closed 1 132 0 0 5 ∷ closed 1 132 0 0 3 ∷ [])
     -- a rule that forbids closes too; 26 for that rule; 24 comes first
-    ∷ (conditions, 0 ∷ 1 ∷ 2 ∷ [], closed 2 130 131 196 2 ∷ refused 26 ∷ refused 24 ∷ [])
+    ∷ (conditions, 0 ∷ 1 ∷ 2 ∷ [], closed 2 130 131 196 2 ∷ refused RuleForbids ∷ refused NoRule ∷ [])
     -- Price alone stays open
-    ∷ (together, 0 ∷ 1 ∷ 2 ∷ [], closed 1 131 132 0 4 ∷ open_to_all ∷ refused 26 ∷ [])
+    ∷ (together, 0 ∷ 1 ∷ 2 ∷ [], closed 1 131 132 0 4 ∷ open_to_all ∷ refused RuleForbids ∷ [])
     -- "one covered leaf that some column carries"
     ∷ (states (3 ∷ 2 ∷ 3 ∷ 4 ∷ []), 0 ∷ [], open_to_all ∷ [])
     ∷ (states (3 ∷ 3 ∷ 4 ∷ 3 ∷ 2 ∷ []), 0 ∷ [], closed 1 130 132 0 2 ∷ [])
@@ -148,7 +143,7 @@ told book r refuse value = answered (rule_tests book r ++ forbid_tests (rule_at 
 unfoldable outcome : Book → ℕ → Both
 outcome book r =
     let first = first_closed book r in
-    (told book r blocking.Refused (blocking_of first), told book r causes.Refused (causes_of book r first))
+    (told book r Err (blocking_of first), told book r Err (causes_of book r first))
 
 cases_outcomes :
     ◌≡◌ {A = List (List Both)} (map (λ c. map (outcome c.0) c.1) cases) (map (λ c. c.2) cases)
@@ -162,7 +157,7 @@ unfolding all any up_to from has upward_in upward under leaf covers support_alon
     told outcome sums three forbids prices near conditions together states no_avg threes cases
 cases_outcomes = refl
 
-cases_pass : ◌≡◌ {A = List Tested} (map (λ c. first_failing (book_tests c.0)) cases) (map (λ c. Passed) cases)
+cases_pass : ◌≡◌ {A = List Outcome} (map (λ c. first_failing (book_tests c.0)) cases) (map (λ c. Ok tt) cases)
 unfolding all any up_to from has upward_in upward under leaf covers proper_descendant support_along support less
     category_start withdrawn_operations parent_holds is_user is_data_leaf support_of supports in_leaf_set weighted check_sum
     check_holds between zeros length_holds kind_holds users_counted data_counted columns_counted functions_counted rule_counts
@@ -180,7 +175,7 @@ after_check :
     {A : Type 0} (book : Book) (r : ℕ) (refuse : Refusal → A) (value : A)
     → BookAccepted book
     → answered (blocked_tests book r) refuse value ≡ told book r refuse value
-unfolding blocked_tests answered or_else told
+unfolding blocked_tests answered told
 after_check book r refuse value accepted =
     rw (
       first_append (book_tests book ++ rule_tests book r) (forbid_tests (rule_at book r)),
@@ -197,19 +192,19 @@ unfolding blocked_answer culprits_answer answers outcome
 rules_answers book accepted [] = refl
 rules_answers book accepted (r ∷ rules) =
     rw (
-      after_check book r blocking.Refused (blocking_of (first_closed book r)) accepted,
-      after_check book r causes.Refused (causes_of book r (first_closed book r)) accepted,
+      after_check book r Err (blocking_of (first_closed book r)) accepted,
+      after_check book r Err (causes_of book r (first_closed book r)) accepted,
       rules_answers book accepted rules,
     )
 
 each_answers :
     (l : List (Book × List ℕ × List Both))
-    → ◌≡◌ {A = List Tested} (map (λ c. first_failing (book_tests c.0)) l) (map (λ c. Passed) l)
+    → ◌≡◌ {A = List Outcome} (map (λ c. first_failing (book_tests c.0)) l) (map (λ c. Ok tt) l)
     → map (λ c. map (answers c.0) c.1) l ≡ map (λ c. map (outcome c.0) c.1) l
 each_answers [] h = refl
 each_answers (c ∷ l) h =
-    let accepted : first_failing (book_tests c.0) ≡ Passed = cc in
-    let rest : ◌≡◌ {A = List Tested} (map (λ d. first_failing (book_tests d.0)) l) (map (λ d. Passed) l) = cc in
+    let accepted : first_failing (book_tests c.0) ≡ Ok tt = cc in
+    let rest : ◌≡◌ {A = List Outcome} (map (λ d. first_failing (book_tests d.0)) l) (map (λ d. Ok tt) l) = cc in
     rw (rules_answers c.0 accepted c.1, each_answers l rest)
 
 -- what Blocked and Culprits answer

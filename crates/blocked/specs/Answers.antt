@@ -1,27 +1,22 @@
 -- The tests of Blocked and Culprits in document 02's order, and what they answer, whole. Document 02, N1 and N6.
 -- Assumes nothing.
-use Rattle.std.specs.Prelude.{ℕ, zero, suc, ◌+◌, ◌*◌, List, [], ◌∷◌, ◌++◌, ltb}
+use Rattle.std.specs.Prelude.{ℕ, zero, suc, ◌+◌, ◌*◌, List, [], ◌∷◌, ◌++◌, ltb, Option, Some, None, Result, Ok, Err}
 use Rattle.book.specs.Blocks.{Book, Rule, rule_at}
 use Rattle.book.specs.Rule.{restriction_count}
 use Rattle.book.specs.Tests.{Test, answered}
 use Rattle.book.specs.Refusals.{book_tests}
+use Rattle.book.specs.declared.refusal.Refusal.{Refusal}
+use Rattle.book.specs.declared.refusal.Refusal.TheVariants.{RuleForbids}
 use Rattle.search.specs.Alone.{First, none, shown}
 use Rattle.search.specs.Answers.{rule_tests}
 use Rattle.blocked.specs.Associations.{Datum, Pair}
 use Rattle.blocked.specs.Open.{first_closed}
 use Rattle.blocked.specs.Few.{few_rules}
-use Rattle.blocked.specs.declared.Blocking.{Blocking}
-use Rattle.blocked.specs.declared.Blocking.TheVariants as blocking
-use Rattle.blocked.specs.declared.Causes.{Causes}
-use Rattle.blocked.specs.declared.Causes.TheVariants as causes
-
--- the refusal's number
-abbrev pub rule_forbids : ℕ
-rule_forbids = 26
+use Rattle.blocked.specs.declared.Closed.{Closed}
 
 -- 26: "if the rule forbids"
 unfoldable pub forbid_tests : Rule → List Test
-forbid_tests rule = (rule_forbids, 0, ltb 0 (restriction_count rule)) ∷ []
+forbid_tests rule = (RuleForbids, ltb 0 (restriction_count rule)) ∷ []
 
 -- "book refusals, 24, then 26"
 unfoldable pub blocked_tests : (book : Book) (r : ℕ) → List Test
@@ -33,24 +28,48 @@ datum_byte [] i = 0
 datum_byte (x ∷ association) zero = 128 + 64 * x.channel + x.leaf
 datum_byte (x ∷ association) (suc i) = datum_byte association i
 
+-- an answer of Blocked: nothing is closed, or a user and an association, or a refusal
+abbrev pub Blocking : Type 0
+Blocking = Result (Option Closed) Refusal
+
+-- nothing is closed
+abbrev pub open_answer : Blocking
+open_answer = Ok None
+
 -- a user and an association that stay closed
 unfoldable pub closed_answer : Pair → Blocking
 closed_answer p =
-    blocking.Closed p.user (datum_byte p.association 0) (datum_byte p.association 1)
-    (datum_byte p.association 2)
+    Ok
+    (Some
+    (record {
+      user = p.user;
+      first = datum_byte p.association 0;
+      second = datum_byte p.association 1;
+      third = datum_byte p.association 2;
+    }))
 
 unfoldable pub blocking_of : First Pair → Blocking
-blocking_of none = blocking.Open
+blocking_of none = open_answer
 blocking_of (shown p) = closed_answer p
 
 unfoldable pub blocked_answer : (book : Book) (r : ℕ) → Blocking
-blocked_answer book r = answered (blocked_tests book r) blocking.Refused (blocking_of (first_closed book r))
+blocked_answer book r = answered (blocked_tests book r) Err (blocking_of (first_closed book r))
+
+-- an answer of Culprits: nothing is closed, or a mask, or a refusal
+abbrev pub Causes : Type 0
+Causes = Result (Option ℕ) Refusal
+
+abbrev pub unblocked : Causes
+unblocked = Ok None
+
+abbrev pub few_answer : (mask : ℕ) → Causes
+few_answer mask = Ok (Some mask)
 
 -- "An unblocked rule gets that reply and no mask."
 unfoldable pub causes_of : (book : Book) (r : ℕ) → First Pair → Causes
-causes_of book r none = causes.Unblocked
-causes_of book r (shown p) = causes.Few (few_rules book r p)
+causes_of book r none = unblocked
+causes_of book r (shown p) = few_answer (few_rules book r p)
 
 -- "The refusals are N1's." "For the user and association of N1"
 unfoldable pub culprits_answer : (book : Book) (r : ℕ) → Causes
-culprits_answer book r = answered (blocked_tests book r) causes.Refused (causes_of book r (first_closed book r))
+culprits_answer book r = answered (blocked_tests book r) Err (causes_of book r (first_closed book r))

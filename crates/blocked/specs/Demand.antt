@@ -9,9 +9,7 @@ use Rattle.verdicts.specs.Accesses.{Access, members}
 use Rattle.verdicts.specs.Breaking.{breaks}
 use Rattle.search.specs.Obtainable.{can_be_had}
 use Rattle.blocked.specs.Associations.{Datum, Pair, datum_of, is_association, pair_before}
-use Rattle.blocked.specs.Answers.{closed_answer}
-use Rattle.blocked.specs.declared.Blocking.{Blocking}
-use Rattle.blocked.specs.declared.Blocking.TheVariants.{Open}
+use Rattle.blocked.specs.Answers.{Blocking, closed_answer, open_answer}
 
 -- what Blocked has to be given: an accepted book, a rule of it, with a restriction
 pub record BlockedAccepted (book : Book) (r : ℕ) : Type 0 where
@@ -69,9 +67,9 @@ NoneClosed book r = (p : Pair) → InScope (head_of book) (rule_at book r) p →
 
 pub record Blocked (book : Book) (r : ℕ) (answer : Blocking) : Type 0 where
   -- "a rule with restrictions is blocked exactly when some [..] admit no choice"
-  pub open_none : answer ≡ Open → NoneClosed book r
-  pub none_open : NoneClosed book r → answer ≡ Open
-  pub otherwise : (answer ≡ Open → ⊥) → (p : Pair) × (answer ≡ closed_answer p) × ClosedFirst book r p
+  pub open_none : answer ≡ open_answer → NoneClosed book r
+  pub none_open : NoneClosed book r → answer ≡ open_answer
+  pub otherwise : (answer ≡ open_answer → ⊥) → (p : Pair) × (answer ≡ closed_answer p) × ClosedFirst book r p
   -- whoever reads the answer's numbers as a user and an association of the scope has read that pair
   pub named :
       (p : Pair) → InScope (head_of book) (rule_at book r) p → answer ≡ closed_answer p → ClosedFirst book r p

@@ -5,4 +5,5 @@ pub mod Rows
 pub mod Users
 pub mod Few
 pub mod First
+pub mod Tables
 pub mod Start

@@ -6,10 +6,8 @@ use Rattle.book.specs.Blocks.{Book, head_of, rule_at, rule_count}
 use Rattle.verdicts.specs.Accesses.{Access}
 use Rattle.blocked.specs.Associations.{Pair}
 use Rattle.blocked.specs.Few.{with_asking}
-use Rattle.blocked.specs.Answers.{blocked_answer, closed_answer}
+use Rattle.blocked.specs.Answers.{Causes, blocked_answer, closed_answer, few_answer, unblocked}
 use Rattle.blocked.specs.Demand.{Chooses, ClosedFirst, ClosedUnder, InScope, NoneClosed, SomeBroken}
-use Rattle.blocked.specs.declared.Causes.{Causes}
-use Rattle.blocked.specs.declared.Causes.TheVariants.{Few, Unblocked}
 
 -- some choice of operations breaks no rule that counts
 abbrev pub OpenUnder : Book → (rules : ℕ → Bool) → Pair → Type 0
@@ -50,13 +48,13 @@ pub record Behind (book : Book) (r : ℕ) (p : Pair) (mask : ℕ) : Type 0 where
 
 pub record Caused (book : Book) (r : ℕ) (answer : Causes) : Type 0 where
   -- "An unblocked rule gets that reply and no mask."
-  pub unblocked_none : answer ≡ Unblocked → NoneClosed book r
-  pub none_unblocked : NoneClosed book r → answer ≡ Unblocked
-  pub otherwise : (answer ≡ Unblocked → ⊥) → (p : Pair) × (mask : ℕ) × (answer ≡ Few mask) × Behind book r p mask
+  pub unblocked_none : answer ≡ unblocked → NoneClosed book r
+  pub none_unblocked : NoneClosed book r → answer ≡ unblocked
+  pub otherwise : (answer ≡ unblocked → ⊥) → (p : Pair) × (mask : ℕ) × (answer ≡ few_answer mask) × Behind book r p mask
   -- whoever reads Blocked's numbers as a user and an association of the scope has the mask of that pair
   pub named :
       (p : Pair) (mask : ℕ)
       → InScope (head_of book) (rule_at book r) p
       → blocked_answer book r ≡ closed_answer p
-      → answer ≡ Few mask
+      → answer ≡ few_answer mask
       → Behind book r p mask

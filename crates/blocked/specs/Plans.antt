@@ -8,8 +8,7 @@ use Rattle.lineage.specs.Rows.{Plan}
 use Rattle.lineage.specs.Answers.{PlanAccepted}
 use Rattle.verdicts.specs.Accesses.{accesses_of}
 use Rattle.verdicts.specs.Breaking.{breaks}
-use Rattle.verdicts.specs.Answers.{judge_answer}
-use Rattle.verdicts.specs.declared.Judged.TheVariants.{Broken}
+use Rattle.verdicts.specs.Answers.{broken, judge_answer}
 use Rattle.blocked.specs.Associations.{Datum, Pair, access_to}
 use Rattle.blocked.specs.Few.{with_asking}
 use Rattle.blocked.specs.Demand.{Closed, InScope}
@@ -22,7 +21,7 @@ Reads head plan association =
 
 -- an accepted plan for which Judge answers the empty set
 abbrev pub Passes : (book : Book) (user : ℕ) (plan : Plan) → Type 0
-Passes book user plan = PlanAccepted (head_of book) plan × (judge_answer book user plan ≡ Broken 0)
+Passes book user plan = PlanAccepted (head_of book) plan × (judge_answer book user plan ≡ broken 0)
 
 -- a plan breaks some rule of those that count
 abbrev pub BreaksSome : (book : Book) (rules : ℕ → Bool) (user : ℕ) (plan : Plan) → Type 0

@@ -1,84 +1,51 @@
-// The few rules that close three cells together with rule r: the others are dropped by trial, from the
-// highest number down.
+//! The few rules that close three cells together with rule r: the others are dropped by trial, from the
+//! highest number down.
 ghost use Rattle.std.specs.Prelude.{◌≡◌, Bool, true, ℕ, ◌<◌};
 ghost use Rattle.book.specs.Sets.{has};
 ghost use Rattle.blocked.specs.Few.{after_trials, without};
-ghost use Rattle.blocked.specs.Inner.Few.{CellsGiven, Dropped, Keeps, OneGiven, Told};
+ghost use Rattle.blocked.specs.Inner.Few.{Dropped, Keeps, Told};
+ghost use Rattle.blocked.specs.Inner.Tables.{CellsBy, OneBy, ToldBy};
 
-use crate::cells::{PAST_CELLS, only_cell};
-use crate::searching::{Scope, closed_third};
+use crate::cells::only_cell;
+use crate::searching::closed_third;
+use crate::tables::{Row, Tables};
+use crate::users::Denial;
 use book::sets::{contains, single};
 
-// Rules that close the cells; and where to look first.
-#[derive(Clone, Copy)]
-pub struct Kept {
-    pub rules: u64,
-    pub hint: u8,
-}
-
-// What is left once rule q has been tried: it is dropped where the cells stay closed without it. Rule
-// r is not tried.
-fn dropped(
-    t: &[u64],
-    met: &[u64],
-    r: u8,
-    scope: Scope,
-    l: usize,
-    m: usize,
-    q: u8,
-    before: Kept,
-) -> Kept
+/// The rules that are left of some once rule q has been tried: it is dropped where the cells stay
+/// closed without it. Rule r is not tried.
+fn dropped(tables: &Tables, row: Row, r: u8, q: u8, rules: u64, hint: &mut u8) -> u64
     ensures { (passes : (ℕ → Bool) → Bool) (n counts : ℕ) → q < 32
-        → OneGiven t.now met.now counts scope l m n
-        → Told t.now scope l m n r counts passes → Keeps r counts before.rules
-        → Dropped passes r counts q before.rules result.rules }
+        → OneBy tables.now row n counts → ToldBy tables.now row n r counts passes
+        → Keeps r counts rules → Dropped passes r counts q rules result }
 {
-    if (q == r) | !contains(before.rules, q as usize) {
-        return before;
+    if (q == r) | !contains(rules, usize::from(q)) {
+        return rules;
     }
-    let fewer = before.rules & !single(q as usize);
-    let third = closed_third(t, met, fewer, scope, l, m, before.hint);
-    if third.cell < PAST_CELLS {
-        return Kept {
-            rules: fewer,
-            hint: third.hint,
-        };
-    }
-    Kept {
-        rules: before.rules,
-        hint: third.hint,
+    let fewer = rules & !single(usize::from(q));
+    match closed_third(tables, row, fewer, hint) {
+        Some(_) => fewer,
+        None => rules,
     }
 }
 
-// The rules that are left of those that count, but for r.
-pub fn few(
-    t: &[u64],
-    met: &[u64],
-    r: u8,
-    rules: u64,
-    scope: Scope,
-    l: usize,
-    m: usize,
-    n: usize,
-) -> u64
+/// The rules that are left of those that count, but for r. Of the third places only those of the cell
+/// stay in the tables.
+pub fn few(tables: &mut Tables, r: u8, rules: u64, denial: Denial) -> u64
     ensures { (passes : (ℕ → Bool) → Bool)
-        → CellsGiven t.now met.now rules scope l m n → has rules r ≡ true
-        → Told t.now scope l m n r rules passes
+        → CellsBy tables.old denial rules → has rules r ≡ true
+        → Told tables.old.rules tables.old.scope denial.first denial.second denial.third r rules passes
         → (q : ℕ) → has result q ≡ after_trials passes 32 (without (has rules) r) q }
 {
-    let firsts = scope.firsts;
-    let seconds = scope.seconds;
-    let places = scope.thirds;
-    let thirds = only_cell(places, n);
-    let cut = Scope {
-        firsts,
-        seconds,
-        thirds,
+    tables.scope.thirds = only_cell(&tables.scope.thirds, denial.third);
+    let row = Row {
+        first: denial.first,
+        second: denial.second,
     };
-    let mut kept = Kept { rules, hint: 0 };
-    for i in 0..32u8 {
-        let next = dropped(t, met, r, cut, l, m, 31 - i, kept);
-        kept = next;
+    let mut hint = 0u8;
+    let mut left = rules;
+    for q in (0..32u8).rev() {
+        left = dropped(tables, row, r, q, left, &mut hint);
     }
-    kept.rules & !single(r as usize)
+    left & !single(usize::from(r))
 }

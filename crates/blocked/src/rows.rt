@@ -1,37 +1,20 @@
-// A row: the third cells that stay closed beside a first and a second cell. One place of the first
-// cell after the other opens some of them.
+//! A row: the third cells that stay closed beside a first and a second cell. One place of the first
+//! cell after the other opens some of them.
 ghost use Rattle.std.specs.Prelude.{◌<◌};
 ghost use Rattle.book.specs.Sets.{has};
-ghost use Rattle.blocked.specs.Inner.Cells.{Left, Tried, past_cells};
+ghost use Rattle.blocked.specs.Inner.Cells.{past_cells};
 ghost use Rattle.blocked.specs.Inner.Pairs.{Asked, Prepared, SecondPairs};
+ghost use Rattle.blocked.specs.Inner.Tables.{LeftBy, PreparedBy, TriedBy};
 
-use crate::cells::{cell_word, inside, less_cell};
-use crate::pairs::{SLICE_WORDS, fill_slices, row_masks, some_accepted};
-use search::places::{PAST_PLACES, first_from, is_empty};
+use crate::cells::{cell_word, inside, remove_cell};
+use crate::pairs::{fill_slices, row_masks, some_accepted};
+use crate::tables::{Row, Tables};
+use search::places::{first_from, is_empty};
 use search::tables::spread;
 
-// What is left of the third places, by whole cells; and where to look first: at the place of the
-// first cell that was the first to open something. No promise speaks of it.
-#[derive(Clone, Copy)]
-pub struct Row {
-    pub places: [u64; 33],
-    pub hint: u8,
-}
-
-// The hint of a row in which nothing has been opened yet.
-const NO_HINT: u8 = 16;
-
-// A hint, or another one where there is none.
-fn hint_or(hint: u8, other: u8) -> u8 {
-    if hint < NO_HINT {
-        return hint;
-    }
-    other
-}
-
-// The pairs of a second place of cell m and any third operation.
-fn second_pairs(seconds: [u64; 33], m: usize) -> [u64; 4]
-    ensures { m < past_cells → SecondPairs seconds m result }
+/// The pairs of a second place of cell m and any third operation.
+fn second_pairs(seconds: &[u64; 33], m: usize) -> [u64; 4]
+    ensures { m < past_cells → SecondPairs seconds.now m result }
 {
     let word = cell_word(seconds, m);
     [
@@ -42,85 +25,66 @@ fn second_pairs(seconds: [u64; 33], m: usize) -> [u64; 4]
     ]
 }
 
-// What is left when each cell has been asked about, k being the first place's operation.
-fn asked(s: &[u64], met: &[u64], masks: [u64; 6], pairs: [u64; 4], k: usize, before: Row) -> Row
-    ensures { Asked s.now met.now masks pairs past_cells before.places result.places }
+/// Takes out each cell that some pair opens, and tells whether there is one. Nothing is promised of
+/// that: it only says where to look first.
+fn remove_open(
+    places: &mut [u64; 33],
+    s: &[[[u64; 4]; 32]; 6],
+    met: &[[u64; 3]; 132],
+    masks: &[u64; 6],
+    pairs: &[u64; 4],
+) -> bool
+    ensures { Asked s.now met.now masks.now pairs.now past_cells places.old places.new }
 {
-    let mut places = before.places;
-    let mut hint = before.hint;
-    let mut x = first_from(places, 0);
-    while x < PAST_PLACES {
+    let mut opens = false;
+    // From one place that is left to the next: to ask all 132 cells costs more.
+    let mut next = first_from(places, 0);
+    while let Some(x) = next {
         let n = x / 16;
-        if some_accepted(s, met, masks, pairs, cell_word(places, n), n) {
-            let rest = less_cell(places, n);
-            places = rest;
-            hint = hint_or(hint, (k % 16) as u8);
+        if some_accepted(s, &met[n], masks, pairs, cell_word(places, n)) {
+            remove_cell(places, n);
+            opens = true;
         }
-        x = first_from(places, 16 * n + 16);
+        next = first_from(places, 16 * n + 16);
     }
-    Row { places, hint }
+    opens
 }
 
-// What is left when the k-th place of cell l has been tried.
-fn tried(
-    t: &[u64],
-    met: &[u64],
-    rules: u64,
-    firsts: [u64; 33],
-    seconds: [u64; 33],
-    l: usize,
-    m: usize,
-    k: usize,
-    before: Row,
-) -> Row
-    ensures { l < past_cells → m < past_cells → k < 16
-        → Prepared t.now met.now (has rules) seconds before.places
-        → Tried t.now rules firsts seconds l m k before.places result.places }
+/// Takes out the third cells that the k-th place of the row's first cell opens, and tells as above
+/// whether there is one.
+fn tried(tables: &Tables, row: Row, rules: u64, k: u8, places: &mut [u64; 33]) -> bool
+    ensures { row.first < past_cells → row.second < past_cells → k < 16
+        → Prepared tables.now.rules tables.now.met (has rules) tables.now.scope.seconds places.old
+        → TriedBy tables.now row rules k places.old places.new }
 {
-    let a = 16 * (l % 256) + k % 16;
-    if !inside(firsts, a) {
-        return before;
+    let a = 16 * (row.first % 256) + usize::from(k % 16);
+    if !inside(&tables.scope.firsts, a) {
+        return false;
     }
-    let masks = row_masks(t, met, rules, a, m);
-    let mut s = [0u64; SLICE_WORDS];
-    fill_slices(&mut s, t, masks, a);
-    let pairs = second_pairs(seconds, m);
-    asked(&s, met, masks, pairs, k, before)
+    let masks = row_masks(&tables.rules, &tables.met, rules, a, row.second);
+    let mut slices = [[[0u64; 4]; 32]; 6];
+    fill_slices(&mut slices, &tables.rules, &masks, a);
+    let pairs = second_pairs(&tables.scope.seconds, row.second);
+    remove_open(places, &slices, &tables.met, &masks, &pairs)
 }
 
-// What is left when every place of cell l has been tried, in turn from the hint: it stays closed.
-pub fn closed_row(
-    t: &[u64],
-    met: &[u64],
-    rules: u64,
-    firsts: [u64; 33],
-    seconds: [u64; 33],
-    l: usize,
-    m: usize,
-    before: Row,
-) -> Row
-    ensures { l < past_cells → m < past_cells
-        → Prepared t.now met.now (has rules) seconds before.places
-        → Left t.now rules firsts seconds before.places l m 16 result.places }
+/// The third places that are left, by whole cells, when every place of the row's first cell has been
+/// tried: these stay closed. The first to open something is tried first the next time.
+pub fn closed_row(tables: &Tables, row: Row, rules: u64, hint: &mut u8) -> [u64; 33]
+    ensures { row.first < past_cells → row.second < past_cells
+        → PreparedBy tables.now (has rules) → LeftBy tables.now row rules result }
 {
-    let thirds = before.places;
-    let from = before.hint;
-    let mut row = Row {
-        places: thirds,
-        hint: NO_HINT,
-    };
-    for j in 0..16usize {
-        let places = row.places;
-        if is_empty(places) {
+    let from = *hint % 16;
+    let mut places = tables.scope.thirds;
+    let mut opener: Option<u8> = None;
+    for j in 0..16u8 {
+        if is_empty(&places) {
             break;
         }
-        let k = (from as usize + j) % 16;
-        let next = tried(t, met, rules, firsts, seconds, l, m, k, row);
-        row = next;
+        let k = (from + j) % 16;
+        let opens = tried(tables, row, rules, k, &mut places);
+        opener = opener.or(opens.then_some(k));
     }
-    let places = row.places;
-    Row {
-        places,
-        hint: hint_or(row.hint, from),
-    }
+    *hint = opener.unwrap_or(from);
+    places
 }

@@ -1,420 +1,275 @@
-// The first user for whom some association is closed. The rows are gone through once, and in each the
-// users that come before the one found so far. Where a set of rules leaves a row open, every part of
-// it does: so the rules of many users are tried together, and a user all of whose rules are in a set
-// that left the row open needs no search.
-ghost use Rattle.std.specs.Prelude.{◌≡◌, true, ◌&&◌, ℕ, ◌+◌, ◌*◌, ◌≤◌, ◌<◌, ltb, get_or};
+//! The first user for whom some association is closed. The rows are gone through once, and in each the
+//! users that come before the one found so far. Where a set of rules leaves a row open, every part of
+//! it does: so the rules of many users are tried together, and a user all of whose rules are in a set
+//! that left the row open needs no search.
+ghost use Rattle.std.specs.Prelude.{◌≡◌, ◌&&◌, ℕ, ◌+◌, ◌*◌, ◌≤◌, ◌<◌, ltb, IfSome};
 ghost use Rattle.std.specs.Int.Bits.{bit_and};
+ghost use Rattle.std.specs.List.{list_all, list_any};
 ghost use Rattle.book.specs.Sets.{has};
-ghost use Rattle.search.specs.Inner.Closing.{Within};
 ghost use Rattle.search.specs.Inner.Search.{covers_in};
 ghost use Rattle.blocked.specs.Inner.Cells.{past_cells};
-ghost use Rattle.blocked.specs.Inner.Pairs.{Ready};
-ghost use Rattle.blocked.specs.Inner.Rows.{AllOpen, AskedUser, DeniedIn, Given, RowGiven, RowOpen};
-ghost use Rattle.blocked.specs.Inner.Users.{covering_rules, DeniedFirst, OwnRules, RowsUpTo};
+ghost use Rattle.blocked.specs.Inner.Rows.{lies_within};
+ghost use Rattle.blocked.specs.Inner.Users.{covering_rules, limit_of, OwnRules};
+ghost use Rattle.blocked.specs.Inner.Tables.{AllOpenBy, AskedBy, DeniedBy, FirstBy, GivenBy, OpenBy, ReadyBy, RowBy};
+ghost use Rattle.blocked.specs.Inner.Tables.{UpToBy};
 
 use crate::cells::{PAST_CELLS, has_cell};
-use crate::searching::{Scope, closed_third};
-use book::sets::{single, word_if};
+use crate::searching::closed_third;
+use crate::tables::{Row, Tables};
+use book::sets::those_below;
 use search::users::covers;
 
-// Nobody; or the first user, and the three cells of its first association.
+/// A user, and the three cells of its first association that stays closed.
 #[derive(Clone, Copy)]
-pub enum Denied {
-    Nobody,
-    User {
-        user: u8,
-        first: usize,
-        second: usize,
-        third: usize,
-    },
-}
-
-// A set of rules that leaves a row open; and where to look first.
-#[derive(Clone, Copy)]
-pub struct Opening {
-    pub rules: u64,
-    pub hint: u8,
-}
-
-// What is known of a row: sets of rules that leave it open, the first third cell that is closed to the
-// user asked about last, and where to look first.
-#[derive(Clone, Copy)]
-pub struct Asking {
-    pub third: usize,
-    pub opened: [u64; 33],
-    pub hint: u8,
-}
-
-// The first user to whom a row is closed, and the rest as above.
-#[derive(Clone, Copy)]
-pub struct InRow {
-    pub user: u8,
-    pub third: usize,
-    pub opened: [u64; 33],
-    pub hint: u8,
-}
-
-// The first user to whom the rows so far are closed, 32 where there is none, and the three cells. Each
-// user has a set of rules that it is tried with, and all users have one: no promise speaks of these,
-// nor of the hint.
-#[derive(Clone, Copy)]
-pub struct Asked {
+pub struct Denial {
     pub user: u8,
     pub first: usize,
     pub second: usize,
     pub third: usize,
+}
+
+// Two arrays and no array of pairs: `settled` and all promises read the open sets alone.
+// The empty set and no `None`: it leaves each row open, so the promises take it like any other.
+/// What is tried in a row: for each user, and at 32 for all together, a set of rules that leaves the
+/// row open, the empty one where none is known; the set that it is tried with; where to look first.
+/// Promises speak of the open sets alone.
+#[derive(Clone, Copy)]
+pub struct Trials {
+    pub opened: [u64; 33],
     pub joined: [u64; 33],
     pub hint: u8,
 }
 
-// The rules that cover user u.
-pub fn covering(covered: [u64; 32], u: u8) -> u64
-    ensures { (q : ℕ) → has result q ≡ (ltb q 32 && covering_rules covered u q) }
+/// The rules that cover user u.
+pub fn covering(covered: &[u64; 32], u: u8) -> u64
+    ensures { (q : ℕ) → has result q ≡ (ltb q 32 && covering_rules covered.now u q) }
 {
-    let mut found = 0u64;
-    for q in 0..32u8 {
-        found = found | word_if(covers(covered, q, u), single(q as usize));
+    those_below(32, |q| covers(covered, q, u))
+}
+
+/// The rules that cover user u, if r is one of them; otherwise none.
+fn rules_for(covered: &[u64; 32], r: u8, u: u8) -> u64
+    ensures { (q : ℕ) → has result q ≡ (covers_in covered.now r u && (ltb q 32 && covering_rules covered.now u q)) }
+{
+    if covers(covered, r, u) {
+        return covering(covered, u);
     }
-    found
+    0
 }
 
-// The rules that cover user u, if r is one of them; otherwise none.
-fn rules_for(covered: [u64; 32], r: u8, u: u8) -> u64
-    ensures { (q : ℕ) → has result q ≡ (covers_in covered r u && (ltb q 32 && covering_rules covered u q)) }
-{
-    word_if(covers(covered, r, u), covering(covered, u))
-}
-
-// The same for each user.
-fn own_rules(covered: [u64; 32], r: u8) -> [u64; 32]
-    ensures { OwnRules r covered result }
+/// The same for each user.
+fn own_rules(covered: &[u64; 32], r: u8) -> [u64; 32]
+    ensures { OwnRules r covered.now result }
 {
     let mut own = [0u64; 32];
-    for u in 0..32usize {
-        own[u] = rules_for(covered, r, u as u8);
+    // By index: the user's number is what is asked about.
+    for u in 0..32u8 {
+        own[usize::from(u)] = rules_for(covered, r, u);
     }
     own
 }
 
-// The rules of all users. No promise: they are only tried.
-fn joint(own: [u64; 32]) -> u64 {
+/// The rules of all users. No promise: they are only tried.
+fn joint(own: &[u64; 32]) -> u64 {
     let mut found = 0u64;
-    for u in 0..32usize {
-        found = found | own[u];
+    for rules in own {
+        found |= *rules;
     }
     found
 }
 
-// Some of all rules, if they leave a row open; otherwise none.
-fn open_under(
-    t: &[u64],
-    met: &[u64],
-    all: u64,
-    rules: u64,
-    scope: Scope,
-    l: usize,
-    m: usize,
-    hint: u8,
-) -> Opening
-    ensures { RowGiven t.now met.now all scope l m
-        → RowOpen t.now (has result.rules) scope l m }
+/// Some of all rules, if they leave a row open.
+fn open_under(tables: &Tables, row: Row, rules: u64, hint: &mut u8) -> Option<u64>
+    ensures { RowBy tables.now row
+        → IfSome result (λ some. OpenBy tables.now row some) }
 {
-    let third = closed_third(t, met, all & rules, scope, l, m, hint);
-    if third.cell < PAST_CELLS {
-        return Opening {
-            rules: 0,
-            hint: third.hint,
-        };
-    }
-    Opening {
-        rules: all & rules,
-        hint: third.hint,
+    let some = tables.all & rules;
+    match closed_third(tables, row, some, hint) {
+        Some(_) => None,
+        None => Some(some),
     }
 }
 
-// A row that is open to the user asked about last.
-fn open_row(opened: [u64; 33], hint: u8) -> Asking
-    ensures { (result.opened ≡ opened) × (result.third ≡ past_cells) }
+// search's `settled` asks the other way round: whether one of the sets is among the rules.
+/// Whether all rules of a set are in one of the sets: it spares a search.
+fn settled(sets: &[u64; 33], rules: u64) -> bool
+    ensures { result ≡ list_any (λ set. lies_within rules set) sets.now }
 {
-    Asking {
-        third: PAST_CELLS,
-        opened,
-        hint,
-    }
+    sets.iter().any(|set| rules | *set == *set)
 }
 
-// What is known of a row, and the user that it was asked for.
-fn in_row(user: u8, asking: Asking) -> InRow
-    ensures { (result.user ≡ user) × (result.third ≡ asking.third) }
+/// Whether those of all rules that are a user's are in a set, for every user.
+fn all_settled(own: &[u64; 32], all: u64, set: u64) -> bool
+    ensures { result ≡ list_all (λ rules. lies_within (bit_and all rules) set) own.now }
 {
-    let opened = asking.opened;
-    InRow {
-        user,
-        third: asking.third,
-        opened,
-        hint: asking.hint,
-    }
+    own.iter().all(|rules| all & *rules | set == set)
 }
 
-// Whether all rules of a set are in one of the sets. Only `true` is promised: it spares a search.
-fn settled(sets: [u64; 33], rules: u64) -> bool
-    ensures { result ≡ true → (i : ℕ) × (i < 33) × Within (has rules) (has (get_or sets i 0)) }
+/// Adds a user's rules that leave a row open to the sets that do: in the set of another user that was
+/// tried with the same rules, if the row stays open; otherwise alone.
+fn add_rules(tables: &Tables, row: Row, u: u8, rules: u64, trials: &mut Trials)
+    ensures { RowBy tables.now row
+        → OpenBy tables.now row rules
+        → AllOpenBy tables.now row trials.old.opened
+        → AllOpenBy tables.now row trials.new.opened }
 {
-    for i in 0..33usize {
-        if rules & !sets[i] == 0 {
-            return true;
-        }
-    }
-    false
-}
-
-// Whether the rules of every user are in a set. Only `true` is promised, as above.
-fn all_settled(own: [u64; 32], all: u64, set: u64) -> bool
-    ensures { result ≡ true → (u : ℕ) → u < 32 → Within (has (bit_and all (get_or own u 0))) (has set) }
-{
-    for u in 0..32usize {
-        if all & own[u] & !set != 0 {
-            return false;
-        }
-    }
-    true
-}
-
-// The sets that leave a row open, with one user's rules: in the set of another user that was tried with
-// the same rules, if the row stays open; otherwise alone.
-fn with_rules(
-    t: &[u64],
-    met: &[u64],
-    all: u64,
-    scope: Scope,
-    l: usize,
-    m: usize,
-    opened: [u64; 33],
-    joined: [u64; 33],
-    at: usize,
-    rules: u64,
-    hint: u8,
-) -> [u64; 33]
-    ensures { RowGiven t.now met.now all scope l m
-        → RowOpen t.now (has rules) scope l m → AllOpen t.now scope l m opened
-        → AllOpen t.now scope l m result }
-{
-    let mut sets = opened;
-    let own = at % 32;
+    let own = usize::from(u % 32);
+    // By index: the sets and those they are tried with go in step, and one of them is changed.
     for d in 0..32usize {
-        if (joined[d] != joined[own]) | (sets[d] == 0) {
+        if (trials.joined[d] != trials.joined[own]) | (trials.opened[d] == 0) {
             continue;
         }
-        let wider = open_under(t, met, all, sets[d] | rules, scope, l, m, hint);
-        if wider.rules != 0 {
-            sets[d] = wider.rules;
-            return sets;
+        if let Some(wider) = open_under(tables, row, trials.opened[d] | rules, &mut trials.hint) {
+            trials.opened[d] = wider;
+            return;
         }
     }
-    sets[own] = rules;
-    sets
+    trials.opened[own] = rules;
 }
 
-// What is known of a row once user u has been asked about, and the first third cell that is closed to
-// it: past all of them where none is.
-fn asked_user(
-    t: &[u64],
-    met: &[u64],
-    all: u64,
-    scope: Scope,
-    l: usize,
-    m: usize,
-    joined: [u64; 33],
-    u: u8,
-    rules: u64,
-    before: Asking,
-) -> Asking
-    ensures { RowGiven t.now met.now all scope l m
-        → AllOpen t.now scope l m before.opened
-        → AskedUser t.now scope l m (has (bit_and all rules)) result.opened result.third }
+/// The first third cell of a row that is closed to user u.
+fn closed_to(tables: &Tables, row: Row, u: u8, rules: u64, trials: &mut Trials) -> Option<usize>
+    ensures { RowBy tables.now row
+        → AllOpenBy tables.now row trials.old.opened
+        → AskedBy tables.now row (bit_and tables.now.all rules) trials.new.opened result }
 {
-    let mut sets = before.opened;
-    let own = all & rules;
-    if settled(sets, own) {
-        return open_row(sets, before.hint);
+    let own = tables.all & rules;
+    if settled(&trials.opened, own) {
+        return None;
     }
-    let at = (u % 32) as usize;
-    let tried = open_under(t, met, all, joined[at], scope, l, m, before.hint);
-    sets[at] = tried.rules;
-    if settled(sets, own) {
-        return open_row(sets, tried.hint);
+    let at = usize::from(u % 32);
+    let open = open_under(tables, row, trials.joined[at], &mut trials.hint);
+    trials.opened[at] = open.unwrap_or(0);
+    if settled(&trials.opened, own) {
+        return None;
     }
-    let closed = closed_third(t, met, own, scope, l, m, tried.hint);
-    if closed.cell < PAST_CELLS {
-        return Asking {
-            third: closed.cell,
-            opened: sets,
-            hint: closed.hint,
-        };
+    match closed_third(tables, row, own, &mut trials.hint) {
+        Some(third) => Some(third),
+        None => {
+            add_rules(tables, row, u, own, trials);
+            None
+        }
     }
-    let wider = with_rules(t, met, all, scope, l, m, sets, joined, at, own, closed.hint);
-    open_row(wider, closed.hint)
 }
 
-// The first user below a limit to whom a row is closed; the limit, if there is none.
+/// The first user below a limit to whom a row is closed.
 fn denied_in(
-    t: &[u64],
-    met: &[u64],
-    all: u64,
-    scope: Scope,
-    own: [u64; 32],
-    l: usize,
-    m: usize,
-    before: Asked,
-) -> InRow
-    ensures { RowGiven t.now met.now all scope l m → before.user ≤ 32
-        → DeniedIn t.now all scope own l m before.user result.user result.third }
+    tables: &Tables,
+    row: Row,
+    own: &[u64; 32],
+    limit: u8,
+    trials: &mut Trials,
+) -> Option<Denial>
+    ensures { RowBy tables.now row
+        → limit ≤ 32 → DeniedBy tables.now row own.now limit result }
 {
-    let joined = before.joined;
-    let every = open_under(t, met, all, joined[32], scope, l, m, before.hint);
-    let mut sets = [0u64; 33];
-    sets[32] = every.rules;
-    let mut asking = open_row(sets, every.hint);
-    if all_settled(own, all, every.rules) {
-        return in_row(before.user, asking);
+    let open = open_under(tables, row, trials.joined[32], &mut trials.hint);
+    let every = open.unwrap_or(0);
+    trials.opened = [0; 33];
+    trials.opened[32] = every;
+    if all_settled(own, tables.all, every) {
+        return None;
     }
-    for u in 0..32u8 {
-        if before.user <= u {
-            break;
-        }
-        let rules = own[(u % 32) as usize];
-        let next = asked_user(t, met, all, scope, l, m, joined, u, rules, asking);
-        asking = next;
-        if asking.third < PAST_CELLS {
-            return in_row(u, asking);
+    for u in 0..limit.min(32) {
+        if let Some(third) = closed_to(tables, row, u, own[usize::from(u)], trials) {
+            return Some(Denial {
+                user: u,
+                first: row.first,
+                second: row.second,
+                third,
+            });
         }
     }
-    in_row(before.user, asking)
+    None
 }
 
-// The sets that the users are tried with in the next row: one under which this row is not open is
-// parted as the row parted it.
-fn parted(own: [u64; 32], joined: [u64; 33], opened: [u64; 33]) -> [u64; 33] {
-    let mut next = joined;
-    if opened[32] != 0 {
-        return next;
+/// Parts the sets that the users are tried with in the next row: one under which this row is not open
+/// is parted as the row parted it.
+fn part(own: &[u64; 32], trials: &mut Trials) {
+    if trials.opened[32] != 0 {
+        return;
     }
-    for i in 0..1024usize {
-        let u = i / 32;
-        let d = i % 32;
-        if (joined[d] != joined[u]) | (opened[d] == 0) {
-            continue;
+    let before = trials.joined;
+    // By index: four arrays go in step, and one of them is changed.
+    for u in 0..32usize {
+        for d in 0..32usize {
+            let open = trials.opened[d];
+            if (before[d] == before[u]) & (open != 0) & (own[u] & !open == 0) {
+                trials.joined[u] = open;
+            }
         }
-        if own[u] & !opened[d] != 0 {
-            continue;
-        }
-        next[u] = opened[d];
     }
-    next
 }
 
-// One row more.
-fn asked_row(
-    t: &[u64],
-    met: &[u64],
-    all: u64,
-    scope: Scope,
-    own: [u64; 32],
-    l: usize,
-    m: usize,
-    before: Asked,
-) -> Asked
-    ensures { RowGiven t.now met.now all scope l m
-        → RowsUpTo t.now all scope own (past_cells * l + m) before
-        → RowsUpTo t.now all scope own (past_cells * l + (m + 1)) result }
+/// The users before whom others are looked for: all, where none is found yet.
+fn limit_of(found: Option<Denial>) -> u8
+    ensures { result ≡ limit_of found }
 {
-    let found = denied_in(t, met, all, scope, own, l, m, before);
-    let tried = before.joined;
-    let opened = found.opened;
-    let joined = parted(own, tried, opened);
-    if found.user < before.user {
-        return Asked {
-            user: found.user,
+    match found {
+        Some(denial) => denial.user,
+        None => 32,
+    }
+}
+
+/// The first user to whom one of some rows, or one row more, is closed.
+fn denied_by_row(
+    tables: &Tables,
+    row: Row,
+    own: &[u64; 32],
+    before: Option<Denial>,
+    trials: &mut Trials,
+) -> Option<Denial>
+    ensures { RowBy tables.now row
+        → UpToBy tables.now own.now (past_cells * row.first + row.second) before
+        → UpToBy tables.now own.now (past_cells * row.first + (row.second + 1)) result }
+{
+    let earlier = denied_in(tables, row, own, limit_of(before), trials);
+    part(own, trials);
+    earlier.or(before)
+}
+
+/// The same for the rows beside first cell l.
+fn denied_beside(
+    tables: &Tables,
+    own: &[u64; 32],
+    l: usize,
+    before: Option<Denial>,
+    trials: &mut Trials,
+) -> Option<Denial>
+    ensures { GivenBy tables.now → l < past_cells
+        → UpToBy tables.now own.now (past_cells * l) before
+        → UpToBy tables.now own.now (past_cells * (l + 1)) result }
+{
+    if !has_cell(&tables.scope.firsts, l) {
+        return before;
+    }
+    let mut found = before;
+    for m in 0..PAST_CELLS {
+        if !has_cell(&tables.scope.seconds, m) {
+            continue;
+        }
+        let row = Row {
             first: l,
             second: m,
-            third: found.third,
-            joined,
-            hint: found.hint,
         };
+        found = denied_by_row(tables, row, own, found, trials);
     }
-    Asked {
-        user: before.user,
-        first: before.first,
-        second: before.second,
-        third: before.third,
-        joined,
-        hint: found.hint,
-    }
+    found
 }
 
-// The rows beside first cell l.
-fn asked_beside(
-    t: &[u64],
-    met: &[u64],
-    all: u64,
-    scope: Scope,
-    own: [u64; 32],
-    l: usize,
-    before: Asked,
-) -> Asked
-    ensures { Given t.now met.now all scope → l < past_cells
-        → RowsUpTo t.now all scope own (past_cells * l) before
-        → RowsUpTo t.now all scope own (past_cells * (l + 1)) result }
+/// The first user, and the first cells for it, by the tables.
+pub fn first_denied(tables: &Tables, r: u8) -> Option<Denial>
+    ensures { ReadyBy tables.now → FirstBy tables.now r result }
 {
-    let firsts = scope.firsts;
-    let seconds = scope.seconds;
-    let mut asked = before;
-    if !has_cell(firsts, l) {
-        return asked;
-    }
-    for m in 0..PAST_CELLS {
-        if !has_cell(seconds, m) {
-            continue;
-        }
-        let next = asked_row(t, met, all, scope, own, l, m, asked);
-        asked = next;
-    }
-    asked
-}
-
-// The first user, and the first cells for it, by the tables.
-pub fn first_denied(
-    t: &[u64],
-    met: &[u64],
-    all: u64,
-    r: u8,
-    scope: Scope,
-    covered: [u64; 32],
-) -> Denied
-    ensures { Ready t.now met.now all scope.seconds scope.thirds covered
-        → DeniedFirst t.now r scope.firsts scope.seconds scope.thirds covered result }
-{
-    let own = own_rules(covered, r);
-    let joined = [joint(own); 33];
-    let mut asked = Asked {
-        user: 32,
-        first: 0,
-        second: 0,
-        third: 0,
-        joined,
+    let own = own_rules(&tables.covered, r);
+    let mut trials = Trials {
+        opened: [0; 33],
+        joined: [joint(&own); 33],
         hint: 0,
     };
+    let mut found: Option<Denial> = None;
     for l in 0..PAST_CELLS {
-        let next = asked_beside(t, met, all, scope, own, l, asked);
-        asked = next;
+        found = denied_beside(tables, &own, l, found, &mut trials);
     }
-    if 32 <= asked.user {
-        return Denied::Nobody;
-    }
-    Denied::User {
-        user: asked.user,
-        first: asked.first,
-        second: asked.second,
-        third: asked.third,
-    }
+    found
 }

@@ -202,7 +202,7 @@ module _ (book : List ℕ) (accepted : BookAccepted book) where
       let last = append_passed (length_tests book ++ checks ++ kinds) contents accepted in
       let before = append_passed (length_tests book ++ checks) kinds last.0 in
       let long = append_passed (length_tests book) checks before.0 in
-      (last_passed 1 0 (length_holds (length book)) long.0, passed_flat (content_tests book) (block_count book) last.1)
+      (last_passed _ (length_holds (length book)) long.0, passed_flat (content_tests book) (block_count book) last.1)
 
   -- "512 times 4 to 36"
   pub accepted_length : (length book ≡ 512 * (4 + rule_count book)) × (rule_count book ≤ 32)

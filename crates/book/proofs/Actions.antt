@@ -5,9 +5,11 @@ use mathlib.Core.Path.{◌≡◌, refl}
 use borrow.Author.Tests.{le-leb, lt-leb}
 use Rattle.book.specs.Rule.{action_of}
 use Rattle.book.specs.Refusals.{between, names_action}
-use Rattle.book.specs.declared.ActionByte.TheVariants.{NamesNone}
+use Rattle.std.specs.Prelude.{Option, None, Some}
+use Rattle.std.specs.Option.{is_some}
+use Rattle.book.specs.declared.Action.{Action}
 
-pub action_other : (n : ℕ) → (n ≡ 1 → ⊥) → (n ≡ 2 → ⊥) → (n ≡ 3 → ⊥) → action_of n ≡ NamesNone
+pub action_other : (n : ℕ) → (n ≡ 1 → ⊥) → (n ≡ 2 → ⊥) → (n ≡ 3 → ⊥) → action_of n ≡ None
 unfolding action_of
 action_other zero p q r = refl
 action_other (suc zero) p q r = absurd (p refl)
@@ -24,3 +26,9 @@ action_number_law (suc (suc zero)) = refl
 action_number_law (suc (suc (suc zero))) = refl
 action_number_law (suc (suc (suc (suc n)))) =
     rw (le-leb 1 (suc (suc (suc (suc n)))) (omega arith), lt-leb (suc (suc (suc (suc n)))) 3 (omega arith))
+
+-- the reader's `is_some`
+pub names_is_some : (named : Option Action) → is_some named ≡ names_action named
+unfolding names_action
+names_is_some None = refl
+names_is_some (Some action) = refl

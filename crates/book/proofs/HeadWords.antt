@@ -1,10 +1,8 @@
 -- Laws of the words of a head: how they are made, and what is read from them. Assumes nothing.
-use Prim.Native.Nat.{ℕ, ◌+◌, ◌-◌, ◌^◌, ◌≤◌, ◌<◌}
-use native.Mathlib.Nat.{eq-or-lt_of_le}
+use Prim.Native.Nat.{ℕ, ◌+◌, ◌-◌, ◌^◌, ◌≤◌, ◌<◌, min}
 use native.Mathlib.Omega.{arith}
 use mathlib.Core.Path.{◌≡◌, refl, sym, ◌∙◌}
-use mathlib.Core.Logic.{⊎_elim}
-use mathlib.Core.Bool.{Bool, true, false, ◌&&◌, ◌||◌, not, cond}
+use mathlib.Core.Bool.{Bool, true, false, ◌&&◌, ◌||◌, not}
 use mathlib.Core.List.{List}
 use lib.ListN.{length, get_or, take, set, replicate, length-set, get_or-replicate}
 use lib.Seq.{get_or-set_same, get_or-set_other}
@@ -14,32 +12,30 @@ use borrow.Author.Tests.{ltb-true, ltb-false, lt-ltb, eqb-true, eqb-false, eq-eq
 use Rattle.book.specs.Lists.{any}
 use Rattle.book.specs.Sets.{has}
 use Rattle.book.specs.Hierarchies.{upward, under, leaf, covers}
-use Rattle.book.specs.Head.{user_count, data_count, is_user, is_data_leaf}
-use Rattle.book.specs.Inner.Words.{subtree, HeadWords, Subtrees, Supports}
-use Rattle.book.specs.Inner.Reading.{count_in, leaf_in}
-use Rattle.book.specs.declared.Hierarchy.{Hierarchy}
-use Rattle.book.specs.declared.Hierarchy.TheVariants.{Users, Data}
+use Rattle.book.specs.Inner.Words.{subtree}
 use Rattle.book.proofs.Lists.{and_left, and_second, and_end, and_false, and_assoc, or_end, or_true, same_test, eqb_sym}
 use Rattle.book.proofs.Lists.{any_take}
 use Rattle.book.proofs.Members.{has_zero, has_or, has_and, has_minus}
 use Rattle.book.proofs.Hierarchies.{under_above, child, adds, adds_top, adds_down, adds_own, adds_end}
 
 -- the numbers below 64 and below n, where the code takes the smaller one
-pub capped : (n m : ℕ) → m ≡ cond (ltb n 64) n 64 → (j : ℕ) → ltb j m ≡ (ltb j 64 && ltb j n)
+pub capped : (n m : ℕ) → m ≡ min n 64 → (j : ℕ) → ltb j m ≡ (ltb j 64 && ltb j n)
 capped n m e j = go (ltb n 64) refl
   where
     go : (b : Bool) → ltb n 64 ≡ b → ltb j m ≡ (ltb j 64 && ltb j n)
     go true t =
         let l : n < 64 = ltb-true n 64 t in
-        rw (e, t) (sym (and_second (ltb j 64) (ltb j n) (λ q. lt-ltb j 64 (omega (arith, ltb-true j n q)))))
+        let q : m ≡ n = omega (arith, e) in
+        rw q (sym (and_second (ltb j 64) (ltb j n) (λ q. lt-ltb j 64 (omega (arith, ltb-true j n q)))))
     go false t =
         let l : 64 ≤ n = ltb-false n 64 t in
-        rw (e, t)
+        let q : m ≡ 64 = omega (arith, e) in
+        rw q
         (same_test (ltb j 64) (ltb j 64 && ltb j n)
         (λ q. let s : j < 64 = ltb-true j 64 q in rw (q, lt-ltb j n (omega arith)))
         (λ q. and_left (ltb j 64) (ltb j n) q))
 
-pub below_capped : (n m : ℕ) → m ≡ cond (ltb n 64) n 64 → (j : ℕ) → j < 64 → j < n → j < m
+pub below_capped : (n m : ℕ) → m ≡ min n 64 → (j : ℕ) → j < 64 → j < n → j < m
 below_capped n m e j s l = ltb-true j m (capped n m e j ∙ rw (lt-ltb j 64 s, lt-ltb j n l))
 
 -- What is under each category
@@ -91,7 +87,7 @@ spread false a false u = refl
 
 -- i and its parent p get what i has
 module _ (parent : ℕ → ℕ) (n i p one : ℕ) (words : List ℕ) (old : Gathered parent n words (i + 1))
-    (p_at : p ≡ cond (ltb (parent i) i) (parent i) i)
+    (p_at : p ≡ min (parent i) i)
     (one_at : (j : ℕ) → has one j ≡ (ltb j 64 && eqb j i)) where
   abbrev own : ℕ
   own = bit_or (get_or words i 0) one
@@ -107,18 +103,17 @@ module _ (parent : ℕ → ℕ) (n i p one : ℕ) (words : List ℕ) (old : Gath
   takes_at c = go (ltb (parent i) i) refl
     where
       go : (b : Bool) → ltb (parent i) i ≡ b → (eqb c i || (ltb (parent i) i && eqb c (parent i))) ≡ (eqb c i || eqb c p)
-      go true t = rw (p_at, t)
-      go false t = rw (p_at, t) (or_same (eqb c i))
+      go true t =
+          let l = ltb-true (parent i) i t in
+          let q : p ≡ parent i = omega (arith, p_at) in
+          rw (q, t)
+      go false t =
+          let l = ltb-false (parent i) i t in
+          let q : p ≡ i = omega (arith, p_at) in
+          rw (q, t) (or_same (eqb c i))
 
   low : p ≤ i
-  low = go (ltb (parent i) i) refl
-    where
-      go : (b : Bool) → ltb (parent i) i ≡ b → p ≤ i
-      go true t =
-          let l : parent i < i = ltb-true (parent i) i t in
-          let e : p ≡ parent i = p_at ∙ rw t in
-          omega arith
-      go false t = let e : p ≡ i = p_at ∙ rw t in omega arith
+  low = omega (arith, p_at)
 
   own_at : (j : ℕ) → has own j ≡ (ltb j n && under parent i j)
   own_at j =
@@ -207,135 +202,10 @@ module _ (parent : ℕ → ℕ) (n i p one : ℕ) (words : List ℕ) (old : Gath
 pub gathered_end :
     (parent : ℕ → ℕ) (count n : ℕ) (words : List ℕ)
     → Gathered parent n words 0
-    → n ≡ cond (ltb count 64) count 64
+    → n ≡ min count 64
     → (c : ℕ) → c < 64 → (j : ℕ) → has (get_or words c 0) j ≡ (ltb j 64 && subtree count parent c j)
 gathered_end parent count n words g e c s j =
     g.at c j s ∙ rw (adds_end parent c j, capped count n e j) (and_assoc (ltb j 64) (ltb j count) (under parent c j))
-
--- The table
-
--- the first k of each of three parts are copied
-pub record Copied (cats operations groups t : List ℕ) (k : ℕ) : Type 0 where
-  pub bound : k ≤ 64
-  pub size : length t ≡ 196
-  pub first : (j : ℕ) → j < k → get_or t j 0 ≡ get_or cats j 0
-  pub second : (j : ℕ) → j < k → get_or t (64 + j) 0 ≡ get_or operations j 0
-  pub third : (j : ℕ) → j < k → get_or t (128 + j) 0 ≡ get_or groups j 0
-
-pub copied_none : (cats operations groups t : List ℕ) → length t ≡ 196 → Copied cats operations groups t 0
-copied_none cats operations groups t e =
-    record {
-      bound = omega arith;
-      size = e;
-      first = λ j l. absurd (omega arith);
-      second = λ j l. absurd (omega arith);
-      third = λ j l. absurd (omega arith);
-    }
-
-pub copied_more :
-    (cats operations groups t : List ℕ) (k : ℕ)
-    → Copied cats operations groups t k
-    → k < 64
-    → Copied cats operations groups
-    (set (set (set t k (get_or cats k 0)) (64 + k) (get_or operations k 0)) (128 + k) (get_or groups k 0)) (k + 1)
-copied_more cats operations groups t k old l =
-    let x = get_or cats k 0 in
-    let y = get_or operations k 0 in
-    let z = get_or groups k 0 in
-    let one = set t k x in
-    let two = set one (64 + k) y in
-    let s : length t ≡ 196 = old.size in
-    let s1 : length one ≡ 196 = length-set t k x ∙ s in
-    let s2 : length two ≡ 196 = length-set one (64 + k) y ∙ s1 in
-    record {
-      bound = omega arith;
-      size = length-set two (128 + k) z ∙ s2;
-      first =
-          λ j m.
-          rw (get_or-set_other two (128 + k) j z 0 (λ e. omega arith), get_or-set_other one (64 + k) j y 0 (λ e. omega arith))
-          (⊎_elim
-          (λ (q : j ≡ k). rw (q, get_or-set_same t k x 0 (omega arith)))
-          (λ (q : j < k). rw (get_or-set_other t k j x 0 (λ e. omega arith)) (old.first j q))
-          (eq-or-lt_of_le (le j m)));
-      second =
-          λ j m.
-          rw (get_or-set_other two (128 + k) (64 + j) z 0 (λ e. omega arith))
-          (⊎_elim
-          (λ (q : j ≡ k). rw (q, get_or-set_same one (64 + k) y 0 (omega arith)))
-          (λ (q : j < k).
-          rw (get_or-set_other one (64 + k) (64 + j) y 0 (λ e. omega arith), get_or-set_other t k (64 + j) x 0 (λ e. omega arith))
-          (old.second j q))
-          (eq-or-lt_of_le (le j m)));
-      third =
-          λ j m.
-          ⊎_elim
-          (λ (q : j ≡ k). rw (q, get_or-set_same two (128 + k) z 0 (omega arith)))
-          (λ (q : j < k).
-          rw (
-            get_or-set_other two (128 + k) (128 + j) z 0 (λ e. omega arith),
-            get_or-set_other one (64 + k) (128 + j) y 0 (λ e. omega arith),
-            get_or-set_other t k (128 + j) x 0 (λ e. omega arith),
-          ) (old.third j q))
-          (eq-or-lt_of_le (le j m));
-    }
-  where
-    le : (j : ℕ) → j < k + 1 → j ≤ k
-    le j m = omega arith
-
-module _ (head cats operations groups t : List ℕ) (leaves people n m : ℕ) (old : Copied cats operations groups t 64) where
-  abbrev one : List ℕ
-  one = set t 192 leaves
-
-  abbrev two : List ℕ
-  two = set one 193 people
-
-  abbrev three : List ℕ
-  three = set two 194 n
-
-  lower : (j : ℕ) → j < 192 → get_or (set three 195 m) j 0 ≡ get_or t j 0
-  lower j l =
-      get_or-set_other three 195 j m 0 (λ e. omega arith)
-      ∙ get_or-set_other two 194 j n 0 (λ e. omega arith)
-      ∙ get_or-set_other one 193 j people 0 (λ e. omega arith)
-      ∙ get_or-set_other t 192 j leaves 0 (λ e. omega arith)
-
-  pub words_made :
-      Subtrees Data head cats
-      → Supports head operations
-      → Subtrees Users head groups
-      → ((d : ℕ) → has leaves d ≡ (ltb d 64 && is_data_leaf head d))
-      → ((u : ℕ) → has people u ≡ (ltb u 64 && is_user head u))
-      → n ≡ data_count head
-      → m ≡ user_count head
-      → HeadWords head (set three 195 m)
-  words_made a b c d e f g =
-      let s : length t ≡ 196 = old.size in
-      let s1 : length one ≡ 196 = length-set t 192 leaves ∙ s in
-      let s2 : length two ≡ 196 = length-set one 193 people ∙ s1 in
-      let s3 : length three ≡ 196 = length-set two 194 n ∙ s2 in
-      record {
-        categories = λ x l i. rw (lower x (omega arith), old.first x l) (a x l i);
-        support = λ x l k. rw (lower (64 + x) (omega arith), old.second x l) (b x l k);
-        groups = λ x l i. rw (lower (128 + x) (omega arith), old.third x l) (c x l i);
-        leaves =
-            λ i.
-            rw (
-              get_or-set_other three 195 192 m 0 (λ q. omega arith),
-              get_or-set_other two 194 192 n 0 (λ q. omega arith),
-              get_or-set_other one 193 192 people 0 (λ q. omega arith),
-              get_or-set_same t 192 leaves 0 (omega arith),
-            ) (d i);
-        users =
-            λ i.
-            rw (
-              get_or-set_other three 195 193 m 0 (λ q. omega arith),
-              get_or-set_other two 194 193 n 0 (λ q. omega arith),
-              get_or-set_same one 193 people 0 (omega arith),
-            ) (e i);
-        category_count =
-            get_or-set_other three 195 194 m 0 (λ q. omega arith) ∙ get_or-set_same two 194 n 0 (omega arith) ∙ f;
-        group_count = get_or-set_same three 195 m 0 (omega arith) ∙ g;
-      }
 
 -- What is read
 
@@ -395,7 +265,7 @@ covered_at leafAt count parent c excluded leaves inside outside low fi fo a b d 
     (covered_at_bits (ltb i 64) (leafAt i) (ltb i count) (under parent c i) (any (λ e. under parent e i) excluded)
     (λ h. lt-ltb i count (low i h)))
 
-pub leaf_known : (which : Hierarchy) (head : List ℕ) (i : ℕ) → leaf_in which head i ≡ true → i < count_in which head
-unfolding is_user is_data_leaf leaf
-leaf_known Users head i h = ltb-true i (user_count head) (and_left (ltb i (user_count head)) _ h)
-leaf_known Data head i h = ltb-true i (data_count head) (and_left (ltb i (data_count head)) _ h)
+-- a leaf is one of the categories
+pub leaf_known : (count : ℕ) (parent : ℕ → ℕ) (i : ℕ) → leaf count parent i ≡ true → i < count
+unfolding leaf
+leaf_known count parent i h = ltb-true i count (and_left (ltb i count) _ h)

@@ -8,6 +8,8 @@ use native.Mathlib.Omega.{arith}
 use mathlib.Core.Path.{◌≡◌, refl, sym, ◌∙◌}
 use mathlib.Core.Bool.{Bool, true, false, ◌&&◌, ◌||◌, not, cond}
 use mathlib.Core.List.{List}
+use Rattle.std.specs.Prelude.{◌≢◌}
+use Rattle.std.proofs.lemmas.Nat.{le_or_l, le_or_r}
 use lib.ListN.{length, get_or, set}
 use lib.Seq.{get_or-set_same, get_or-set_other}
 use lib.Dec.{eqb, ltb, eqb-suc-suc, eqb-zero-suc, eqb-suc-zero, leb-suc-suc}
@@ -15,8 +17,8 @@ use lib.Pow.{pow_mono, pow_pos, shl_exact}
 use lib.Bits.{bit_and, bit_or, and_shr, or_shr, and_mod, or_mod, and_le_l, or_zero_r, or_comm, and_comm}
 use borrow.Author.Tests.{ltb-true, ltb-false, eq-eqb, ne_eqb, eqb-true, eqb-false, lt-ltb, le-ltb, not-true}
 use Rattle.book.specs.Lists.{all, up_to}
-use Rattle.book.specs.Sets.{has, less}
-use Rattle.book.proofs.Lists.{same_test, and_first, and_second, and_never, and_end, and_false, ltb_more}
+use Rattle.book.specs.Sets.{has, less, WordOf}
+use Rattle.book.proofs.Lists.{and_true, and_left, and_right, same_test, and_first, and_second, and_never, and_end, and_false, or_end, or_true, ltb_more}
 use Rattle.book.proofs.Lists.{all_at, at_all}
 
 -- Bits
@@ -190,6 +192,13 @@ single_out n i j h =
     rw has_zero
     (sym (and_never (ltb j n) (eqb j i) (λ e. ne_eqb j i (λ d. omega (arith, ltb-true j n e)))))
 
+-- i joins a set, as `with` has it: i is a member, and others are as they were
+pub with_same : (set s i : ℕ) → WordOf (λ j. eqb j i) s → i < 64 → has (bit_or set s) i ≡ true
+with_same set s i w h = rw (has_or set s i, w i, lt-ltb i 64 h, eq-eqb i i refl) (or_true (has set i))
+
+pub with_other : (set s i : ℕ) → WordOf (λ j. eqb j i) s → (k : ℕ) → k ≢ i → has (bit_or set s) k ≡ has set k
+with_other set s i w k d = rw (has_or set s k, w k, ne_eqb k i d, and_false) (or_end (has set k))
+
 pub below_in : (n k j : ℕ) → k ≤ n → has (2 ^ k - 1) j ≡ (ltb j n && ltb j k)
 below_in n k j h =
     rw has_below (sym (and_second (ltb j n) (ltb j k) (λ e. lt-ltb j n (omega (arith, ltb-true j k e)))))
@@ -280,6 +289,11 @@ added_here words word mask table k h m old j = go (eqb j k) refl
         let n = eqb-false j k e in
         rw (get_or-set_other table k j (bit_or (get_or words k 0) word) 0 n, ltb_more j k n) (old j)
 
+-- word k is not joined yet
+pub added_yet : (words : List ℕ) (word mask : ℕ) (table : List ℕ) (k : ℕ) → Added words word mask table k → get_or table k 0 ≡ get_or words k 0
+added_yet words word mask table k old =
+    old k ∙ rw (le-ltb k k (omega arith)) (or_zero_r (get_or words k 0))
+
 pub added_not : (words : List ℕ) (word mask : ℕ) (table : List ℕ) (k : ℕ) → has mask k ≡ false
     → Added words word mask table k → Added words word mask table (k + 1)
 added_not words word mask table k m old j = go (eqb j k) refl
@@ -288,3 +302,17 @@ added_not words word mask table k m old j = go (eqb j k) refl
         (t : Bool) → eqb j k ≡ t → get_or table j 0 ≡ bit_or (get_or words j 0) (cond (ltb j (k + 1) && has mask j) word 0)
     go true e = old j ∙ rw (eqb-true j k e, m, and_false, and_false)
     go false e = rw (ltb_more j k (eqb-false j k e)) (old j)
+
+-- Unions
+
+-- nothing is in a union where nothing is in either word
+pub none_seen : (a b : ℕ) → eqb (bit_or a b) 0 ≡ (eqb a 0 && eqb b 0)
+none_seen a b =
+    same_test (eqb (bit_or a b) 0) (eqb a 0 && eqb b 0)
+    (λ h.
+    let e = eqb-true (bit_or a b) 0 h in
+    and_true (eqb a 0) (eqb b 0)
+    (eq-eqb a 0 (omega (arith, le_or_l a b)))
+    (eq-eqb b 0 (omega (arith, le_or_r a b))))
+    (λ h.
+    rw (eqb-true a 0 (and_left (eqb a 0) (eqb b 0) h), eqb-true b 0 (and_right (eqb a 0) (eqb b 0) h)) refl)

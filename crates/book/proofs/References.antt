@@ -12,11 +12,12 @@ use Rattle.book.specs.Sets.{has}
 use Rattle.book.specs.Hierarchies.{leaf, under, proper_descendant}
 use Rattle.book.specs.Head.{data_count, is_data_leaf, support_of, supports}
 use Rattle.book.specs.Rule.{reference_count, restriction_count, data_category, restriction_mask, in_leaf_set}
-use Rattle.book.specs.Refusals.{reference_holds, leaf_sets_apart, references_apart, mask_allows}
+use Rattle.std.specs.Prelude.{Option, None}
+use Rattle.book.specs.Refusals.{user_numbers_hold, numbers_hold, reference_holds, leaf_sets_apart, references_apart, mask_allows}
 use Rattle.book.specs.Refusals.{mask_holds, masks_hold}
 use Rattle.book.specs.Inner.Words.{subtree}
-use Rattle.book.specs.Inner.Testing.{references_hold, present_leaf}
-use Rattle.book.proofs.Lists.{all_three, and_left, and_false, or_rest, or_otherwise, same_test, all_at, at_all}
+use Rattle.book.specs.Inner.Testing.{NumbersRead, absent_or_holds, references_hold, present_leaf}
+use Rattle.book.proofs.Lists.{all_three, and_true, and_left, and_right, or_neither, and_false, or_rest, or_otherwise, same_test, all_at, at_all}
 use Rattle.book.proofs.Lists.{all_same}
 use Rattle.book.proofs.Members.{has_zero, has_single, has_minus, disjoint_test}
 
@@ -67,6 +68,42 @@ references_three head rule a b c few p q r =
   where
     f : ℕ → Bool
     f i = leb (reference_count rule) i || reference_holds head rule i
+
+-- a reference that is there and does not hold
+pub unread : (head rule : List ℕ) (i : ℕ) → absent_or_holds head rule i ≡ false → numbers_hold head rule ≡ false
+unfolding numbers_hold
+unread head rule i h = go (numbers_hold head rule) refl
+  where
+    go : (b : Bool) → numbers_hold head rule ≡ b → numbers_hold head rule ≡ false
+    go false e = e
+    go true e =
+        let n = or_neither (leb (reference_count rule) i) (reference_holds head rule i) h in
+        let held =
+        all_at (reference_holds head rule) (reference_count rule)
+        (and_right (user_numbers_hold head rule) (references_hold head rule) e) i
+        (leb-false (reference_count rule) i n.0) in
+        e ∙ sym held ∙ n.1
+
+pub unread_users : (head rule : List ℕ) → user_numbers_hold head rule ≡ false → numbers_hold head rule ≡ false
+unfolding numbers_hold
+unread_users head rule h = rw h
+
+pub none_read :
+    (head rule : List ℕ) (r : Option (List ℕ)) → r ≡ None → numbers_hold head rule ≡ false → NumbersRead head rule r
+none_read head rule r e h = rw e h
+
+pub all_read :
+    (head rule : List ℕ)
+    → reference_count rule ≤ 3
+    → user_numbers_hold head rule ≡ true
+    → absent_or_holds head rule 0 ≡ true
+    → absent_or_holds head rule 1 ≡ true
+    → absent_or_holds head rule 2 ≡ true
+    → numbers_hold head rule ≡ true
+unfolding numbers_hold
+all_read head rule few u a b c =
+    and_true (user_numbers_hold head rule) (references_hold head rule) u
+    (sym (references_three head rule true true true few (sym a) (sym b) (sym c)))
 
 -- a category that a reference names is there
 pub category_known :

@@ -12,7 +12,8 @@ use Rattle.book.specs.Blocks.{check_sum, check_holds}
 use Rattle.book.specs.Tests.{first_failing, refused_or, answered}
 use Rattle.book.specs.Refusals.{seal_tests}
 use Rattle.book.specs.Answers.{with_check, seal_bytes, seal_answer}
-use Rattle.book.specs.declared.Sealed.TheVariants.{Done, Refused}
+use Rattle.std.specs.Prelude.{Ok, Err}
+use Rattle.book.specs.declared.refusal.Refusal.TheVariants.{BlockLength}
 
 -- two writes at the end of a block
 pub set_two :
@@ -32,7 +33,7 @@ unsealed block n = rw (ne_eqb (length block) 512 n)
 pub unsealed_answer :
     (block : List ℕ)
     → (length block ≡ 512 → ⊥)
-    → seal_answer block ≡ Refused (record { number = 10; place = 0 })
+    → seal_answer block ≡ Err BlockLength
 unfolding seal_answer answered refused_or seal_tests first_failing
 unsealed_answer block n = rw (ne_eqb (length block) 512 n)
 
@@ -41,7 +42,7 @@ module _ (block : List ℕ) (full : length block ≡ 512) where
   unfolding seal_bytes with_check answered refused_or seal_tests first_failing
   sealed = rw (eq-eqb (length block) 512 full)
 
-  pub sealed_answer : seal_answer block ≡ Done
+  pub sealed_answer : seal_answer block ≡ Ok tt
   unfolding seal_answer answered refused_or seal_tests first_failing
   sealed_answer = rw (eq-eqb (length block) 512 full)
 

@@ -1,5 +1,5 @@
 -- Laws of support: the recursion to the parent, and the words of leaves by operation. Assumes nothing.
-use Prim.Native.Nat.{ℕ, ◌+◌, ◌-◌, ◌^◌, ◌≤◌, ◌<◌}
+use Prim.Native.Nat.{ℕ, ◌+◌, ◌-◌, ◌^◌, ◌≤◌, ◌<◌, min}
 use native.Mathlib.Omega.{arith}
 use mathlib.Core.Path.{◌≡◌, refl, ◌∙◌}
 use mathlib.Core.Bool.{Bool, true, false, ◌&&◌, ◌||◌, cond}
@@ -11,7 +11,6 @@ use borrow.Author.Tests.{ltb-true, le-ltb, lt-ltb, eqb-true, eqb-false}
 use Rattle.book.specs.Sets.{has}
 use Rattle.book.specs.Head.{data_count, data_parent, own_operations, withdrawn_operations, is_data_leaf, support_of, supports}
 use Rattle.book.specs.Inner.Reading.{SetAdded, Supporting}
-use Rattle.book.specs.declared.Hierarchy.TheVariants.{Data}
 use Rattle.book.proofs.Lists.{and_false, or_end, and_where, ltb_more}
 use Rattle.book.proofs.Members.{has_zero, has_or, has_cond, minus_less, none_less, none_or}
 use Rattle.book.proofs.Hierarchies.{support_up}
@@ -129,15 +128,16 @@ pub supported_end :
     → Supported head i words
     → i ≡ m
     → n ≡ data_count head
-    → m ≡ cond (ltb n 64) n 64
+    → m ≡ min n 64
     → Supporting head words
+unfolding is_data_leaf
 supported_end head n m i words old e count cap k l d =
     old.at k d l
     ∙ and_where (ltb d 64) (is_data_leaf head d && (ltb d i && supports head d k)) (is_data_leaf head d && supports head d k)
     (λ t.
     and_where (is_data_leaf head d) (ltb d i && supports head d k) (supports head d k)
     (λ h.
-    let low : d < data_count head = leaf_known Data head d h in
+    let low : d < data_count head = leaf_known (data_count head) (data_parent head) d h in
     let small : d < 64 = ltb-true d 64 t in
     let under_m : d < m = below_capped n m cap d small (omega arith) in
     rw (lt-ltb d i (omega arith))))

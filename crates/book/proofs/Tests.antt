@@ -1,28 +1,26 @@
 -- The tests of the book check: what a test says where it is passed, the tests of each block, and those of a pass. Assumes nothing.
 use Prim.Native.Nat.{ℕ, zero, suc, ◌+◌, ◌/◌, ◌%◌, ◌≤◌, ◌<◌}
 use native.Mathlib.Omega.{arith}
-use mathlib.Core.Path.{◌≡◌, refl, sym, ap, ◌∙◌}
+use mathlib.Core.Path.{◌≡◌, refl, ap}
 use mathlib.Core.Bool.{Bool, true, false, ◌&&◌, ◌||◌, not}
-use mathlib.Core.List.{List, [], ◌∷◌}
-use lib.ListN.{get_or}
+use mathlib.Core.List.{List}
 use lib.Dec.{eqb, ltb, leb}
 use borrow.Author.Tests.{leb-true, eqb-true, not-false}
 use Rattle.book.specs.Lists.{all, up_to}
 use Rattle.book.specs.Sets.{has}
 use Rattle.book.specs.Head.{user_count, data_count, category_start, data_parent, column_count, function_count, is_data_leaf}
 use Rattle.book.specs.Rule.{reference_count, excluded_user_count, restriction_count, exclusion_count}
-use Rattle.book.specs.Blocks.{block_at, head_of, check_holds}
+use Rattle.book.specs.Blocks.{block_at, head_of}
 use Rattle.book.specs.Refusals.{between, zeros, length_holds, kind_holds, users_counted, data_counted}
 use Rattle.book.specs.Refusals.{columns_counted, functions_counted, rule_counts, rule_counted, rule_zeros, users_ordered}
 use Rattle.book.specs.Refusals.{data_ordered, label_holds, labels_hold, functions_hold, numbers_hold, references_apart}
 use Rattle.book.specs.Refusals.{masks_hold, users_block_tests, data_block_tests, columns_block_tests}
-use Rattle.book.specs.Refusals.{functions_block_tests, rule_block_tests, block_tests, check_tests, kind_tests}
+use Rattle.book.specs.Refusals.{functions_block_tests, rule_block_tests, block_tests}
 use Rattle.book.specs.Refusals.{content_tests, user_numbers_hold}
-use Rattle.book.specs.Tests.{Passes, first_failing}
-use Rattle.book.specs.Inner.Testing.{CountsHold, ContentsAt, OutcomeAt, pass_tests, references_hold}
-use Rattle.book.specs.declared.Tested.{Tested}
-use Rattle.book.specs.declared.checking.Pass.{Pass}
-use Rattle.book.specs.declared.checking.Pass.TheVariants.{Checks, Kinds, Contents}
+use Rattle.book.specs.Tests.{Outcome, Passes, first_failing}
+use Rattle.book.specs.Inner.Words.{HeadWords}
+use Rattle.book.specs.Inner.Testing.{ContentsAt, CountsHold, references_hold}
+use Rattle.book.specs.declared.words.Words.{Words}
 use Rattle.book.proofs.Lists.{and_left, and_right, and_both, all_at}
 use Rattle.book.proofs.Hierarchies.{leaf_in_word}
 use Rattle.book.proofs.Answers.{first_passed, two_passed}
@@ -144,20 +142,20 @@ rule_tests_law head block (suc (suc (suc (suc r)))) l =
 module _ (head : List ℕ) where
   pub users_passed : Passes (users_block_tests head) → (users_counted head ≡ true) × (users_ordered head ≡ true)
   unfolding users_block_tests
-  users_passed h = two_passed 4 5 0 0 (users_counted head) (users_ordered head) h
+  users_passed h = two_passed _ _ (users_counted head) (users_ordered head) h
 
   pub data_passed : Passes (data_block_tests head) → (data_counted head ≡ true) × (data_ordered head ≡ true)
   unfolding data_block_tests
-  data_passed h = two_passed 4 5 1 1 (data_counted head) (data_ordered head) h
+  data_passed h = two_passed _ _ (data_counted head) (data_ordered head) h
 
   pub columns_passed : Passes (columns_block_tests head) → (columns_counted head ≡ true) × (labels_hold head ≡ true)
   unfolding columns_block_tests
-  columns_passed h = two_passed 4 6 2 2 (columns_counted head) (labels_hold head) h
+  columns_passed h = two_passed _ _ (columns_counted head) (labels_hold head) h
 
   pub functions_passed :
       Passes (functions_block_tests head) → (functions_counted head ≡ true) × (functions_hold head ≡ true)
   unfolding functions_block_tests
-  functions_passed h = two_passed 4 6 3 3 (functions_counted head) (functions_hold head) h
+  functions_passed h = two_passed _ _ (functions_counted head) (functions_hold head) h
 
   pub rule_passed :
       (rule : List ℕ) (i : ℕ)
@@ -168,15 +166,15 @@ module _ (head : List ℕ) where
       × (masks_hold head rule ≡ true)
   unfolding rule_block_tests
   rule_passed rule i h =
-      let counted = first_passed _ _ _ _ h in
-      let numbers = first_passed _ _ _ _ counted.1 in
-      let rest = two_passed _ _ _ _ _ _ numbers.1 in
+      let counted = first_passed _ _ _ h in
+      let numbers = first_passed _ _ _ counted.1 in
+      let rest = two_passed _ _ _ _ numbers.1 in
       (counted.0, numbers.0, rest.0, rest.1)
 
 -- The tests of a pass
 
 -- blocks 0 and 1 have passed where a later block is read
-counts_hold :
+pub counts_hold :
     (book : List ℕ) (i : ℕ) → ((j : ℕ) → j < i → Passes (content_tests book j)) → 2 ≤ i → CountsHold (head_of book)
 unfolding content_tests block_tests
 counts_hold book i h l =
@@ -184,34 +182,13 @@ counts_hold book i h l =
     let d = data_bound (head_of book) (data_passed (head_of book) (h 1 (omega arith))).0 in
     record { users = omega (arith, u.1); categories = d.1 }
 
-module _ (book : List ℕ) (pass : Pass) (i : ℕ) (block : List ℕ) (there : block ≡ block_at book i) where
-  pub checks_outcome :
-      (passed : Bool) (r : Tested)
-      → pass ≡ Checks
-      → passed ≡ check_holds block
-      → r ≡ first_failing ((2, i, passed) ∷ [])
-      → r ≡ first_failing (pass_tests pass book i)
-  unfolding pass_tests check_tests
-  checks_outcome passed r p e a = rw (p, ← there, ← e) a
-
-  pub kinds_outcome :
-      (kind : ℕ) (passed : Bool) (r : Tested)
-      → pass ≡ Kinds
-      → kind ≡ get_or block 0 0
-      → passed ≡ kind_holds i kind
-      → r ≡ first_failing ((3, i, passed) ∷ [])
-      → r ≡ first_failing (pass_tests pass book i)
-  unfolding pass_tests kind_tests
-  kinds_outcome kind passed r p k e a = rw (p, ← there, ← k, ← e) a
-
-  pub contents_outcome :
-      (head t : List ℕ) (r : Tested)
-      → pass ≡ Contents
-      → head ≡ head_of book
-      → ContentsAt head t block i r
-      → OutcomeAt pass book t i r
-  unfolding pass_tests content_tests
-  contents_outcome head t r p e a w h =
-      let below : (j : ℕ) → j < i → Passes (content_tests book j) =
-      λ j l. ap (λ (q : Pass). first_failing (pass_tests q book j)) (sym p) ∙ h j l in
-      rw (p, ← there, ← e) (a (rw e w) (λ l. rw e (counts_hold book i below l)))
+-- the outcome for the contents of a block, once the lower blocks have passed
+pub contents_known :
+    (book : List ℕ) (words : Words)
+    → HeadWords (head_of book) words
+    → (i : ℕ) (r : Outcome)
+    → ((j : ℕ) → j < i → Passes (content_tests book j))
+    → ContentsAt (head_of book) words (block_at book i) i r
+    → r ≡ first_failing (content_tests book i)
+unfolding content_tests
+contents_known book words w i r low at = at.told w (counts_hold book i low)

@@ -24,8 +24,8 @@ use Rattle.book.specs.Tests.{first_failing, refused_or, answered}
 use Rattle.book.specs.Answers.{check_answer, with_check, seal_bytes}
 use Rattle.book.specs.Streets.{reader, addresses, labelled, truncation, truncated, streets}
 use Rattle.book.specs.Shop.{padded, block, users, categories, columns, functions, rule, rule0, rule1, rule2, shop}
-use Rattle.book.specs.declared.Checked.{Checked}
-use Rattle.book.specs.declared.Checked.TheVariants.{Accepted}
+use Rattle.std.specs.Prelude.{Result, Ok}
+use Rattle.book.specs.declared.refusal.Refusal.{Refusal}
 use Rattle.book.proofs.CheckLaws.{accepted_passes}
 
 -- "* A block of kind 4, all else zero, has check 4; a block with only byte 509 set, to 255, has 64,529."
@@ -37,7 +37,7 @@ unfolding check_cases check_sum weighted
 starred_checks = refl
 
 -- the small shop, and the book of streets
-accepted_books : (◌≡◌ {A = Checked} (check_answer shop) (Accepted 3)) × (◌≡◌ {A = Checked} (check_answer streets) (Accepted 1))
+accepted_books : (◌≡◌ {A = Result ℕ Refusal} (check_answer shop) (Ok 3)) × (◌≡◌ {A = Result ℕ Refusal} (check_answer streets) (Ok 1))
 unfolding all any up_to from has upward_in upward under leaf covers proper_descendant support_along support parent_holds
     less category_start withdrawn_operations is_user is_data_leaf support_of supports action_of in_leaf_set weighted
     check_sum check_holds between zeros length_holds kind_holds users_counted data_counted columns_counted functions_counted
@@ -49,10 +49,10 @@ unfolding all any up_to from has upward_in upward under leaf covers proper_desce
     shop reader addresses labelled truncation truncated streets
 accepted_books = (refl, refl)
 
-pub shop_accepted : ◌≡◌ {A = Checked} (check_answer shop) (Accepted 3)
+pub shop_accepted : ◌≡◌ {A = Result ℕ Refusal} (check_answer shop) (Ok 3)
 shop_accepted = accepted_books.0
 
-pub streets_accepted : ◌≡◌ {A = Checked} (check_answer streets) (Accepted 1)
+pub streets_accepted : ◌≡◌ {A = Result ℕ Refusal} (check_answer streets) (Ok 1)
 streets_accepted = accepted_books.1
 
 -- document 02, N9: Address supports truncation, Street does not, House does again; Lane does not, City does

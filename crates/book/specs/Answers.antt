@@ -1,21 +1,18 @@
 -- What Book check and Seal answer, whole, and a lent block's bytes on leaving. Document 01, "The calls".
 -- Assumes nothing.
-use Rattle.std.specs.Prelude.{◌/◌, ◌%◌, [], ◌∷◌, ◌++◌, take}
+use Rattle.std.specs.Prelude.{◌/◌, ◌%◌, [], ◌∷◌, ◌++◌, take, Result, Ok, Err, ℕ}
 use Rattle.book.specs.Blocks.{Book, Block, rule_count, check_sum}
-use Rattle.book.specs.Tests.{answered}
+use Rattle.book.specs.Tests.{Outcome, answered}
 use Rattle.book.specs.Refusals.{book_tests, seal_tests}
-use Rattle.book.specs.declared.Checked.{Checked}
-use Rattle.book.specs.declared.Checked.TheVariants as checked
-use Rattle.book.specs.declared.Sealed.{Sealed}
-use Rattle.book.specs.declared.Sealed.TheVariants as sealed
+use Rattle.book.specs.declared.refusal.Refusal.{Refusal}
 
 -- "Otherwise accepted, with the number of rules."
-unfoldable pub check_answer : Book → Checked
-check_answer book = answered (book_tests book) checked.Refused (checked.Accepted (rule_count book))
+unfoldable pub check_answer : Book → Result ℕ Refusal
+check_answer book = answered (book_tests book) Err (Ok (rule_count book))
 
 -- "Seal (a block). 10, not 512 bytes."
-unfoldable pub seal_answer : Block → Sealed
-seal_answer block = answered (seal_tests block) sealed.Refused sealed.Done
+unfoldable pub seal_answer : Block → Outcome
+seal_answer block = answered (seal_tests block) Err (Ok tt)
 
 -- "the check is written, other bytes unchanged"
 unfoldable pub with_check : Block → Block

@@ -4,6 +4,7 @@ pub mod Hierarchies
 pub mod Blocks
 pub mod Head
 pub mod Rule
+pub mod Numbers
 pub mod Tests
 pub mod Refusals
 pub mod Answers

@@ -1,5 +1,5 @@
 -- The tests of the book check, in document 01's order: "Book check", 1 to 9, and Seal's 10. Assumes nothing.
-use Rattle.std.specs.Prelude.{ℕ, zero, suc, ◌+◌, ◌*◌, ◌-◌, ◌/◌, ◌%◌, Bool, true, false, ◌&&◌, ◌||◌, not, cond, List, [], ◌∷◌, ◌++◌, length, get_or, take, drop, eqb, ltb, leb}
+use Rattle.std.specs.Prelude.{ℕ, zero, suc, ◌+◌, ◌*◌, ◌-◌, ◌/◌, ◌%◌, Bool, true, false, ◌&&◌, ◌||◌, not, cond, List, [], ◌∷◌, ◌++◌, length, get_or, take, drop, eqb, ltb, leb, Option, Some, None}
 use Rattle.std.specs.Int.Bits.{bit_and}
 use Rattle.book.specs.Lists.{all, flat, up_to}
 use Rattle.book.specs.Sets.{has}
@@ -10,39 +10,9 @@ use Rattle.book.specs.Rule.{reference_count, user_category, excluded_user_count,
 use Rattle.book.specs.Rule.{data_category, action, exclusion_count, exclusions, restriction_mask, in_leaf_set}
 use Rattle.book.specs.Blocks.{Book, Head, Block, Rule, block_at, head_of, block_count, check_holds}
 use Rattle.book.specs.Tests.{Test, Passes}
-use Rattle.book.specs.declared.ActionByte.{ActionByte}
-use Rattle.book.specs.declared.ActionByte.TheVariants.{Names, NamesNone}
-
--- the refusals' numbers
-abbrev pub book_length : ℕ
-book_length = 1
-
-abbrev pub block_check : ℕ
-block_check = 2
-
-abbrev pub block_kind : ℕ
-block_kind = 3
-
-abbrev pub count_or_zero : ℕ
-count_or_zero = 4
-
-abbrev pub parent_or_own : ℕ
-parent_or_own = 5
-
-abbrev pub label_or_function : ℕ
-label_or_function = 6
-
-abbrev pub rule_number : ℕ
-rule_number = 7
-
-abbrev pub shared_leaf : ℕ
-shared_leaf = 8
-
-abbrev pub mask_operation : ℕ
-mask_operation = 9
-
-abbrev pub block_length : ℕ
-block_length = 10
+use Rattle.book.specs.declared.Action.{Action}
+use Rattle.book.specs.declared.refusal.Refusal.TheVariants.{BookLength, BlockCheck, BlockKind, CountOrZero, ParentOrOwn}
+use Rattle.book.specs.declared.refusal.Refusal.TheVariants.{LabelOrFunction, RuleNumber, SharedLeaf, MaskOperation, BlockLength}
 
 unfoldable pub between : ℕ → ℕ → ℕ → Bool
 between low high n = leb low n && leb n high
@@ -131,9 +101,9 @@ user_numbers_hold head rule =
     && all (proper_descendant (user_count head) (user_parent head) (user_category rule)) (excluded_users rule)
 
 -- the byte is one of document 01's three
-unfoldable pub names_action : ActionByte → Bool
-names_action (Names action) = true
-names_action NamesNone = false
+unfoldable pub names_action : Option Action → Bool
+names_action (Some action) = true
+names_action None = false
 
 unfoldable pub reference_holds : Head → Rule → ℕ → Bool
 reference_holds head rule i =
@@ -164,23 +134,23 @@ masks_hold head rule = all (λ j. all (mask_holds head rule j) (up_to 3)) (up_to
 
 -- the tests of a block, "in each block in this order"
 unfoldable pub users_block_tests : Head → List Test
-users_block_tests head = (count_or_zero, 0, users_counted head) ∷ (parent_or_own, 0, users_ordered head) ∷ []
+users_block_tests head = (CountOrZero 0, users_counted head) ∷ (ParentOrOwn 0, users_ordered head) ∷ []
 
 unfoldable pub data_block_tests : Head → List Test
-data_block_tests head = (count_or_zero, 1, data_counted head) ∷ (parent_or_own, 1, data_ordered head) ∷ []
+data_block_tests head = (CountOrZero 1, data_counted head) ∷ (ParentOrOwn 1, data_ordered head) ∷ []
 
 unfoldable pub columns_block_tests : Head → List Test
-columns_block_tests head = (count_or_zero, 2, columns_counted head) ∷ (label_or_function, 2, labels_hold head) ∷ []
+columns_block_tests head = (CountOrZero 2, columns_counted head) ∷ (LabelOrFunction 2, labels_hold head) ∷ []
 
 unfoldable pub functions_block_tests : Head → List Test
-functions_block_tests head = (count_or_zero, 3, functions_counted head) ∷ (label_or_function, 3, functions_hold head) ∷ []
+functions_block_tests head = (CountOrZero 3, functions_counted head) ∷ (LabelOrFunction 3, functions_hold head) ∷ []
 
 unfoldable pub rule_block_tests : Head → Rule → ℕ → List Test
 rule_block_tests head rule i =
-    (count_or_zero, i, rule_counted rule)
-    ∷ (rule_number, i, numbers_hold head rule)
-    ∷ (shared_leaf, i, references_apart head rule)
-    ∷ (mask_operation, i, masks_hold head rule)
+    (CountOrZero i, rule_counted rule)
+    ∷ (RuleNumber i, numbers_hold head rule)
+    ∷ (SharedLeaf i, references_apart head rule)
+    ∷ (MaskOperation i, masks_hold head rule)
     ∷ []
 
 -- those of block i of a book with this head
@@ -193,15 +163,15 @@ block_tests head block (suc (suc (suc (suc r)))) = rule_block_tests head block (
 
 -- 1
 unfoldable pub length_tests : Book → List Test
-length_tests book = (book_length, 0, length_holds (length book)) ∷ []
+length_tests book = (BookLength, length_holds (length book)) ∷ []
 
 -- 2, of block i
 unfoldable pub check_tests : Book → ℕ → List Test
-check_tests book i = (block_check, i, check_holds (block_at book i)) ∷ []
+check_tests book i = (BlockCheck i, check_holds (block_at book i)) ∷ []
 
 -- 3, of block i
 unfoldable pub kind_tests : Book → ℕ → List Test
-kind_tests book i = (block_kind, i, kind_holds i (get_or (block_at book i) 0 0)) ∷ []
+kind_tests book i = (BlockKind i, kind_holds i (get_or (block_at book i) 0 0)) ∷ []
 
 -- 4 to 9, of block i
 unfoldable pub content_tests : Book → ℕ → List Test
@@ -225,4 +195,4 @@ BookAccepted book = Passes (book_tests book)
 
 -- 10: "not 512 bytes"
 unfoldable pub seal_tests : Block → List Test
-seal_tests block = (block_length, 0, eqb (length block) 512) ∷ []
+seal_tests block = (BlockLength, eqb (length block) 512) ∷ []

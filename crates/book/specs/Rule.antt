@@ -1,12 +1,11 @@
 -- A rule block, byte by byte, and what its references and its users are. `rule` is the block's 512 bytes.
 -- Assumes nothing.
-use Rattle.std.specs.Prelude.{ℕ, zero, suc, ◌+◌, ◌*◌, Bool, ◌&&◌, List, get_or, take, drop}
+use Rattle.std.specs.Prelude.{ℕ, zero, suc, ◌+◌, ◌*◌, Bool, ◌&&◌, List, get_or, take, drop, Option, Some, None}
 use Rattle.book.specs.Hierarchies.{covers}
 use Rattle.book.specs.Blocks.{Head, Rule}
 use Rattle.book.specs.Head.{user_parent, data_parent, is_user, is_data_leaf}
 use Rattle.book.specs.declared.Action.TheVariants.{Projection, Condition, Access}
-use Rattle.book.specs.declared.ActionByte.{ActionByte}
-use Rattle.book.specs.declared.ActionByte.TheVariants.{Names, NamesNone}
+use Rattle.book.specs.declared.Action.{Action}
 
 -- "Byte 1: references n, 1 to 3."
 abbrev pub reference_count : Rule → ℕ
@@ -35,14 +34,14 @@ abbrev pub action_number : Rule → ℕ → ℕ
 action_number rule i = get_or rule (17 + 16 * i) 0
 
 -- "action (1 projection, 2 condition, 3 access, meaning either)"; every other number names none
-unfoldable pub action_of : ℕ → ActionByte
-action_of zero = NamesNone
-action_of (suc zero) = Names Projection
-action_of (suc (suc zero)) = Names Condition
-action_of (suc (suc (suc zero))) = Names Access
-action_of (suc (suc (suc (suc n)))) = NamesNone
+unfoldable pub action_of : ℕ → Option Action
+action_of zero = None
+action_of (suc zero) = Some Projection
+action_of (suc (suc zero)) = Some Condition
+action_of (suc (suc (suc zero))) = Some Access
+action_of (suc (suc (suc (suc n)))) = None
 
-abbrev pub action : Rule → ℕ → ActionByte
+abbrev pub action : Rule → ℕ → Option Action
 action rule i = action_of (action_number rule i)
 
 abbrev pub exclusion_count : Rule → ℕ → ℕ

@@ -1,33 +1,28 @@
-// Book check: the refusal that comes first, or the number of rules.
+//! Book check: the refusal that comes first, or the number of rules.
 ghost use Rattle.std.specs.Prelude.{◌≡◌};
-ghost use Rattle.book.specs.Lists.{flat, up_to};
-ghost use Rattle.book.specs.Blocks.{head_of};
+ghost use Rattle.book.specs.Blocks.{block_at, head_of};
 ghost use Rattle.book.specs.Tests.{first_failing};
-ghost use Rattle.book.specs.Refusals.{book_tests, kind_holds, length_holds};
+ghost use Rattle.book.specs.Lists.{flat, up_to};
+ghost use Rattle.book.specs.Refusals.{book_tests, check_tests, content_tests, kind_holds, kind_tests, length_holds};
 ghost use Rattle.book.specs.Answers.{check_answer};
 ghost use Rattle.book.specs.Inner.Words.{HeadWords};
-ghost use Rattle.book.specs.Inner.Testing.{ContentsAt, OutcomeAt, pass_tests};
+ghost use Rattle.book.specs.Inner.Testing.{ContentsAt};
 
+use crate::Refusal;
+use crate::books::Book;
 use crate::bytes::byte_at;
-use crate::fields::{block_at, head_of, rule_count};
+use crate::fields::{block_at, head_of};
 use crate::head_tests::{
     test_columns_block, test_data_block, test_functions_block, test_users_block,
 };
 use crate::rule_tests::test_rule_block;
 use crate::sealing::check_holds;
-use crate::testing::{or_else, refused, test};
-use crate::words::head_words;
-use crate::{BLOCK_CHECK, BLOCK_KIND, BOOK_LENGTH, Checked, Tested};
+use crate::testing::{ensure, first_refusal, within};
+use crate::words::Words;
 
-// The three passes over the blocks: the checks, the kinds, what the blocks hold.
-#[derive(Clone, Copy)]
-pub enum Pass {
-    Checks,
-    Kinds,
-    Contents,
-}
-
-fn kind_holds(i: u8, kind: usize) -> bool
+/// Whether a block with number i may have a kind.
+// Numbers: beside `has_withdrawn` no code asks for a kind, and none keeps one.
+fn kind_holds(i: u8, kind: u8) -> bool
     ensures { result ≡ kind_holds i kind }
 {
     match i {
@@ -39,74 +34,90 @@ fn kind_holds(i: u8, kind: usize) -> bool
     }
 }
 
-// The tests 4 to 9 of block i.
-fn test_contents(head: &[u8], t: &[u64], block: &[u8], i: u8) -> Tested
-    ensures { ContentsAt head.now t.now block.now i result }
+/// The test 2 of block i.
+#[tactic(auto, unfolding(crate::specs::Refusals::check_tests))]
+fn test_check(book: &[u8], i: u8) -> Result<(), Refusal>
+    ensures { result ≡ first_failing (check_tests book.now i) }
 {
+    ensure(
+        check_holds(block_at(book, i)),
+        Refusal::BlockCheck { block: i },
+    )
+}
+
+/// The test 3 of block i.
+#[tactic(auto, unfolding(crate::specs::Refusals::kind_tests))]
+fn test_kind(book: &[u8], i: u8) -> Result<(), Refusal>
+    ensures { result ≡ first_failing (kind_tests book.now i) }
+{
+    let kind = byte_at(block_at(book, i), 0);
+    ensure(kind_holds(i, kind), Refusal::BlockKind { block: i })
+}
+
+/// The tests 4 to 9 of block i.
+fn test_contents(head: &[u8], words: &Words, block: &[u8], i: u8) -> Result<(), Refusal>
+    ensures { ContentsAt head.now words.now block.now i result }
+{
+    // A match: the five tests take three kinds of arguments, and each is called here alone.
     match i {
         0 => test_users_block(head),
         1 => test_data_block(head),
-        2 => test_columns_block(head, t),
+        2 => test_columns_block(head, words),
         3 => test_functions_block(head),
-        _ => test_rule_block(t, block, i as u32),
+        _ => test_rule_block(words, block, i),
     }
-}
-
-// The tests of block i in a pass, given that the lower blocks have passed.
-fn test_block(book: &[u8], t: &[u64], pass: Pass, i: u8) -> Tested
-    ensures { OutcomeAt pass book.now t.now i result }
-{
-    let block = block_at(book, i);
-    match pass {
-        Pass::Checks => test(BLOCK_CHECK, i as u32, check_holds(block)),
-        Pass::Kinds => test(BLOCK_KIND, i as u32, kind_holds(i, byte_at(block, 0))),
-        Pass::Contents => test_contents(head_of(book), t, block, i),
-    }
-}
-
-// One pass over n blocks: the lowest that fails is refused.
-fn pass_over(book: &[u8], t: &[u64], pass: Pass, n: u8) -> Tested
-    ensures { HeadWords (head_of book.now) t.now
-        → result ≡ first_failing (flat (pass_tests pass book.now) (up_to n)) }
-{
-    for i in 0..n {
-        let outcome = test_block(book, t, pass, i);
-        if let Tested::Refused(refusal) = outcome {
-            return Tested::Refused(refusal);
-        }
-    }
-    Tested::Passed
 }
 
 fn length_holds(n: usize) -> bool
     ensures { result ≡ length_holds n }
 {
-    (n % 512 == 0) & ((4 <= n / 512) & (n / 512 <= 36))
+    (n % 512 == 0) & within(4, 36, n / 512)
 }
 
-// The tests 1 to 9, by the words of the book's head.
-pub fn test_book(book: &[u8], t: &[u64]) -> Tested
-    ensures { HeadWords (head_of book.now) t.now
+fn test_checks(book: &[u8], n: u8) -> Result<(), Refusal>
+    ensures { result ≡ first_failing (flat (check_tests book.now) (up_to n)) }
+{
+    first_refusal(n, |i| test_check(book, i))
+}
+
+fn test_kinds(book: &[u8], n: u8) -> Result<(), Refusal>
+    ensures { result ≡ first_failing (flat (kind_tests book.now) (up_to n)) }
+{
+    first_refusal(n, |i| test_kind(book, i))
+}
+
+fn test_block(book: &[u8], words: &Words, i: u8) -> Result<(), Refusal>
+    ensures { ContentsAt (head_of book.now) words.now (block_at book.now i) i result }
+{
+    test_contents(head_of(book), words, block_at(book, i), i)
+}
+
+fn test_blocks(book: &[u8], words: &Words, n: u8) -> Result<(), Refusal>
+    ensures { HeadWords (head_of book.now) words.now
+        → result ≡ first_failing (flat (content_tests book.now) (up_to n)) }
+{
+    first_refusal(n, |i| test_block(book, words, i))
+}
+
+/// The tests 1 to 9, by the words of the book's head: over all blocks the checks, then the kinds, then
+/// what the blocks hold.
+pub fn test_book(book: &[u8], words: &Words) -> Result<(), Refusal>
+    ensures { HeadWords (head_of book.now) words.now
         → result ≡ first_failing (book_tests book.now) }
 {
-    if !length_holds(book.len()) {
-        return refused(BOOK_LENGTH, 0);
-    }
+    ensure(length_holds(book.len()), Refusal::BookLength)?;
+    // At most 36: the cast is proved to fit, and `try_from` would be a branch.
     let n = (book.len() / 512) as u8;
-    let checks = pass_over(book, t, Pass::Checks, n);
-    let kinds = pass_over(book, t, Pass::Kinds, n);
-    let contents = pass_over(book, t, Pass::Contents, n);
-    or_else(or_else(checks, kinds), contents)
+    test_checks(book, n)?;
+    test_kinds(book, n)?;
+    test_blocks(book, words, n)
 }
 
-// Book check. Any bytes are taken, and nothing is written.
-pub fn check(book: &[u8]) -> Checked
+#[tactic(auto, using(crate::proofs::Answers::answered_passed, crate::proofs::Answers::answered_refused), unfolding(crate::specs::Answers::check_answer))]
+/// Book check: the number of rules. Any bytes are taken, and nothing is written.
+pub fn check(book: &[u8]) -> Result<u32, Refusal>
     ensures { result ≡ check_answer book.now }
 {
-    let t = head_words(head_of(book));
-    let outcome = test_book(book, &t);
-    match outcome {
-        Tested::Passed => Checked::Accepted(rule_count(book) as u32),
-        Tested::Refused(refusal) => Checked::Refused(refusal),
-    }
+    let book = Book::new(book)?;
+    Ok(u32::from(book.rule_count()))
 }

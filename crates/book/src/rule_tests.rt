@@ -1,12 +1,12 @@
-// The tests 4 and 7 to 9 of a rule block. Where a test leans on what blocks 0 and 1 have passed, its
-// promise says so.
-ghost use Rattle.std.specs.Prelude.{◌≡◌, ◌&&◌, ◌||◌, not, ◌+◌, ◌*◌, eqb};
+//! The tests 4 and 7 to 9 of a rule block. Where a test leans on what blocks 0 and 1 have passed, its
+//! promise says so.
+ghost use Rattle.std.specs.Prelude.{◌≡◌, ◌&&◌, ◌||◌, not, ◌+◌, ◌*◌, ◌^◌, ◌<◌, eqb};
 ghost use Rattle.std.specs.Int.Bits.{bit_and};
 ghost use Rattle.book.specs.Lists.{all, up_to};
 ghost use Rattle.book.specs.Sets.{has};
 ghost use Rattle.book.specs.Rule.{restriction_mask};
 ghost use Rattle.book.specs.Refusals.{names_action, reference_end, rule_counts, rule_zeros, zeros};
-ghost use Rattle.book.specs.Inner.Testing.{AllowedTold, exclusion_counts_hold, MasksTold, ReferredTo};
+ghost use Rattle.book.specs.Inner.Testing.{AllowedTold, exclusion_counts_hold, MasksTold, NumbersTold, ReferenceTold, ReferredTo};
 ghost use Rattle.book.specs.Inner.Testing.{RuleTested, UserNumbersTold};
 
 use crate::fields::{
@@ -15,23 +15,18 @@ use crate::fields::{
 };
 use crate::rules::covered_leaves;
 use crate::sets::contains;
-use crate::testing::{refused, within, zeros};
-use crate::words::{count_of, support_of, under_data, under_users};
-use crate::{
-    ActionByte, COUNT_OR_ZERO, Hierarchy, MASK_OPERATION, RULE_NUMBER, SHARED_LEAF, Tested,
-};
+use crate::testing::{ensure, within, zeros};
+use crate::words::{Categories, Words};
+use crate::{Action, Refusal};
 
 fn exclusion_counts_hold(rule: &[u8]) -> bool
     ensures { result ≡ exclusion_counts_hold rule.now }
 {
-    let n = reference_count(rule);
-    let mut ok = true;
-    for i in 0..n {
-        ok = ok & within(0, 8, exclusion_count(rule, i as u8));
-    }
-    ok
+    // `as u8`, here and below: a count is a byte, and the check proves that the index fits.
+    (0..reference_count(rule)).all(|i| within(0, 8, exclusion_count(rule, i as u8)))
 }
 
+#[tactic(auto, unfolding(crate::specs::Refusals::rule_counts))]
 fn rule_counts(rule: &[u8]) -> bool
     ensures { result ≡ rule_counts rule.now }
 {
@@ -40,11 +35,12 @@ fn rule_counts(rule: &[u8]) -> bool
             & (within(0, 8, restriction_count(rule)) & exclusion_counts_hold(rule)))
 }
 
-// The first unused byte of the slot of reference i: an absent reference uses none.
+/// The first unused byte of the slot of reference i: an absent reference uses none.
+#[tactic(auto, unfolding(crate::specs::Refusals::reference_end))]
 fn reference_end(rule: &[u8], i: u8) -> usize
     ensures { result ≡ reference_end rule.now i }
 {
-    let at = i as usize;
+    let at = usize::from(i);
     if at < reference_count(rule) {
         return 19 + 16 * at + exclusion_count(rule, i);
     }
@@ -54,10 +50,11 @@ fn reference_end(rule: &[u8], i: u8) -> usize
 fn slot_zeros(rule: &[u8], i: u8) -> bool
     ensures { result ≡ zeros rule.now (reference_end rule.now i) (32 + 16 * i) }
 {
-    let at = i as usize;
+    let at = usize::from(i);
     zeros(rule, reference_end(rule, i), 32 + 16 * at)
 }
 
+#[tactic(auto, using(crate::proofs::Lists::all_three), unfolding(crate::specs::Refusals::rule_zeros))]
 fn rule_zeros(rule: &[u8]) -> bool
     ensures { result ≡ rule_zeros rule.now }
 {
@@ -67,7 +64,7 @@ fn rule_zeros(rule: &[u8]) -> bool
                 & zeros(rule, 64 + 6 * restriction_count(rule), 510)))
 }
 
-// Whether x is a proper descendant of c, under which `inside` holds what there is.
+/// Whether x is a proper descendant of c, under which `inside` holds what there is.
 fn is_proper(inside: u64, c: usize, x: usize) -> bool
     ensures { result ≡ (not (eqb x c) && has inside x) }
 {
@@ -77,68 +74,68 @@ fn is_proper(inside: u64, c: usize, x: usize) -> bool
 fn all_proper(inside: u64, c: usize, list: &[u8]) -> bool
     ensures { result ≡ all (λ x. not (eqb x c) && has inside x) list.now }
 {
-    let mut ok = true;
-    for i in 0..list.len() {
-        ok = ok & is_proper(inside, c, list[i] as usize);
-    }
-    ok
+    list.iter().all(|x| is_proper(inside, c, usize::from(*x)))
 }
 
-fn user_numbers_hold(t: &[u64], rule: &[u8]) -> bool
-    ensures { UserNumbersTold t.now rule.now result }
+fn user_numbers_hold(words: &Words, rule: &[u8]) -> bool
+    ensures { UserNumbersTold words.now rule.now result }
 {
+    let users = &words.users;
     let c = user_category(rule);
-    (c < count_of(t, Hierarchy::Users)) & all_proper(under_users(t, c), c, excluded_users(rule))
+    (c < usize::from(users.count)) & all_proper(users.under(c), c, excluded_users(rule))
 }
 
-fn names_action(byte: ActionByte) -> bool
-    ensures { result ≡ names_action byte }
+// `rule` and `i` stay two: these bytes are not accepted yet, and no fact goes with them.
+/// Whether a reference's numbers hold: its category, its exclusions, its action.
+fn reference_holds(categories: &Categories, c: usize, list: &[u8], named: Option<Action>) -> bool
+    ensures { ReferenceTold categories.now c list.now named result }
 {
-    match byte {
-        ActionByte::Names(_) => true,
-        ActionByte::NamesNone => false,
-    }
+    let proper = all_proper(categories.under(c), c, list);
+    (c < usize::from(categories.count)) & (named.is_some() & proper)
 }
 
-// What a reference says: whether its numbers hold, and its leaves.
-#[derive(Clone, Copy)]
-pub struct Referred {
-    pub holds: bool,
-    pub leaves: u64,
-}
-
-// Reference i, read once. An absent one holds and has no leaf.
-fn read_reference(t: &[u64], rule: &[u8], i: u8) -> Referred
-    ensures { ReferredTo t.now rule.now i result }
+/// The leaves of reference i, if its numbers hold. An absent one has none.
+fn read_reference(words: &Words, rule: &[u8], i: u8) -> Option<u64>
+    ensures { ReferredTo words.now rule.now i result }
 {
-    if reference_count(rule) <= i as usize {
-        return Referred {
-            holds: true,
-            leaves: 0,
-        };
+    if reference_count(rule) <= usize::from(i) {
+        return Some(0);
     }
+    let categories = &words.categories;
     let c = data_category(rule, i);
     let list = exclusions(rule, i);
-    let proper = all_proper(under_data(t, c), c, list);
-    let numbers = names_action(action(rule, i)) & proper;
-    Referred {
-        holds: (c < count_of(t, Hierarchy::Data)) & numbers,
-        leaves: covered_leaves(t, Hierarchy::Data, c, list),
+    if !reference_holds(categories, c, list, action(rule, i)) {
+        return None;
     }
+    Some(covered_leaves(categories, c, list))
+}
+
+/// The leaves of the three references, if the numbers of the rule hold.
+fn read_references(words: &Words, rule: &[u8]) -> Option<[u64; 3]>
+    ensures { NumbersTold words.now rule.now result }
+{
+    if !user_numbers_hold(words, rule) {
+        return None;
+    }
+    let a = read_reference(words, rule, 0)?;
+    let b = read_reference(words, rule, 1)?;
+    let c = read_reference(words, rule, 2)?;
+    Some([a, b, c])
 }
 
 fn leaves_apart(a: u64, b: u64, c: u64) -> bool
-    ensures { result ≡ (eqb (bit_and b a) 0 && (eqb (bit_and c a) 0 && eqb (bit_and c b) 0)) }
+    ensures apart { result ≡ (eqb (bit_and b a) 0 && (eqb (bit_and c a) 0 && eqb (bit_and c b) 0)) }
+    ensures words { (a < 2 ^ 64) × (b < 2 ^ 64) × (c < 2 ^ 64) }
 {
     (b & a == 0) & ((c & a == 0) & (c & b == 0))
 }
 
-// The operations that a mask for reference i may name; none for an absent reference.
-fn allowed_operations(t: &[u64], rule: &[u8], i: u8) -> u64
-    ensures { AllowedTold t.now rule.now i result }
+/// The operations that a mask for reference i may name; none for an absent reference.
+fn allowed_operations(words: &Words, rule: &[u8], i: u8) -> u64
+    ensures { AllowedTold words.now rule.now i result }
 {
-    if (i as usize) < reference_count(rule) {
-        return support_of(t, data_category(rule, i)) & !1;
+    if usize::from(i) < reference_count(rule) {
+        return words.support(data_category(rule, i)) & !1;
     }
     0
 }
@@ -149,41 +146,26 @@ fn mask_holds(rule: &[u8], j: u8, i: u8, allowed: u64) -> bool
     restriction_mask(rule, j, i) & !allowed == 0
 }
 
-fn masks_hold(t: &[u64], rule: &[u8]) -> bool
-    ensures { MasksTold t.now rule.now result }
+fn masks_hold(words: &Words, rule: &[u8]) -> bool
+    ensures { MasksTold words.now rule.now result }
 {
-    let a = allowed_operations(t, rule, 0);
-    let b = allowed_operations(t, rule, 1);
-    let c = allowed_operations(t, rule, 2);
-    let n = restriction_count(rule);
-    let mut ok = true;
-    for j in 0..n {
-        let row = j as u8;
-        ok = ok
-            & (mask_holds(rule, row, 0, a)
-                & (mask_holds(rule, row, 1, b) & mask_holds(rule, row, 2, c)));
-    }
-    ok
+    let a = allowed_operations(words, rule, 0);
+    let b = allowed_operations(words, rule, 1);
+    let c = allowed_operations(words, rule, 2);
+    (0..restriction_count(rule)).all(|row| {
+        let j = row as u8;
+        mask_holds(rule, j, 0, a) & (mask_holds(rule, j, 1, b) & mask_holds(rule, j, 2, c))
+    })
 }
 
-// What the promise asks is what blocks 0 and 1 have passed.
-pub fn test_rule_block(t: &[u64], rule: &[u8], i: u32) -> Tested
-    ensures { RuleTested t.now rule.now i result }
+/// The tests of rule block i. What the promise asks is what blocks 0 and 1 have passed.
+pub fn test_rule_block(words: &Words, rule: &[u8], i: u8) -> Result<(), Refusal>
+    ensures { RuleTested words.now rule.now i result }
 {
-    if !(rule_counts(rule) & rule_zeros(rule)) {
-        return refused(COUNT_OR_ZERO, i);
-    }
-    let a = read_reference(t, rule, 0);
-    let b = read_reference(t, rule, 1);
-    let c = read_reference(t, rule, 2);
-    if !(user_numbers_hold(t, rule) & (a.holds & (b.holds & c.holds))) {
-        return refused(RULE_NUMBER, i);
-    }
-    if !leaves_apart(a.leaves, b.leaves, c.leaves) {
-        return refused(SHARED_LEAF, i);
-    }
-    if !masks_hold(t, rule) {
-        return refused(MASK_OPERATION, i);
-    }
-    Tested::Passed
+    let counted = rule_counts(rule) & rule_zeros(rule);
+    ensure(counted, Refusal::CountOrZero { block: i })?;
+    let number = Refusal::RuleNumber { block: i };
+    let [a, b, c] = read_references(words, rule).ok_or(number)?;
+    ensure(leaves_apart(a, b, c), Refusal::SharedLeaf { block: i })?;
+    ensure(masks_hold(words, rule), Refusal::MaskOperation { block: i })
 }

@@ -1,15 +1,15 @@
-// The check of a block, and Seal.
+//! The check of a block, and Seal.
 ghost use Rattle.std.specs.Prelude.{◌≡◌, ◌<◌};
 ghost use Rattle.book.specs.Blocks.{check_holds, check_sum};
 ghost use Rattle.book.specs.Answers.{seal_answer, seal_bytes};
 ghost use Rattle.book.specs.Inner.Reading.{RowSum, SumsTo};
 
+use crate::Refusal;
 use crate::bytes::{byte_at, part};
-use crate::testing::zeros;
-use crate::{BLOCK_LENGTH, Refusal, Sealed};
+use crate::testing::{ensure, zeros};
 
-// How many bytes of a block its check has to sum: zeros add nothing, and most blocks have nothing else
-// from byte 128 on.
+/// How many bytes of a block its check has to sum: zeros add nothing, and most blocks have nothing else
+/// from byte 128 on.
 fn summed(block: &[u8]) -> usize
     ensures { SumsTo block.now result }
 {
@@ -19,9 +19,9 @@ fn summed(block: &[u8]) -> usize
     510
 }
 
-// The sum of (i + 1) times byte i over the whole rows of sixteen bytes, with no product for a byte:
-// down each column `bytes` adds up its bytes and `sums` adds up these sums, so that a byte counts
-// there once for its own row and once for each row after it.
+/// The sum of (i + 1) times byte i over the whole rows of sixteen bytes, with no product for a byte:
+/// down each column `bytes` adds up its bytes and `sums` adds up these sums, so that a byte counts
+/// there once for its own row and once for each row after it.
 fn row_sum(body: &[u8]) -> u32
     ensures { RowSum body.now result }
 {
@@ -32,6 +32,7 @@ fn row_sum(body: &[u8]) -> u32
     let mut bytes = [0u32; 16];
     let mut sums = [0u32; 16];
     for r in 0..rows {
+        // By index: two arrays go in step.
         for j in 0..16usize {
             let total = bytes[j] + body[16 * r + j] as u32;
             bytes[j] = total;
@@ -39,46 +40,44 @@ fn row_sum(body: &[u8]) -> u32
         }
     }
     let mut sum = 0u32;
+    // By index, as above. `as`, here and below: `u32` has no `From<usize>`.
     for j in 0..16usize {
         sum = sum + ((16 * rows + 1 + j) as u32) * bytes[j] - 16 * sums[j];
     }
     sum
 }
 
-// The sum of (i + 1) times byte i over the first 510 bytes, modulo 65,521.
+/// The sum of (i + 1) times byte i over the first 510 bytes, modulo 65,521.
 pub fn check_sum(block: &[u8]) -> u32
     ensures { (result ≡ check_sum block.now) × (result < 65521) }
 {
     let body = part(block, 0, summed(block));
     let mut sum = row_sum(body);
     for i in 16 * (body.len() / 16)..body.len() {
-        sum = sum + (i as u32 + 1) * (body[i] as u32);
+        sum += (i as u32 + 1) * u32::from(body[i]);
     }
     sum % 65521
 }
 
-// Whether bytes 510 and 511 hold the check, high byte first.
+/// Whether bytes 510 and 511 hold the check, high byte first.
+#[tactic(auto, unfolding(crate::specs::Blocks::check_holds))]
 pub fn check_holds(block: &[u8]) -> bool
     ensures { result ≡ check_holds block.now }
 {
-    let stored = 256 * byte_at(block, 510) + byte_at(block, 511);
-    stored == check_sum(block) as usize
+    let stored = 256 * u32::from(byte_at(block, 510)) + u32::from(byte_at(block, 511));
+    stored == check_sum(block)
 }
 
-// Seal: writes the check of a block of 512 bytes and leaves its other bytes as they were. Any other
-// length is refused, and nothing is written.
-pub fn seal(block: &mut [u8]) -> Sealed
-    ensures { (result ≡ seal_answer block.old)
-        × (block.new ≡ seal_bytes block.old) }
+#[tactic(auto, using(crate::proofs::Seals::set_two), unfolding(crate::specs::Tests::first_failing, crate::specs::Tests::answered, crate::specs::Tests::refused_or, crate::specs::Refusals::seal_tests, crate::specs::Answers::seal_answer, crate::specs::Answers::seal_bytes, crate::specs::Answers::with_check))]
+/// Seal: writes the check of a block of 512 bytes and leaves its other bytes as they were. Any other
+/// length is refused, and nothing is written.
+pub fn seal(block: &mut [u8]) -> Result<(), Refusal>
+    ensures answer { result ≡ seal_answer block.old }
+    ensures bytes { block.new ≡ seal_bytes block.old }
 {
-    if block.len() != 512 {
-        return Sealed::Refused(Refusal {
-            number: BLOCK_LENGTH,
-            place: 0,
-        });
-    }
+    ensure(block.len() == 512, Refusal::BlockLength)?;
     let check = check_sum(block);
     block[510] = (check / 256) as u8;
     block[511] = (check % 256) as u8;
-    Sealed::Done
+    Ok(())
 }

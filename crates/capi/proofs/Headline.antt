@@ -7,17 +7,16 @@ use mathlib.Core.Bool.{Bool, true, false, cond}
 use mathlib.Core.List.{List}
 use lib.Pow.{pow_pos}
 use Rattle.book.specs.Blocks.{head_of}
-use Rattle.book.specs.Tests.{first_failing, refused_or, answered}
-use Rattle.book.specs.declared.Refusal.{Refusal}
-use Rattle.book.specs.declared.Tested.{Tested}
-use Rattle.book.specs.declared.Tested.TheVariants as tested
+use Rattle.std.specs.Prelude.{Option, Some, None, Result, Ok, Err}
+use Rattle.book.specs.Tests.{Outcome, first_failing, refused_or, answered}
+use Rattle.book.specs.declared.refusal.Refusal.{Refusal}
+use Rattle.ledger.specs.declared.Asked.TheVariants.{Held, Declined}
+use Rattle.trees.specs.declared.Written.{Written}
 use Rattle.book.proofs.Answers.{refused_passed}
 use Rattle.lineage.specs.Accesses.{access_words}
 use Rattle.verdicts.specs.Accesses.{accesses_of}
-use Rattle.verdicts.specs.Answers.{judge_answer}
+use Rattle.verdicts.specs.Answers.{Judged, judge_answer}
 use Rattle.verdicts.specs.Demand.{JudgeAccepted, Demand2}
-use Rattle.verdicts.specs.declared.Judged.{Judged}
-use Rattle.verdicts.specs.declared.Judged.TheVariants as judged
 use Rattle.verdicts.proofs.Gate.{judged_accepted, judged_demand}
 use Rattle.verdicts.proofs.JudgeLaws.{judge_answer_law, judge_passes}
 use Rattle.verdicts.proofs.Sound.{mask_fits}
@@ -30,57 +29,50 @@ use Rattle.ledger.specs.Histories.{Ask, Commit, Drop}
 use Rattle.ledger.specs.Demand.{AskAccepted, Continues, SettleAccepted}
 use Rattle.ledger.specs.declared.Tally.{Tally}
 use Rattle.ledger.specs.declared.Holds.{Holds}
-use Rattle.ledger.specs.declared.Reply.{Reply}
-use Rattle.ledger.specs.declared.Reply.TheVariants as reply
 use Rattle.ledger.proofs.WordLaws.{held_own, other_word}
 use Rattle.ledger.proofs.CallLaws.{ask_cases, ask_demand, ask_passes, given_few}
 use Rattle.ledger.proofs.CallLaws.{settle_cases, settle_passes, settler_low}
-use Rattle.search.specs.Answers.{idle_tests, idle_answer, idle_buffer}
+use Rattle.search.specs.Answers.{Idleness, idle, idle_tests, idle_answer, idle_buffer, needed}
 use Rattle.search.specs.Alone.{first_alone}
 use Rattle.search.specs.Demand.{IdleAccepted}
-use Rattle.search.specs.declared.Idleness.{Idleness}
-use Rattle.search.specs.declared.Idleness.TheVariants as idleness
 use Rattle.search.proofs.DemandLaws.{demand, idle_answer_law}
 use Rattle.search.proofs.IdleLaws.{idle_accepted, idle_refused, idle_told}
 use Rattle.blocked.specs.Associations.{Pair}
 use Rattle.blocked.specs.Open.{first_closed}
-use Rattle.blocked.specs.Answers.{closed_answer, blocked_answer, culprits_answer}
+use Rattle.blocked.specs.Answers.{Blocking, Causes, closed_answer, blocked_answer, culprits_answer, few_answer}
+use Rattle.blocked.specs.Answers.{open_answer, unblocked}
 use Rattle.blocked.specs.Demand.{BlockedAccepted}
 use Rattle.blocked.specs.Minimal.{Behind}
-use Rattle.blocked.specs.declared.Blocking.{Blocking}
-use Rattle.blocked.specs.declared.Blocking.TheVariants as blocking
-use Rattle.blocked.specs.declared.Causes.{Causes}
-use Rattle.blocked.specs.declared.Causes.TheVariants as causes
 use Rattle.blocked.proofs.DemandLaws as blocked
 use Rattle.blocked.proofs.FewLaws as few
 use Rattle.trees.specs.Answers.{tree_answer, tree_buffer}
-use Rattle.trees.specs.declared.Drawn.{Drawn}
-use Rattle.trees.specs.declared.Drawn.TheVariants as drawing
 use Rattle.trees.proofs.DemandLaws.{answer_accepted, answer_draws, answer_refused, tree_unrefused}
-use Rattle.capi.specs.Packing.{packed, refusal_packed, judge_packed, idle_packed, blocked_packed}
-use Rattle.capi.specs.Packing.{culprits_packed, reply_packed, tree_packed}
+use Rattle.capi.specs.Packing.{packed, refusal_packed, judge_packed, judge_value, idle_packed, idle_value}
+use Rattle.capi.specs.Packing.{blocked_packed, blocked_value, culprits_packed, culprits_value, reply_packed}
+use Rattle.capi.specs.Packing.{asked_value, number_value, settle_packed, tree_packed, tree_value}
 use Rattle.capi.specs.Demands.{JudgeSays, IdleSays, BlockedParts, BlockedSays, CulpritsSays, AskSays}
 use Rattle.capi.specs.Demands.{CommitSays, DropSays, TreeSays}
 use Rattle.capi.proofs.Bounds.{judge_small, idle_small, blocked_small, culprits_small, ask_bounded}
-use Rattle.capi.proofs.Bounds.{settle_bounded, no_cause_refused, no_refusal, never_refused, tree_small}
+use Rattle.capi.proofs.Bounds.{settle_bounded, no_cause_refused, no_refusal, never_refused, tree_small, value_refused}
 use Rattle.capi.proofs.Masks.{asking_bits, asking_fits, asking_some}
-use Rattle.capi.proofs.Unpacking.{Bytes, refusal_past, judge_mask, idle_parts, blocked_bytes, tree_parts}
+use Rattle.capi.proofs.Unpacking.{Bytes, closed, refusal_past, same_closed, same_shown, judge_mask, idle_parts, blocked_bytes, tree_parts}
 
 -- Judge
 
 module _ (book : List ℕ) (user : ℕ) (plan : List ℕ) where
-  unrefused : JudgeAccepted book user plan → (x : Refusal) → judge_answer book user plan ≡ judged.Refused x → ⊥
+  unrefused : JudgeAccepted book user plan → (x : Refusal) → judge_answer book user plan ≡ Err x → ⊥
   unrefused given x h =
       let e = sym (judge_answer_law book user plan (judge_passes book user plan given)) ∙ h in
       let z : ◌≡◌ {A = ℕ} 0 1 = cc in
       omega arith
 
   pub judge_says : (answer : ℕ) → answer ≡ judge_packed (judge_answer book user plan) → JudgeSays book user plan answer
-  unfolding judge_packed packed
+  unfolding judge_packed judge_value packed
   judge_says answer same = go (judge_answer book user plan) refl
     where
       go : (j : Judged) → judge_answer book user plan ≡ j → JudgeSays book user plan answer
-      go (judged.Broken mask) h =
+      go (Ok broken) h =
+          let mask = broken.mask in
           let e : answer ≡ mask = same ∙ rw h (omega arith) in
           let given = judged_accepted book user plan mask h in
           let low = judge_mask book user plan mask h in
@@ -93,7 +85,7 @@ module _ (book : List ℕ) (user : ℕ) (plan : List ℕ) where
             satisfies_zero = λ g s. holds.satisfies_zero s;
             demand = λ l. holds;
           }
-      go (judged.Refused x) h =
+      go (Err x) h =
           let e : answer ≡ refusal_packed x = same ∙ rw h in
           let past = refusal_past x (judge_small book user plan x h) in
           record {
@@ -107,27 +99,27 @@ module _ (book : List ℕ) (user : ℕ) (plan : List ℕ) where
 -- Idle
 
 module _ (book : List ℕ) (r : ℕ) (before : List ℕ) where
-  answers : IdleAccepted book r before → (x : Refusal) → idle_answer book r before ≡ idleness.Refused x → ⊥
+  answers : IdleAccepted book r before → (x : Refusal) → idle_answer book r before ≡ Err x → ⊥
   answers given x h =
       no_refusal (head_of book) (first_alone book r) x (sym (idle_answer_law book r before given) ∙ h)
 
   -- a refusal leaves the buffer as it was
-  kept : (x : Refusal) → idle_answer book r before ≡ idleness.Refused x → idle_buffer book r before ≡ before
+  kept : (x : Refusal) → idle_answer book r before ≡ Err x → idle_buffer book r before ≡ before
   kept x h = go (first_failing (idle_tests book r before)) refl
     where
-      go : (f : Tested) → first_failing (idle_tests book r before) ≡ f → idle_buffer book r before ≡ before
-      go tested.Passed e = absurd (answers (idle_accepted book r before e) x h)
-      go (tested.Refused y) e = sym (idle_refused book r before y e).1
+      go : (f : Outcome) → first_failing (idle_tests book r before) ≡ f → idle_buffer book r before ≡ before
+      go (Ok done) e = absurd (answers (idle_accepted book r before e) x h)
+      go (Err y) e = sym (idle_refused book r before y e).1
 
   pub idle_says :
       (answer : ℕ) → answer ≡ idle_packed (idle_answer book r before) → IdleSays book r before (idle_buffer book r before) answer
-  unfolding idle_packed packed
+  unfolding idle_packed idle_value packed
   idle_says answer same = go (idle_answer book r before) refl
     where
       go : (a : Idleness) → idle_answer book r before ≡ a → IdleSays book r before (idle_buffer book r before) answer
-      go idleness.Idle h =
+      go (Ok None) h =
           let e : answer ≡ 0 = same ∙ rw h (omega arith) in
-          let given = idle_told book r before (λ x f. let k = sym h ∙ f in let z : ◌≡◌ {A = ℕ} 0 1 = cc in omega arith) in
+          let given = idle_told book r before (λ x f. value_refused _ x (sym h ∙ f)) in
           let holds = demand book r before given in
           record {
             accepted = λ l. given;
@@ -138,17 +130,19 @@ module _ (book : List ℕ) (r : ℕ) (before : List ℕ) where
             zero_keeps = λ z. holds.idle_keeps h;
             refused_keeps = λ l. absurd (omega arith);
           }
-      go (idleness.Needed user rows) h =
+      go (Ok (Some s)) h =
+          let user = s.user in
+          let rows = s.rows in
           let e : answer ≡ 256 * user + rows = same ∙ rw h (omega arith) in
-          let given = idle_told book r before (λ x f. let k = sym h ∙ f in let z : ◌≡◌ {A = ℕ} 0 1 = cc in omega arith) in
+          let given = idle_told book r before (λ x f. value_refused _ x (sym h ∙ f)) in
           let holds = demand book r before given in
           let parts = idle_parts book r before user rows h in
-          let busy : idle_answer book r before ≡ idleness.Idle → ⊥ =
+          let busy : idle_answer book r before ≡ idle → ⊥ =
           λ f. let k = sym h ∙ f in let z : ◌≡◌ {A = ℕ} 0 1 = cc in omega arith in
           let told = holds.otherwise busy in
-          let k : idleness.Needed user rows ≡ idleness.Needed told.0 told.1 = sym h ∙ told.2 in
-          let eu : told.0 ≡ answer / 256 = let f : user ≡ told.0 = cc in omega (arith, parts.1, parts.2, parts.3) in
-          let er : told.1 ≡ answer % 256 = let f : rows ≡ told.1 = cc in omega (arith, parts.1, parts.2, parts.3) in
+          let k = same_shown user rows told.0 told.1 (sym h ∙ told.2) in
+          let eu : told.0 ≡ answer / 256 = omega (arith, k.0, k.1, parts.1, parts.2, parts.3) in
+          let er : told.1 ≡ answer % 256 = omega (arith, k.0, k.1, parts.1, parts.2, parts.3) in
           record {
             accepted = λ l. given;
             accepts = λ g. omega (arith, parts.1, parts.3);
@@ -158,7 +152,7 @@ module _ (book : List ℕ) (r : ℕ) (before : List ℕ) where
             zero_keeps = λ z. absurd (omega (arith, parts.2));
             refused_keeps = λ l. absurd (omega (arith, parts.1, parts.3));
           }
-      go (idleness.Refused x) h =
+      go (Err x) h =
           let e : answer ≡ refusal_packed x = same ∙ rw h in
           let past = refusal_past x (idle_small book r before x h) in
           record {
@@ -171,15 +165,13 @@ module _ (book : List ℕ) (r : ℕ) (before : List ℕ) where
             refused_keeps = λ l. kept x h;
           }
 
--- the whole promise of the call
+-- what the number says
 pub idle_promised :
     (book : List ℕ) (r : ℕ) (before after : List ℕ) (answer : ℕ)
     → answer ≡ idle_packed (idle_answer book r before)
     → after ≡ idle_buffer book r before
-    → (answer ≡ idle_packed (idle_answer book r before))
-    × (after ≡ idle_buffer book r before)
-    × IdleSays book r before after answer
-idle_promised book r before after answer e b = (e, b, rw b (idle_says book r before answer e))
+    → IdleSays book r before after answer
+idle_promised book r before after answer e b = rw b (idle_says book r before answer e)
 
 -- Blocked
 
@@ -193,12 +185,17 @@ module _ (answer user first second third : ℕ) (e : answer ≡ 16777216 * user 
       × (answer / 65536 % 256 ≡ third)
   apart = (omega arith, omega arith, omega arith, omega arith)
 
-  parts_of : (p : Pair) → blocking.Closed user first second third ≡ closed_answer p → BlockedParts answer p
-  unfolding closed_answer
+  parts_of : (p : Pair) → closed user first second third ≡ closed_answer p → BlockedParts answer p
   parts_of p k =
-      record { user = apart.0 ∙ cc; first = apart.1 ∙ cc; second = apart.2 ∙ cc; third = apart.3 ∙ cc }
+      let same = same_closed user first second third p k in
+      record {
+        user = apart.0 ∙ same.0;
+        first = apart.1 ∙ same.1;
+        second = apart.2 ∙ same.2;
+        third = apart.3 ∙ same.3;
+      }
 
-  of_parts : (p : Pair) → BlockedParts answer p → blocking.Closed user first second third ≡ closed_answer p
+  of_parts : (p : Pair) → BlockedParts answer p → closed user first second third ≡ closed_answer p
   unfolding closed_answer
   of_parts p parts =
       rw (
@@ -209,20 +206,20 @@ module _ (answer user first second third : ℕ) (e : answer ≡ 16777216 * user 
       )
 
 module _ (book : List ℕ) (r : ℕ) where
-  tells : BlockedAccepted book r → (x : Refusal) → blocked_answer book r ≡ blocking.Refused x → ⊥
+  tells : BlockedAccepted book r → (x : Refusal) → blocked_answer book r ≡ Err x → ⊥
   tells given x h =
       never_refused (first_closed book r) x
       (sym (blocked.blocked_answer_law book r (blocked.blocked_passes book r given)) ∙ h)
 
   pub blocked_says : (answer : ℕ) → answer ≡ blocked_packed (blocked_answer book r) → BlockedSays book r answer
-  unfolding blocked_packed packed
+  unfolding blocked_packed blocked_value packed
   blocked_says answer same = go (blocked_answer book r) refl
     where
       go : (a : Blocking) → blocked_answer book r ≡ a → BlockedSays book r answer
-      go blocking.Open h =
+      go (Ok None) h =
           let e : answer ≡ 0 = same ∙ rw h (omega arith) in
           let given =
-          blocked.blocked_told book r (λ x f. let k = sym h ∙ f in let z : ◌≡◌ {A = ℕ} 0 1 = cc in omega arith) in
+          blocked.blocked_told book r (λ x f. value_refused _ x (sym h ∙ f)) in
           record {
             accepted = λ l. given;
             accepts = λ g. omega arith;
@@ -231,13 +228,17 @@ module _ (book : List ℕ) (r : ℕ) where
             shows = λ some low. absurd (omega arith);
             named = λ p within parts some low. absurd (omega arith);
           }
-      go (blocking.Closed user first second third) h =
+      go (Ok (Some x)) h =
+          let user = x.user in
+          let first = x.first in
+          let second = x.second in
+          let third = x.third in
           let e : answer ≡ 16777216 * user + first + 256 * second + 65536 * third = same ∙ rw h (omega arith) in
           let given =
-          blocked.blocked_told book r (λ x f. let k = sym h ∙ f in let z : ◌≡◌ {A = ℕ} 0 1 = cc in omega arith) in
+          blocked.blocked_told book r (λ x f. value_refused _ x (sym h ∙ f)) in
           let holds = blocked.demand book r given in
           let b = blocked_bytes book r user first second third h in
-          let closed : blocked_answer book r ≡ blocking.Open → ⊥ =
+          let closed : blocked_answer book r ≡ open_answer → ⊥ =
           λ f. let k = sym h ∙ f in let z : ◌≡◌ {A = ℕ} 0 1 = cc in omega arith in
           let told = holds.otherwise closed in
           record {
@@ -250,7 +251,7 @@ module _ (book : List ℕ) (r : ℕ) where
             named = λ p within parts some low.
                 holds.named p within (h ∙ of_parts answer user first second third e b p parts);
           }
-      go (blocking.Refused x) h =
+      go (Err x) h =
           let e : answer ≡ refusal_packed x = same ∙ rw h in
           let past = refusal_past x (blocked_small book r x h) in
           record {
@@ -269,36 +270,36 @@ module _ (book : List ℕ) (r : ℕ) where
   reads :
       (p : Pair)
       → BlockedAccepted book r
-      → (blocked_answer book r ≡ blocking.Open → ⊥)
+      → (blocked_answer book r ≡ open_answer → ⊥)
       → BlockedParts (blocked_packed (blocked_answer book r)) p
       → blocked_answer book r ≡ closed_answer p
-  unfolding blocked_packed packed
+  unfolding blocked_packed blocked_value packed
   reads p given closed = go (blocked_answer book r) refl
     where
       go : (a : Blocking) → blocked_answer book r ≡ a → BlockedParts (blocked_packed a) p → a ≡ closed_answer p
-      go blocking.Open h parts = absurd (closed h)
-      go (blocking.Closed user first second third) h parts =
-          of_parts (blocked_packed (blocking.Closed user first second third)) user first second third (omega arith)
-          (blocked_bytes book r user first second third h) p parts
-      go (blocking.Refused x) h parts = absurd (tells book r given x h)
+      go (Ok None) h parts = absurd (closed h)
+      go (Ok (Some x)) h parts =
+          of_parts (blocked_packed (Ok (Some x))) x.user x.first x.second x.third (omega arith)
+          (blocked_bytes book r x.user x.first x.second x.third h) p parts
+      go (Err x) h parts = absurd (tells book r given x h)
 
-  same_few : (a b : ℕ) → causes.Few a ≡ causes.Few b → a ≡ b
+  same_few : (a b : ℕ) → few_answer a ≡ few_answer b → a ≡ b
   same_few a b e = cc
 
-  tells_causes : BlockedAccepted book r → (x : Refusal) → culprits_answer book r ≡ causes.Refused x → ⊥
+  tells_causes : BlockedAccepted book r → (x : Refusal) → culprits_answer book r ≡ Err x → ⊥
   tells_causes given x h =
       no_cause_refused book r (first_closed book r) x
       (sym (few.culprits_answer_law book r (blocked.blocked_passes book r given)) ∙ h)
 
   pub culprits_says : (answer : ℕ) → answer ≡ culprits_packed r (culprits_answer book r) → CulpritsSays book r answer
-  unfolding culprits_packed packed
+  unfolding culprits_packed culprits_value packed
   culprits_says answer same = go (culprits_answer book r) refl
     where
       go : (a : Causes) → culprits_answer book r ≡ a → CulpritsSays book r answer
-      go causes.Unblocked h =
+      go (Ok None) h =
           let e : answer ≡ 0 = same ∙ rw h (omega arith) in
           let given =
-          few.culprits_given book r (λ x f. let k = sym h ∙ f in let z : ◌≡◌ {A = ℕ} 0 1 = cc in omega arith) in
+          few.culprits_given book r (λ x f. value_refused _ x (sym h ∙ f)) in
           record {
             accepted = λ l. given;
             accepts = λ g. omega arith;
@@ -307,12 +308,12 @@ module _ (book : List ℕ) (r : ℕ) where
             shows = λ some low. absurd (omega arith);
             named = λ p mask within parts f low. let some = pow_pos r in absurd (omega arith);
           }
-      go (causes.Few mask) h =
+      go (Ok (Some mask)) h =
           let e : answer ≡ mask + 2 ^ r = same ∙ rw h (omega arith) in
           let m = few.culprits_mask book r mask h in
           let given = m.0 in
           let holds = few.caused book r given in
-          let closed : culprits_answer book r ≡ causes.Unblocked → ⊥ =
+          let closed : culprits_answer book r ≡ unblocked → ⊥ =
           λ f. let k = sym h ∙ f in let z : ◌≡◌ {A = ℕ} 0 1 = cc in omega arith in
           let fits : answer < 4294967296 = rw e (asking_fits mask r m.2 m.1 m.3) in
           let some : 0 < answer = rw e (asking_some mask r m.2 m.1 m.3) in
@@ -333,9 +334,9 @@ module _ (book : List ℕ) (r : ℕ) where
                 let same : mask ≡ other = omega arith in
                 holds.named p other within
                 (reads p given (λ f. closed (holds.none_unblocked ((blocked.demand book r given).open_none f))) parts)
-                (h ∙ ap causes.Few same);
+                (h ∙ ap few_answer same);
           }
-      go (causes.Refused x) h =
+      go (Err x) h =
           let e : answer ≡ refusal_packed x = same ∙ rw h in
           let past = refusal_past x (culprits_small book r x h) in
           record {
@@ -353,7 +354,7 @@ module _
     (book : List ℕ) (user : ℕ) (plan ledger : List ℕ) (tally : Tally) (holds : Holds) (answer : ℕ)
   where
     -- tally and hold record on leaving, by the outcome of the tests and by whether the plan is held
-    abbrev counted_if : Tested → Bool → Tally
+    abbrev counted_if : Outcome → Bool → Tally
     counted_if t held =
         refused_or t (λ x. tally)
         (cond held tally
@@ -363,20 +364,21 @@ module _
           dropped = tally.dropped;
         }))
 
-    abbrev kept_if : Tested → Bool → Holds
+    abbrev kept_if : Outcome → Bool → Holds
     kept_if t held =
         refused_or t (λ x. holds)
         (cond held
         (placed holds (empty_place holds) user (given_to user tally holds + 1) (access_words (head_of book) plan)) holds)
 
     -- what is said then
-    abbrev AskSaid : Tested → Bool → Type 0
+    abbrev AskSaid : Outcome → Bool → Type 0
     AskSaid t held =
         answer
         ≡ reply_packed
-        (refused_or t reply.Refused
-        (cond held (reply.Held (given_to user tally holds + 1))
-        (reply.Declined (ask_mask book user plan ledger tally holds))))
+        (refused_or t Err
+        (Ok
+        (cond held (Held (given_to user tally holds + 1))
+        (Declined (ask_mask book user plan ledger tally holds)))))
         → Continues book (record { user = user; call = Ask plan })
         (record { ledger = ledger; tally = tally; holds = holds })
         (record { ledger = ledger; tally = counted_if t held; holds = kept_if t held })
@@ -384,13 +386,13 @@ module _
 
     ask_refused :
         (x : Refusal) (held : Bool)
-        → first_failing (ask_tests book user plan ledger tally holds) ≡ tested.Refused x
-        → AskSaid (tested.Refused x) held
+        → first_failing (ask_tests book user plan ledger tally holds) ≡ Err x
+        → AskSaid (Err x) held
     unfolding reply_packed refused_or
     ask_refused x held f same continued =
         let past = refusal_past x (ask_bounded book user plan ledger tally holds x f) in
         let never : AskAccepted book user plan ledger tally holds → ⊥ =
-        λ given. refused_passed x (sym f ∙ ask_passes book user plan ledger tally holds given) in
+        λ given. refused_passed x tt (sym f ∙ ask_passes book user plan ledger tally holds given) in
         record {
           accepted = λ l. absurd (omega arith);
           accepts = λ g. absurd (never g);
@@ -408,8 +410,8 @@ module _
         }
 
     module _ (given : AskAccepted book user plan ledger tally holds) where
-      ask_held : ask_mask book user plan ledger tally holds ≡ 0 → AskSaid tested.Passed true
-      unfolding reply_packed packed refused_or
+      ask_held : ask_mask book user plan ledger tally holds ≡ 0 → AskSaid (Ok tt) true
+      unfolding reply_packed asked_value packed refused_or
       ask_held zero same continued =
           let few = given_few book user plan ledger tally holds given in
           let e : answer ≡ 4294967296 + (given_to user tally holds + 1) = same ∙ omega arith in
@@ -429,8 +431,8 @@ module _
             continues = continued;
           }
 
-      ask_declined : (ask_mask book user plan ledger tally holds ≡ 0 → ⊥) → AskSaid tested.Passed false
-      unfolding reply_packed packed refused_or ask_mask
+      ask_declined : (ask_mask book user plan ledger tally holds ≡ 0 → ⊥) → AskSaid (Ok tt) false
+      unfolding reply_packed asked_value packed refused_or ask_mask
       ask_declined some same continued =
           let mask = ask_mask book user plan ledger tally holds in
           let e : answer ≡ mask = same ∙ omega arith in
@@ -455,7 +457,7 @@ module _
             continues = continued;
           }
 
--- the whole promise of the call
+-- what the number says
 pub ask_promised :
     (book : List ℕ) (user : ℕ) (plan ledger : List ℕ) (tally : Tally) (holds : Holds) (answer : ℕ) (counted : Tally)
     (kept : Holds)
@@ -465,21 +467,14 @@ pub ask_promised :
     → Continues book (record { user = user; call = Ask plan })
     (record { ledger = ledger; tally = tally; holds = holds })
     (record { ledger = ledger; tally = counted; holds = kept })
-    → (answer ≡ reply_packed (ask_answer book user plan ledger tally holds))
-    × (counted ≡ ask_tally book user plan ledger tally holds)
-    × (kept ≡ ask_holds book user plan ledger tally holds)
-    × AskSays book user plan ledger tally counted holds kept answer
+    → AskSays book user plan ledger tally counted holds kept answer
 unfolding ask_answer ask_tally ask_holds answered
-ask_promised book user plan ledger tally holds answer counted kept e et eh continued = (
-  e,
-  et,
-  eh,
-  rw (et, eh)
-      (ask_cases book user plan ledger tally holds (AskSaid book user plan ledger tally holds answer)
-      (ask_refused book user plan ledger tally holds answer) (ask_held book user plan ledger tally holds answer)
-      (ask_declined book user plan ledger tally holds answer) e
-      (rw (et, eh) at continued)),
-)
+ask_promised book user plan ledger tally holds answer counted kept e et eh continued =
+    rw (et, eh)
+    (ask_cases book user plan ledger tally holds (AskSaid book user plan ledger tally holds answer)
+    (ask_refused book user plan ledger tally holds answer) (ask_held book user plan ledger tally holds answer)
+    (ask_declined book user plan ledger tally holds answer) e
+    (rw (et, eh) at continued))
 
 -- Commit and Drop
 
@@ -495,20 +490,20 @@ module _
     -- what is refused was not accepted
     never_accepted :
         (x : Refusal)
-        → first_failing (settle_tests book user number ledger holds) ≡ tested.Refused x
+        → first_failing (settle_tests book user number ledger holds) ≡ Err x
         → SettleAccepted book user number ledger holds
         → ⊥
-    never_accepted x f given = refused_passed x (sym f ∙ settle_passes book user number ledger holds given)
+    never_accepted x f given = refused_passed x tt (sym f ∙ settle_passes book user number ledger holds given)
 
     -- the reply, and what is left, by the outcome of the tests
-    abbrev settled_if : Tested → Reply
-    settled_if t = refused_or t reply.Refused (reply.Settled number)
+    abbrev settled_if : Outcome → Result ℕ Refusal
+    settled_if t = refused_or t Err (Ok number)
 
-    abbrev ledger_if : Tested → List ℕ
+    abbrev ledger_if : Outcome → List ℕ
     ledger_if t =
         refused_or t (λ x. ledger) (joined_for ledger user (words_of holds.words (place_of holds user number)))
 
-    abbrev admitted_if : Tested → Tally
+    abbrev admitted_if : Outcome → Tally
     admitted_if t =
         refused_or t (λ x. tally)
         (record {
@@ -517,7 +512,7 @@ module _
           dropped = tally.dropped;
         })
 
-    abbrev dropped_if : Tested → Tally
+    abbrev dropped_if : Outcome → Tally
     dropped_if t =
         refused_or t (λ x. tally)
         (record {
@@ -526,12 +521,12 @@ module _
           dropped = raised_for tally.dropped user;
         })
 
-    abbrev freed_if : Tested → Holds
+    abbrev freed_if : Outcome → Holds
     freed_if t = refused_or t (λ x. holds) (freed holds (place_of holds user number))
 
-    abbrev CommitSaid : Tested → Type 0
+    abbrev CommitSaid : Outcome → Type 0
     CommitSaid t =
-        answer ≡ reply_packed (settled_if t)
+        answer ≡ settle_packed (settled_if t)
         → Continues book (record { user = user; call = Commit number })
         (record { ledger = ledger; tally = tally; holds = holds })
         (record { ledger = ledger_if t; tally = admitted_if t; holds = freed_if t })
@@ -539,9 +534,9 @@ module _
 
     commit_refused :
         (x : Refusal)
-        → first_failing (settle_tests book user number ledger holds) ≡ tested.Refused x
-        → CommitSaid (tested.Refused x)
-    unfolding reply_packed refused_or
+        → first_failing (settle_tests book user number ledger holds) ≡ Err x
+        → CommitSaid (Err x)
+    unfolding settle_packed refused_or
     commit_refused x f same continued =
         let past = refusal_past x (settle_bounded book user number ledger holds x f) in
         record {
@@ -555,8 +550,8 @@ module _
           continues = continued;
         }
 
-    commit_settled : SettleAccepted book user number ledger holds → CommitSaid tested.Passed
-    unfolding reply_packed packed refused_or
+    commit_settled : SettleAccepted book user number ledger holds → CommitSaid (Ok tt)
+    unfolding settle_packed number_value packed refused_or
     commit_settled given same continued =
         let e : answer ≡ number = same ∙ omega arith in
         let low = settler_low book user number ledger holds given in
@@ -573,9 +568,9 @@ module _
           continues = continued;
         }
 
-    abbrev DropSaid : Tested → Type 0
+    abbrev DropSaid : Outcome → Type 0
     DropSaid t =
-        answer ≡ reply_packed (settled_if t)
+        answer ≡ settle_packed (settled_if t)
         → Continues book (record { user = user; call = Drop number })
         (record { ledger = ledger; tally = tally; holds = holds })
         (record { ledger = ledger; tally = dropped_if t; holds = freed_if t })
@@ -583,9 +578,9 @@ module _
 
     drop_refused :
         (x : Refusal)
-        → first_failing (settle_tests book user number ledger holds) ≡ tested.Refused x
-        → DropSaid (tested.Refused x)
-    unfolding reply_packed refused_or
+        → first_failing (settle_tests book user number ledger holds) ≡ Err x
+        → DropSaid (Err x)
+    unfolding settle_packed refused_or
     drop_refused x f same continued =
         let past = refusal_past x (settle_bounded book user number ledger holds x f) in
         record {
@@ -597,8 +592,8 @@ module _
           continues = continued;
         }
 
-    drop_settled : SettleAccepted book user number ledger holds → DropSaid tested.Passed
-    unfolding reply_packed packed refused_or
+    drop_settled : SettleAccepted book user number ledger holds → DropSaid (Ok tt)
+    unfolding settle_packed number_value packed refused_or
     drop_settled given same continued =
         let e : answer ≡ number = same ∙ omega arith in
         record {
@@ -610,59 +605,43 @@ module _
           continues = continued;
         }
 
--- the whole promises of the two calls
+-- what the numbers of the two calls say
 pub commit_promised :
     (book : List ℕ) (user number : ℕ) (before after : List ℕ) (tally counted : Tally) (holds kept : Holds) (answer : ℕ)
     → number < 4294967296
-    → answer ≡ reply_packed (settle_answer book user number before holds)
+    → answer ≡ settle_packed (settle_answer book user number before holds)
     → counted ≡ commit_tally book user number before holds tally
     → kept ≡ settle_holds book user number before holds
     → after ≡ commit_ledger book user number before holds
     → Continues book (record { user = user; call = Commit number })
     (record { ledger = before; tally = tally; holds = holds })
     (record { ledger = after; tally = counted; holds = kept })
-    → (answer ≡ reply_packed (settle_answer book user number before holds))
-    × (counted ≡ commit_tally book user number before holds tally)
-    × (kept ≡ settle_holds book user number before holds)
-    × (after ≡ commit_ledger book user number before holds)
-    × CommitSays book user number before after tally counted holds kept answer
+    → CommitSays book user number before after tally counted holds kept answer
 unfolding settle_answer commit_tally settle_holds commit_ledger answered
-commit_promised book user number before after tally counted holds kept answer fits e et eh el continued = (
-  e,
-  et,
-  eh,
-  el,
-  rw (et, eh, el)
-      (settle_cases book user number before holds (CommitSaid book user number before tally holds answer fits)
-      (commit_refused book user number before tally holds answer fits)
-      (commit_settled book user number before tally holds answer fits) e
-      (rw (et, eh, el) at continued)),
-)
+commit_promised book user number before after tally counted holds kept answer fits e et eh el continued =
+    rw (et, eh, el)
+    (settle_cases book user number before holds (CommitSaid book user number before tally holds answer fits)
+    (commit_refused book user number before tally holds answer fits)
+    (commit_settled book user number before tally holds answer fits) e
+    (rw (et, eh, el) at continued))
 
 pub drop_promised :
     (book : List ℕ) (user number : ℕ) (ledger : List ℕ) (tally counted : Tally) (holds kept : Holds) (answer : ℕ)
     → number < 4294967296
-    → answer ≡ reply_packed (settle_answer book user number ledger holds)
+    → answer ≡ settle_packed (settle_answer book user number ledger holds)
     → counted ≡ drop_tally book user number ledger holds tally
     → kept ≡ settle_holds book user number ledger holds
     → Continues book (record { user = user; call = Drop number })
     (record { ledger = ledger; tally = tally; holds = holds })
     (record { ledger = ledger; tally = counted; holds = kept })
-    → (answer ≡ reply_packed (settle_answer book user number ledger holds))
-    × (counted ≡ drop_tally book user number ledger holds tally)
-    × (kept ≡ settle_holds book user number ledger holds)
-    × DropSays book user number ledger tally counted holds kept answer
+    → DropSays book user number ledger tally counted holds kept answer
 unfolding settle_answer drop_tally settle_holds answered
-drop_promised book user number ledger tally counted holds kept answer fits e et eh continued = (
-  e,
-  et,
-  eh,
-  rw (et, eh)
-      (settle_cases book user number ledger holds (DropSaid book user number ledger tally holds answer fits)
-      (drop_refused book user number ledger tally holds answer fits)
-      (drop_settled book user number ledger tally holds answer fits) e
-      (rw (et, eh) at continued)),
-)
+drop_promised book user number ledger tally counted holds kept answer fits e et eh continued =
+    rw (et, eh)
+    (settle_cases book user number ledger holds (DropSaid book user number ledger tally holds answer fits)
+    (drop_refused book user number ledger tally holds answer fits)
+    (drop_settled book user number ledger tally holds answer fits) e
+    (rw (et, eh) at continued))
 
 -- Tree
 
@@ -671,14 +650,16 @@ module _ (book plan : List ℕ) (row : ℕ) (before : List ℕ) where
       (answer : ℕ)
       → answer ≡ tree_packed (tree_answer book plan row before)
       → TreeSays book plan row before (tree_buffer book plan row before) answer
-  unfolding tree_packed packed
+  unfolding tree_packed tree_value packed
   tree_says answer same = go (tree_answer book plan row before) refl
     where
       go :
-          (a : Drawn)
+          (a : Result Written Refusal)
           → tree_answer book plan row before ≡ a
           → TreeSays book plan row before (tree_buffer book plan row before) answer
-      go (drawing.Written nodes length) h =
+      go (Ok w) h =
+          let nodes = w.nodes in
+          let length = w.length in
           let e : answer ≡ 1048576 * (nodes - 1) + length = same ∙ rw h (omega arith) in
           let parts = tree_parts book plan row before nodes length h in
           let low = parts.1 in
@@ -690,7 +671,7 @@ module _ (book plan : List ℕ) (row : ℕ) (before : List ℕ) where
             draws = λ l. rw (en, el) (answer_draws book plan row before nodes length h);
             refused_keeps = λ l. absurd (omega arith);
           }
-      go (drawing.Refused x) h =
+      go (Err x) h =
           let e : answer ≡ refusal_packed x = same ∙ rw h in
           let past = refusal_past x (tree_small book plan row before x h) in
           record {
@@ -700,12 +681,10 @@ module _ (book plan : List ℕ) (row : ℕ) (before : List ℕ) where
             refused_keeps = λ l. answer_refused book plan row before x h;
           }
 
--- the whole promise of the call
+-- what the number says
 pub tree_promised :
     (book plan : List ℕ) (row : ℕ) (before after : List ℕ) (answer : ℕ)
     → answer ≡ tree_packed (tree_answer book plan row before)
     → after ≡ tree_buffer book plan row before
-    → (answer ≡ tree_packed (tree_answer book plan row before))
-    × (after ≡ tree_buffer book plan row before)
-    × TreeSays book plan row before after answer
-tree_promised book plan row before after answer e b = (e, b, rw b (tree_says book plan row before answer e))
+    → TreeSays book plan row before after answer
+tree_promised book plan row before after answer e b = rw b (tree_says book plan row before answer e)

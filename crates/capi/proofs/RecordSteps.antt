@@ -1,6 +1,6 @@
--- Tally, hold record and what the calls by value hand back, as values of the machine, and the two steps of a walk over
--- a record behind a reference: it is opened, and closed over another. Assumes nothing.
-use Prim.Native.Nat.{ℕ, ◌<◌, ◌^◌}
+-- Tally and hold record as values of the machine, and the two steps of a walk over a record behind a reference: it is
+-- opened, and closed over another. Assumes nothing.
+use Prim.Native.Nat.{ℕ}
 use mathlib.Core.List.{List, [], ◌∷◌}
 use seplogic.Ra.Ura.{Ura}
 use base.Fraction.{full_share}
@@ -23,26 +23,12 @@ use Rattle.ledger.specs.contracts.Tally as T
 use Rattle.ledger.proofs.Tally.TheLaws as T'
 use Rattle.ledger.specs.contracts.Holds as P
 use Rattle.ledger.proofs.Holds.TheLaws as P'
-use Rattle.capi.specs.declared.Done.{Done}
-use Rattle.capi.specs.contracts.Done as D
-use Rattle.capi.proofs.Done.TheLaws as D'
 
 abbrev pub counts : Tally → Val
 counts t = LL.val T.the_type T'.the_laws t
 
 abbrev pub places : Holds → Val
 places h = LL.val P.the_type P'.the_laws h
-
--- The parts of what is handed back
-
-pub done_tally : (r : Done) (w : Val) → Is D.the_row r (w ∷ []) → Is T.the_row r.tally (counts r.tally ∷ [])
-done_tally r w is = (LL.owed D.the_type D'.the_laws r _ is).1.0
-
-pub done_holds : (r : Done) (w : Val) → Is D.the_row r (w ∷ []) → Is P.the_row r.holds (places r.holds ∷ [])
-done_holds r w is = (LL.owed D.the_type D'.the_laws r _ is).1.1.0
-
-pub done_fits : (r : Done) (w : Val) → Is D.the_row r (w ∷ []) → r.answer < 2 ^ 64
-done_fits r w is = (LL.owed D.the_type D'.the_laws r _ is).0.1
 
 -- A record behind a reference
 

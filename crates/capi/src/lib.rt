@@ -1,10 +1,10 @@
-// The thirteen calls for C and Rust, each answer packed in one number (specs/Packing.antt). What the
-// numbers of Judge, Idle, Blocked, Culprits, Ask, Commit, Drop, Arrive, Depart and Tree mean is
-// specs/Demands.antt. A slice is a pointer and a length in elements, a record or an array a pointer.
-// No call asks anything of the bytes or the numbers it is given.
+//! The thirteen calls for C and Rust, each answer packed in one number (specs/Packing.antt). What the
+//! numbers of Judge, Idle, Blocked, Culprits, Ask, Commit, Drop, Arrive, Depart and Tree mean is
+//! specs/Demands.antt. A slice is a pointer and a length in elements, a record or an array a pointer.
+//! No call asks anything of the bytes or the numbers it is given.
 #![tactic(auto)]
 
-ghost use Rattle.std.specs.Prelude.{◌≡◌, ◌<◌};
+ghost use Rattle.std.specs.Prelude.{◌≡◌, ◌%◌, ℕ};
 ghost use Rattle.book.specs.Answers.{check_answer, seal_answer, seal_bytes};
 ghost use Rattle.lineage.specs.Answers.{flows_answer, flows_words};
 ghost use Rattle.verdicts.specs.Answers.{judge_answer};
@@ -17,159 +17,212 @@ ghost use Rattle.editing.specs.Answers.{depart_answer, depart_blocks, depart_mar
 ghost use Rattle.trees.specs.Answers.{tree_answer, tree_buffer};
 ghost use Rattle.capi.specs.Demands.{ArriveSays, AskSays, BlockedSays, CommitSays, CulpritsSays, DepartSays};
 ghost use Rattle.capi.specs.Demands.{DropSays, IdleSays, JudgeSays, TreeSays};
-ghost use Rattle.capi.specs.Packing.{blocked_packed, check_packed, culprits_packed, flows_packed, idle_packed};
-ghost use Rattle.capi.specs.Packing.{edit_packed, judge_packed, refusal_packed, reply_packed, seal_packed, tree_packed};
+ghost use Rattle.capi.specs.Packing.{answer_packed, asked_value, blocked_packed, blocked_value, check_packed};
+ghost use Rattle.capi.specs.Packing.{culprits_packed, culprits_value, done_value, edit_packed, flows_packed, idle_packed, idle_value};
+ghost use Rattle.capi.specs.Packing.{judge_packed, judge_value, number_value, refusal_packed, reply_packed};
+ghost use Rattle.capi.specs.Packing.{seal_packed, settle_packed, tree_packed, tree_value};
 
-use blocked::{Blocking, Causes, blocked, culprits};
-use book::{Checked, Refusal, Sealed, check, seal};
-use editing::{Edited, arrive, depart};
-use ledger::{Holds, Reply, Tally, ask, commit, drop_hold};
-use lineage::{Flowed, flows};
-use search::{Idleness, idle};
-use trees::{Drawn, tree};
-use verdicts::{Judged, judge};
+use blocked::{Closed, blocked, culprits};
+use book::{Refusal, check, seal};
+use editing::{arrive, depart};
+use ledger::{Asked, Holds, Tally, ask, commit, drop_hold};
+use lineage::flows;
+use search::{Shown, idle};
+use trees::{Written, tree};
+use verdicts::{Broken, judge};
 
-// A refusal's number and place, above the value's 32 bits.
-fn packed(refusal: Refusal) -> u64
-    ensures { refusal.number < 256 → refusal.place < 256 → result ≡ refusal_packed refusal }
-{
-    let number = (refusal.number % 256) as u64;
-    let place = (refusal.place % 256) as u64;
-    1099511627776 * number + 4294967296 * place
+// Numbers for answers, refusals and none, one function a call: the C interface has them so.
+
+/// What a call says where nothing refuses it, as a number.
+trait Answer: Drop {
+    ghost value: { Self → ℕ };
+
+    fn value(self) -> u64
+        ensures { result ≡ value self };
 }
 
+impl Answer for () {
+    ghost value = { done_value };
+
+    #[tactic(auto, unfolding(crate::specs::Packing::packed, crate::specs::Packing::done_value))]
+    fn value(self) -> u64 {
+        0
+    }
+}
+
+impl Answer for u32 {
+    ghost value = { number_value };
+
+    #[tactic(auto, unfolding(crate::specs::Packing::packed, crate::specs::Packing::number_value))]
+    fn value(self) -> u64 {
+        u64::from(self)
+    }
+}
+
+// For u64 as for u32: an impl for all `Into<u64>` would overlap with the others.
+impl Answer for u64 {
+    ghost value = { number_value };
+
+    #[tactic(auto, unfolding(crate::specs::Packing::packed, crate::specs::Packing::number_value))]
+    fn value(self) -> u64 {
+        self
+    }
+}
+
+impl Answer for Broken {
+    ghost value = { judge_value };
+
+    #[tactic(auto, unfolding(crate::specs::Packing::packed, crate::specs::Packing::judge_value))]
+    fn value(self) -> u64 {
+        u64::from(self.mask)
+    }
+}
+
+impl Answer for Option<Shown> {
+    ghost value = { idle_value };
+
+    #[tactic(auto, unfolding(crate::specs::Packing::packed, crate::specs::Packing::idle_value))]
+    fn value(self) -> u64 {
+        self.map_or(
+            0,
+            |shown| 256 * u64::from(shown.user) + u64::from(shown.rows),
+        )
+    }
+}
+
+impl Answer for Option<Closed> {
+    ghost value = { blocked_value };
+
+    #[tactic(auto, unfolding(crate::specs::Packing::packed, crate::specs::Packing::blocked_value))]
+    fn value(self) -> u64 {
+        match self {
+            None => 0,
+            Some(closed) => {
+                16777216 * u64::from(closed.user)
+                    + u64::from(closed.first)
+                    + 256 * u64::from(closed.second)
+                    + 65536 * u64::from(closed.third)
+            }
+        }
+    }
+}
+
+impl Answer for Asked {
+    ghost value = { asked_value };
+
+    #[tactic(auto, unfolding(crate::specs::Packing::packed, crate::specs::Packing::asked_value))]
+    fn value(self) -> u64 {
+        match self {
+            Asked::Held(number) => 4294967296 + u64::from(number),
+            Asked::Declined(mask) => u64::from(mask),
+        }
+    }
+}
+
+impl Answer for Written {
+    ghost value = { tree_value };
+
+    #[tactic(auto, unfolding(crate::specs::Packing::packed, crate::specs::Packing::tree_value))]
+    fn value(self) -> u64 {
+        1048576 * u64::from(self.nodes.saturating_sub(1)) + u64::from(self.length)
+    }
+}
+
+/// An answer as one number: its value, or the refusal's number and place above the value's 32 bits.
+#[tactic(auto, unfolding(crate::specs::Packing::packed, crate::specs::Packing::refusal_packed))]
+fn pack<A: Answer>(answer: Result<A, Refusal>) -> u64
+    ensures { result ≡ answer_packed A.value answer }
+{
+    match answer {
+        Ok(said) => said.value(),
+        Err(refusal) => {
+            let number = u64::from(refusal.number());
+            let place = u64::from(refusal.place());
+            1099511627776 * number + 4294967296 * place
+        }
+    }
+}
+
+/// Book check.
+#[tactic(auto, unfolding(crate::specs::Packing::check_packed))]
 #[unsafe(no_mangle)]
 pub extern "C" fn pspec_check(book: &[u8]) -> u64
     ensures { result ≡ check_packed (check_answer book.now) }
 {
-    match check(book) {
-        Checked::Refused(refusal) => packed(refusal),
-        Checked::Accepted(rules) => rules as u64,
-    }
+    pack(check(book))
 }
 
+/// Seal.
+#[tactic(auto, unfolding(crate::specs::Packing::seal_packed))]
 #[unsafe(no_mangle)]
 pub extern "C" fn pspec_seal(block: &mut [u8]) -> u64
-    ensures { (result ≡ seal_packed (seal_answer block.old))
-        × (block.new ≡ seal_bytes block.old) }
+    ensures answer { result ≡ seal_packed (seal_answer block.old) }
+    ensures block { block.new ≡ seal_bytes block.old }
 {
-    let answer = seal(block);
-    match answer {
-        Sealed::Refused(refusal) => packed(refusal),
-        Sealed::Done => 0,
-    }
+    pack(seal(block))
 }
 
+/// Flows.
+#[tactic(auto, unfolding(crate::specs::Packing::flows_packed))]
 #[unsafe(no_mangle)]
 pub extern "C" fn pspec_flows(book: &[u8], plan: &[u8], words: &mut [u64]) -> u64
-    ensures { (result ≡ flows_packed (flows_answer book.now plan.now words.old))
-        × (words.new ≡ flows_words book.now plan.now words.old) }
+    ensures answer { result ≡ flows_packed (flows_answer book.now plan.now words.old) }
+    ensures words { words.new ≡ flows_words book.now plan.now words.old }
 {
-    let answer = flows(book, plan, words);
-    match answer {
-        Flowed::Refused(refusal) => packed(refusal),
-        Flowed::Done => 0,
-    }
+    pack(flows(book, plan, words))
 }
 
+/// Judge.
+#[tactic(auto, unfolding(crate::specs::Packing::judge_packed))]
 #[unsafe(no_mangle)]
 pub extern "C" fn pspec_judge(book: &[u8], user: u32, plan: &[u8]) -> u64
-    ensures { (result ≡ judge_packed (judge_answer book.now user plan.now))
-        × JudgeSays book.now user plan.now result }
+    ensures answer { result ≡ judge_packed (judge_answer book.now user plan.now) }
+    ensures says { JudgeSays book.now user plan.now result }
 {
-    match judge(book, user, plan) {
-        Judged::Refused(refusal) => packed(refusal),
-        Judged::Broken(mask) => mask as u64,
-    }
+    pack(judge(book, user, plan))
 }
 
+/// Idle.
+#[tactic(auto, unfolding(crate::specs::Packing::idle_packed))]
 #[unsafe(no_mangle)]
 pub extern "C" fn pspec_idle(book: &[u8], rule: u32, buffer: &mut [u8]) -> u64
-    ensures { (result ≡ idle_packed (idle_answer book.now rule buffer.old))
-        × (buffer.new ≡ idle_buffer book.now rule buffer.old)
-        × IdleSays book.now rule buffer.old buffer.new result }
+    ensures answer { result ≡ idle_packed (idle_answer book.now rule buffer.old) }
+    ensures buffer { buffer.new ≡ idle_buffer book.now rule buffer.old }
+    ensures says { IdleSays book.now rule buffer.old buffer.new result }
 {
-    let answer = idle(book, rule, buffer);
-    match answer {
-        Idleness::Refused(refusal) => packed(refusal),
-        Idleness::Idle => 0,
-        Idleness::Needed { user, rows } => 256 * (user as u64) + rows as u64,
-    }
+    pack(idle(book, rule, buffer))
 }
 
+/// Blocked.
+#[tactic(auto, unfolding(crate::specs::Packing::blocked_packed))]
 #[unsafe(no_mangle)]
 pub extern "C" fn pspec_blocked(book: &[u8], rule: u32) -> u64
-    ensures { (result ≡ blocked_packed (blocked_answer book.now rule))
-        × BlockedSays book.now rule result }
+    ensures answer { result ≡ blocked_packed (blocked_answer book.now rule) }
+    ensures says { BlockedSays book.now rule result }
 {
-    match blocked(book, rule) {
-        Blocking::Refused(refusal) => packed(refusal),
-        Blocking::Open => 0,
-        Blocking::Closed {
-            user,
-            first,
-            second,
-            third,
-        } => 16777216 * (user as u64)
-            + first as u64
-            + 256 * (second as u64)
-            + 65536 * (third as u64),
-    }
+    pack(blocked(book, rule))
 }
 
+/// The few rules with the asking one among them. A mask is given for rules below 32 alone: the remainder
+/// is for the shift.
+#[tactic(auto, using(crate::proofs::PackedLaws::asking_shift), unfolding(crate::specs::Packing::culprits_value, crate::specs::Packing::packed))]
+fn with_asking(rule: u32, few: Option<u32>) -> u64
+    ensures { result ≡ culprits_value (rule % 32) few }
+{
+    few.map_or(0, |mask| u64::from(mask) + (1u64 << (rule % 32)))
+}
+
+/// Culprits: the mask has the asking rule too.
 #[unsafe(no_mangle)]
 pub extern "C" fn pspec_culprits(book: &[u8], rule: u32) -> u64
-    ensures { (result ≡ culprits_packed rule (culprits_answer book.now rule))
-        × CulpritsSays book.now rule result }
+    ensures answer { result ≡ culprits_packed rule (culprits_answer book.now rule) }
+    ensures says { CulpritsSays book.now rule result }
 {
-    match culprits(book, rule) {
-        Causes::Refused(refusal) => packed(refusal),
-        Causes::Unblocked => 0,
-        Causes::Few(mask) => mask as u64 | (1u64 << (rule % 32)),
-    }
+    pack(culprits(book, rule).map(|few| with_asking(rule, few)))
 }
 
-// A reply packed, and tally and hold record on leaving.
-#[derive(Clone, Copy)]
-struct Done {
-    answer: u64,
-    tally: Tally,
-    holds: Holds,
-}
-
-fn reply_packed(reply: Reply) -> u64
-    ensures { ((refusal : Refusal) → reply ≡ Reply.Refused refusal
-        → (refusal.number < 256) × (refusal.place < 256)) → result ≡ reply_packed reply }
-{
-    match reply {
-        Reply::Refused(refusal) => packed(refusal),
-        Reply::Held(number) => 4294967296 + number as u64,
-        Reply::Declined(mask) => mask as u64,
-        Reply::Settled(number) => number as u64,
-    }
-}
-
-// Ask, with tally and hold record by value.
-fn ask_done(book: &[u8], user: u32, plan: &[u8], ledger: &[u64], tally: Tally, holds: Holds) -> Done
-    ensures { (result.answer
-        ≡ reply_packed (ask_answer book.now user plan.now ledger.now tally holds))
-        × (result.tally ≡ ask_tally book.now user plan.now ledger.now tally holds)
-        × (result.holds ≡ ask_holds book.now user plan.now ledger.now tally holds)
-        × AskSays book.now user plan.now ledger.now tally result.tally holds
-        result.holds result.answer }
-{
-    let outcome = ask(book, user, plan, ledger, tally, holds);
-    let reply = outcome.reply;
-    let counted = outcome.tally;
-    let kept = outcome.holds;
-    Done {
-        answer: reply_packed(reply),
-        tally: counted,
-        holds: kept,
-    }
-}
-
-// Ask: tally and hold record are changed in their owner's hands.
+/// Ask.
+#[tactic(auto, unfolding(crate::specs::Packing::reply_packed))]
 #[unsafe(no_mangle)]
 pub extern "C" fn pspec_ask(
     book: &[u8],
@@ -179,53 +232,16 @@ pub extern "C" fn pspec_ask(
     tally: &mut Tally,
     holds: &mut Holds,
 ) -> u64
-    ensures { (result
-        ≡ reply_packed
-        (ask_answer book.now user plan.now ledger.now tally.old
-        holds.old))
-        × (tally.new
-        ≡ ask_tally book.now user plan.now ledger.now tally.old
-        holds.old)
-        × (holds.new
-        ≡ ask_holds book.now user plan.now ledger.now tally.old
-        holds.old)
-        × AskSays book.now user plan.now ledger.now tally.old
-        tally.new holds.old holds.new result }
+    ensures answer { result ≡ reply_packed (ask_answer book.now user plan.now ledger.now tally.old holds.old) }
+    ensures tally { tally.new ≡ ask_tally book.now user plan.now ledger.now tally.old holds.old }
+    ensures holds { holds.new ≡ ask_holds book.now user plan.now ledger.now tally.old holds.old }
+    ensures says { AskSays book.now user plan.now ledger.now tally.old tally.new holds.old holds.new result }
 {
-    let done = ask_done(book, user, plan, ledger, *tally, *holds);
-    *tally = done.tally;
-    *holds = done.holds;
-    done.answer
+    pack(ask(book, user, plan, ledger, tally, holds))
 }
 
-// Commit, with tally and hold record by value.
-fn commit_done(
-    book: &[u8],
-    user: u32,
-    number: u32,
-    ledger: &mut [u64],
-    tally: Tally,
-    holds: Holds,
-) -> Done
-    ensures { (result.answer
-        ≡ reply_packed (settle_answer book.now user number ledger.old holds))
-        × (result.tally ≡ commit_tally book.now user number ledger.old holds tally)
-        × (result.holds ≡ settle_holds book.now user number ledger.old holds)
-        × (ledger.new ≡ commit_ledger book.now user number ledger.old holds)
-        × CommitSays book.now user number ledger.old ledger.new tally result.tally holds
-        result.holds result.answer }
-{
-    let outcome = commit(book, user, number, ledger, tally, holds);
-    let reply = outcome.reply;
-    let counted = outcome.tally;
-    let kept = outcome.holds;
-    Done {
-        answer: reply_packed(reply),
-        tally: counted,
-        holds: kept,
-    }
-}
-
+/// Commit.
+#[tactic(auto, unfolding(crate::specs::Packing::settle_packed))]
 #[unsafe(no_mangle)]
 pub extern "C" fn pspec_commit(
     book: &[u8],
@@ -235,48 +251,18 @@ pub extern "C" fn pspec_commit(
     tally: &mut Tally,
     holds: &mut Holds,
 ) -> u64
-    ensures { (result
-        ≡ reply_packed (settle_answer book.now user number ledger.old holds.old))
-        × (tally.new
-        ≡ commit_tally book.now user number ledger.old holds.old tally.old)
-        × (holds.new ≡ settle_holds book.now user number ledger.old holds.old)
-        × (ledger.new ≡ commit_ledger book.now user number ledger.old holds.old)
-        × CommitSays book.now user number ledger.old ledger.new tally.old
-        tally.new holds.old holds.new result }
+    ensures answer { result ≡ settle_packed (settle_answer book.now user number ledger.old holds.old) }
+    ensures tally { tally.new ≡ commit_tally book.now user number ledger.old holds.old tally.old }
+    ensures holds { holds.new ≡ settle_holds book.now user number ledger.old holds.old }
+    ensures ledger { ledger.new ≡ commit_ledger book.now user number ledger.old holds.old }
+    ensures says { CommitSays book.now user number ledger.old ledger.new tally.old tally.new
+        holds.old holds.new result }
 {
-    let done = commit_done(book, user, number, ledger, *tally, *holds);
-    *tally = done.tally;
-    *holds = done.holds;
-    done.answer
+    pack(commit(book, user, number, ledger, tally, holds))
 }
 
-// Drop, with tally and hold record by value.
-fn drop_done(
-    book: &[u8],
-    user: u32,
-    number: u32,
-    ledger: &[u64],
-    tally: Tally,
-    holds: Holds,
-) -> Done
-    ensures { (result.answer
-        ≡ reply_packed (settle_answer book.now user number ledger.now holds))
-        × (result.tally ≡ drop_tally book.now user number ledger.now holds tally)
-        × (result.holds ≡ settle_holds book.now user number ledger.now holds)
-        × DropSays book.now user number ledger.now tally result.tally holds result.holds
-        result.answer }
-{
-    let outcome = drop_hold(book, user, number, ledger, tally, holds);
-    let reply = outcome.reply;
-    let counted = outcome.tally;
-    let kept = outcome.holds;
-    Done {
-        answer: reply_packed(reply),
-        tally: counted,
-        holds: kept,
-    }
-}
-
+/// Drop.
+#[tactic(auto, unfolding(crate::specs::Packing::settle_packed))]
 #[unsafe(no_mangle)]
 pub extern "C" fn pspec_drop(
     book: &[u8],
@@ -286,30 +272,17 @@ pub extern "C" fn pspec_drop(
     tally: &mut Tally,
     holds: &mut Holds,
 ) -> u64
-    ensures { (result
-        ≡ reply_packed (settle_answer book.now user number ledger.now holds.old))
-        × (tally.new
-        ≡ drop_tally book.now user number ledger.now holds.old tally.old)
-        × (holds.new ≡ settle_holds book.now user number ledger.now holds.old)
-        × DropSays book.now user number ledger.now tally.old tally.new
+    ensures answer { result ≡ settle_packed (settle_answer book.now user number ledger.now holds.old) }
+    ensures tally { tally.new ≡ drop_tally book.now user number ledger.now holds.old tally.old }
+    ensures holds { holds.new ≡ settle_holds book.now user number ledger.now holds.old }
+    ensures says { DropSays book.now user number ledger.now tally.old tally.new
         holds.old holds.new result }
 {
-    let done = drop_done(book, user, number, ledger, *tally, *holds);
-    *tally = done.tally;
-    *holds = done.holds;
-    done.answer
+    pack(drop_hold(book, user, number, ledger, tally, holds))
 }
 
-fn edit_packed(answer: Edited) -> u64
-    ensures { ((refusal : Refusal) → answer ≡ Edited.Refused refusal
-        → (refusal.number < 256) × (refusal.place < 256)) → result ≡ edit_packed answer }
-{
-    match answer {
-        Edited::Refused(refusal) => packed(refusal),
-        Edited::Marks(mask) => mask as u64,
-    }
-}
-
+/// Arrive.
+#[tactic(auto, unfolding(crate::specs::Packing::edit_packed))]
 #[unsafe(no_mangle)]
 pub extern "C" fn pspec_arrive(
     blocks: &mut [u8; 18432],
@@ -317,22 +290,20 @@ pub extern "C" fn pspec_arrive(
     marks: &mut u32,
     block: &[u8],
 ) -> u64
-    ensures { (result
-        ≡ edit_packed
-        (arrive_answer blocks.entry.now rules.old block.now marks.old))
-        × (blocks.exit.now ≡ arrive_blocks blocks.entry.now rules.old block.now)
-        × (rules.new ≡ arrive_rules blocks.entry.now rules.old block.now)
-        × (marks.new
-        ≡ arrive_marks blocks.entry.now rules.old block.now marks.old)
-        × ArriveSays
-        (record { blocks = blocks.entry.now; rules = rules.old; marks = marks.old })
-        (record { blocks = blocks.exit.now; rules = rules.new; marks = marks.new })
+    ensures answer { result ≡ edit_packed (arrive_answer blocks.old rules.old block.now marks.old) }
+    ensures blocks { blocks.new ≡ arrive_blocks blocks.old rules.old block.now }
+    ensures rules { rules.new ≡ arrive_rules blocks.old rules.old block.now }
+    ensures marks { marks.new ≡ arrive_marks blocks.old rules.old block.now marks.old }
+    ensures says { ArriveSays
+        (record { blocks = blocks.old; rules = rules.old; marks = marks.old })
+        (record { blocks = blocks.new; rules = rules.new; marks = marks.new })
         block.now result }
 {
-    let answer = arrive(blocks, rules, marks, block);
-    edit_packed(answer)
+    pack(arrive(blocks, rules, marks, block))
 }
 
+/// Depart.
+#[tactic(auto, unfolding(crate::specs::Packing::edit_packed))]
 #[unsafe(no_mangle)]
 pub extern "C" fn pspec_depart(
     blocks: &mut [u8; 18432],
@@ -340,27 +311,25 @@ pub extern "C" fn pspec_depart(
     marks: &mut u32,
     rule: u32,
 ) -> u64
-    ensures { (result ≡ edit_packed (depart_answer blocks.entry.now rules.old rule marks.old))
-        × (blocks.exit.now ≡ depart_blocks blocks.entry.now rules.old rule)
-        × (rules.new ≡ depart_rules blocks.entry.now rules.old rule)
-        × (marks.new ≡ depart_marks blocks.entry.now rules.old rule marks.old)
-        × DepartSays
-        (record { blocks = blocks.entry.now; rules = rules.old; marks = marks.old })
-        (record { blocks = blocks.exit.now; rules = rules.new; marks = marks.new }) rule result }
+    ensures answer { result ≡ edit_packed (depart_answer blocks.old rules.old rule marks.old) }
+    ensures blocks { blocks.new ≡ depart_blocks blocks.old rules.old rule }
+    ensures rules { rules.new ≡ depart_rules blocks.old rules.old rule }
+    ensures marks { marks.new ≡ depart_marks blocks.old rules.old rule marks.old }
+    ensures says { DepartSays
+        (record { blocks = blocks.old; rules = rules.old; marks = marks.old })
+        (record { blocks = blocks.new; rules = rules.new; marks = marks.new })
+        rule result }
 {
-    let answer = depart(blocks, rules, marks, rule);
-    edit_packed(answer)
+    pack(depart(blocks, rules, marks, rule))
 }
 
+/// Tree.
+#[tactic(auto, unfolding(crate::specs::Packing::tree_packed))]
 #[unsafe(no_mangle)]
 pub extern "C" fn pspec_tree(book: &[u8], plan: &[u8], row: u32, buffer: &mut [u8]) -> u64
-    ensures { (result ≡ tree_packed (tree_answer book.now plan.now row buffer.old))
-        × (buffer.new ≡ tree_buffer book.now plan.now row buffer.old)
-        × TreeSays book.now plan.now row buffer.old buffer.new result }
+    ensures answer { result ≡ tree_packed (tree_answer book.now plan.now row buffer.old) }
+    ensures buffer { buffer.new ≡ tree_buffer book.now plan.now row buffer.old }
+    ensures says { TreeSays book.now plan.now row buffer.old buffer.new result }
 {
-    let answer = tree(book, plan, row, buffer);
-    match answer {
-        Drawn::Refused(refusal) => packed(refusal),
-        Drawn::Written { nodes, length } => 1048576 * ((nodes as u64) - 1) + length as u64,
-    }
+    pack(tree(book, plan, row, buffer))
 }

@@ -13,7 +13,8 @@ use Rattle.book.specs.Blocks.{head_of, rule_at, block_at, block_count, rule_coun
 use Rattle.book.specs.Tests.{Test, Passes, first_failing}
 use Rattle.book.specs.Refusals.{BookAccepted, between, block_by_block, book_tests, check_tests, content_tests}
 use Rattle.book.specs.Refusals.{kind_holds, kind_tests, length_holds, length_tests, rule_block_tests}
-use Rattle.book.specs.Inner.Testing.{or_else}
+use Rattle.book.specs.declared.refusal.Refusal.{Refusal}
+use Rattle.book.specs.declared.refusal.Refusal.TheVariants.{BookLength, BlockCheck, BlockKind}
 use Rattle.book.proofs.Tests.{kind_rule, rule_passed, rule_tests_law}
 use Rattle.book.proofs.Answers.{append_passed, first_append, flat_passed, last_passed, passed_flat}
 use Rattle.book.proofs.Accepted.{accepted_length}
@@ -28,12 +29,11 @@ part_front (suc a) c (suc n) (x ∷ l) h = part_front a c n l (omega arith)
 
 -- Lists of tests
 
-pub one_passes : (number place : ℕ) (passed : Bool) → passed ≡ true → Passes ((number, place, passed) ∷ [])
+pub one_passes : (refusal : Refusal) (passed : Bool) → passed ≡ true → Passes ((refusal, passed) ∷ [])
 unfolding first_failing
-one_passes number place passed h = rw h
+one_passes refusal passed h = rw h
 
 pub append_passes : (a b : List Test) → Passes a → Passes b → Passes (a ++ b)
-unfolding or_else
 append_passes a b p q = rw (first_append a b, p) q
 
 -- Every test of an accepted book is passed, and a book that passes every test is accepted
@@ -76,7 +76,7 @@ blocks_accepted book m e l passed =
     append_passes (length_tests book ++ checks ++ kinds) contents
     (append_passes (length_tests book ++ checks) kinds
     (append_passes (length_tests book) checks
-    (one_passes 1 0 (length_holds (length book)) (long_enough (length book) m e l))
+    (one_passes BookLength (length_holds (length book)) (long_enough (length book) m e l))
     (flat_passed (check_tests book) (block_count book) passed.checks))
     (flat_passed (kind_tests book) (block_count book) passed.kinds))
     (flat_passed (content_tests book) (block_count book) passed.contents)
@@ -117,14 +117,15 @@ module _ (small book : List ℕ) (head : head_of small ≡ head_of book) where
     rule_checks : Passes (check_tests book j) → Passes (check_tests small i)
     unfolding check_tests
     rule_checks h =
-        one_passes 2 i (check_holds (block_at small i)) (rw e (last_passed 2 j (check_holds (block_at book j)) h))
+        one_passes (BlockCheck i) (check_holds (block_at small i))
+        (rw e (last_passed (BlockCheck j) (check_holds (block_at book j)) h))
 
     rule_kinds : Passes (kind_tests book j) → Passes (kind_tests small i)
     unfolding kind_tests
     rule_kinds h =
         let kind = get_or (block_at book j) 0 0 in
-        let five : eqb kind 5 ≡ true = kind_rule j kind lj ∙ last_passed 3 j (kind_holds j kind) h in
-        one_passes 3 i (kind_holds i (get_or (block_at small i) 0 0)) (rw e (sym (kind_rule i kind li) ∙ five))
+        let five : eqb kind 5 ≡ true = kind_rule j kind lj ∙ last_passed (BlockKind j) (kind_holds j kind) h in
+        one_passes (BlockKind i) (kind_holds i (get_or (block_at small i) 0 0)) (rw e (sym (kind_rule i kind li) ∙ five))
 
     rule_contents : Passes (content_tests book j) → Passes (content_tests small i)
     unfolding content_tests

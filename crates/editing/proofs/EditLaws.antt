@@ -11,10 +11,10 @@ use lib.Dec.{eqb, leb, ltb}
 use borrow.Author.Tests.{eqb-true, eq-eqb, leb-true, le-leb, lt-ltb, le-ltb, ltb-true}
 use Rattle.book.specs.Sets.{has}
 use Rattle.book.specs.Blocks.{head_of, rule_count}
-use Rattle.book.specs.Tests.{Passes, first_failing, refused_or, answered}
+use Rattle.std.specs.Prelude.{Ok, Err}
+use Rattle.book.specs.Tests.{Outcome, Passes, first_failing, refused_or, answered}
 use Rattle.book.specs.Refusals.{BookAccepted, book_tests}
-use Rattle.book.specs.declared.Tested.{Tested}
-use Rattle.book.specs.declared.Tested.TheVariants.{Passed, Refused}
+use Rattle.book.specs.declared.refusal.Refusal.TheVariants.{BookLength, NoRule, RulesFull}
 use Rattle.book.proofs.Lists.{and_false}
 use Rattle.book.proofs.Accepted.{accepted_length}
 use Rattle.book.proofs.Answers.{answered_passed, append_passed, last_passed}
@@ -64,26 +64,34 @@ module _ (book : List ℕ) (n : ℕ) (whole : length book ≡ 512 * (4 + n)) whe
 
 -- What an accepted edit has tested
 
+-- before the book: there is room for a rule, and the block is one
+pub early_accepted :
+    (rules : ℕ) (block : List ℕ)
+    → Passes (room_tests rules ++ new_block_tests block)
+    → (rules < 32) × (length block ≡ 512)
+unfolding room_tests new_block_tests
+early_accepted rules block h =
+    let first = append_passed (room_tests rules) (new_block_tests block) h in (
+      ltb-true rules 32 (last_passed RulesFull (ltb rules 32) first.0),
+      eqb-true (length block) 512 (last_passed BookLength (eqb (length block) 512) first.1),
+    )
+
 module _ (blocks : List ℕ) (rules : ℕ) (block : List ℕ) where
   pub arrive_accepted : Passes (arrive_tests blocks rules block) → ArriveAccepted blocks rules block
-  unfolding arrive_tests arrival_tests room_tests new_block_tests
+  unfolding arrive_tests arrival_tests
   arrive_accepted h =
       let after = with_rule (book_in blocks rules) block in
       let last = append_passed (room_tests rules ++ new_block_tests block) (book_tests after) h in
-      let first = append_passed (room_tests rules) (new_block_tests block) last.0 in
-      record {
-        room = ltb-true rules 32 (last_passed 33 0 (ltb rules 32) first.0);
-        long = eqb-true (length block) 512 (last_passed 1 0 (eqb (length block) 512) first.1);
-        book_accepted = last.1;
-      }
+      let first = early_accepted rules block last.0 in
+      record { room = first.0; long = first.1; book_accepted = last.1 }
 
   pub arrive_passes : ArriveAccepted blocks rules block → Passes (arrive_tests blocks rules block)
   unfolding arrive_tests arrival_tests room_tests new_block_tests
   arrive_passes given =
       append_passes (room_tests rules ++ new_block_tests block) (book_tests (with_rule (book_in blocks rules) block))
       (append_passes (room_tests rules) (new_block_tests block)
-      (one_passes 33 0 (ltb rules 32) (lt-ltb rules 32 given.room))
-      (one_passes 1 0 (eqb (length block) 512) (eq-eqb (length block) 512 given.long)))
+      (one_passes RulesFull (ltb rules 32) (lt-ltb rules 32 given.room))
+      (one_passes BookLength (eqb (length block) 512) (eq-eqb (length block) 512 given.long)))
       given.book_accepted
 
 module _ (blocks : List ℕ) (rules r : ℕ) where
@@ -94,9 +102,9 @@ module _ (blocks : List ℕ) (rules r : ℕ) where
       let last = append_passed (number_tests rules ++ book_tests book) (rule_tests book r) h in
       let first = append_passed (number_tests rules) (book_tests book) last.0 in
       record {
-        few = leb-true rules 32 (last_passed 1 0 (leb rules 32) first.0);
+        few = leb-true rules 32 (last_passed BookLength (leb rules 32) first.0);
         book_accepted = first.1;
-        rule_there = ltb-true r (rule_count book) (last_passed 24 0 (ltb r (rule_count book)) last.1);
+        rule_there = ltb-true r (rule_count book) (last_passed NoRule (ltb r (rule_count book)) last.1);
       }
 
   pub depart_passes : DepartAccepted blocks rules r → Passes (depart_tests blocks rules r)
@@ -105,8 +113,8 @@ module _ (blocks : List ℕ) (rules r : ℕ) where
       let book = book_in blocks rules in
       append_passes (number_tests rules ++ book_tests book) (rule_tests book r)
       (append_passes (number_tests rules) (book_tests book)
-      (one_passes 1 0 (leb rules 32) (le-leb rules 32 given.few)) given.book_accepted)
-      (one_passes 24 0 (ltb r (rule_count book)) (lt-ltb r (rule_count book) given.rule_there))
+      (one_passes BookLength (leb rules 32) (le-leb rules 32 given.few)) given.book_accepted)
+      (one_passes NoRule (ltb r (rule_count book)) (lt-ltb r (rule_count book) given.rule_there))
 
 -- The marks that an accepted edit leaves, from any marks
 
@@ -206,7 +214,7 @@ every_edit s P count same more less (Arrive block) =
     rw count (go (first_failing (arrive_tests s.blocks s.rules block)) refl)
   where
     go :
-        (f : Tested)
+        (f : Outcome)
         → first_failing (arrive_tests s.blocks s.rules block) ≡ f
         → P
         (record {
@@ -215,13 +223,13 @@ every_edit s P count same more less (Arrive block) =
           marks = refused_or f (λ refusal. s.marks) (arrived s block).marks;
         })
         (refused_or f (λ refusal. book_of s) (with_rule (book_of s) block))
-    go Passed e = more block (arrive_accepted s.blocks s.rules block e)
-    go (Refused x) e = same
+    go (Ok done) e = more block (arrive_accepted s.blocks s.rules block e)
+    go (Err x) e = same
 every_edit s P count same more less (Depart r) =
     rw count (go (first_failing (depart_tests s.blocks s.rules r)) refl)
   where
     go :
-        (f : Tested)
+        (f : Outcome)
         → first_failing (depart_tests s.blocks s.rules r) ≡ f
         → P
         (record {
@@ -230,8 +238,8 @@ every_edit s P count same more less (Depart r) =
           marks = refused_or f (λ refusal. s.marks) (departed s r).marks;
         })
         (refused_or f (λ refusal. book_of s) (without_rule (book_of s) r))
-    go Passed e = less r (depart_accepted s.blocks s.rules r e)
-    go (Refused x) e = same
+    go (Ok done) e = less r (depart_accepted s.blocks s.rules r e)
+    go (Err x) e = same
 
 -- What every edit keeps
 

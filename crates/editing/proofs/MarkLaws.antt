@@ -21,9 +21,8 @@ use Rattle.verdicts.proofs.Sound.{word_fits}
 use Rattle.search.specs.Choices.{Candidate}
 use Rattle.search.specs.Shown.{shown_plan}
 use Rattle.search.specs.Alone.{First, none, shown, first_alone}
-use Rattle.search.specs.Answers.{idle_answer, idleness_of}
+use Rattle.search.specs.Answers.{idle, idle_answer, idleness_of}
 use Rattle.search.specs.Demand.{IdleAccepted, NobodyAlone}
-use Rattle.search.specs.declared.Idleness.TheVariants.{Idle}
 use Rattle.search.proofs.DemandLaws.{idle_answer_law, none_nobody, shown_plan_law}
 use Rattle.editing.specs.Books.{with_rule, without_rule, number_before}
 use Rattle.editing.specs.Marks.{is_none, idle_at, marks_of, arrival_marks, departure_marks}
@@ -59,19 +58,19 @@ module _ (book : List ℕ) (accepted : BookAccepted book) (r : ℕ) (l : r < rul
     given : IdleAccepted book r buffer
     given = record { book_accepted = accepted; rule_there = l; long = long }
 
-    pub idle_call : idle_at book r ≡ true → idle_answer book r buffer ≡ Idle
+    pub idle_call : idle_at book r ≡ true → idle_answer book r buffer ≡ idle
     unfolding idle_at is_none idleness_of
     idle_call h = idle_answer_law book r buffer given ∙ go (first_alone book r) h
       where
-        go : (f : First Candidate) → is_none f ≡ true → idleness_of (head_of book) f ≡ Idle
+        go : (f : First Candidate) → is_none f ≡ true → idleness_of (head_of book) f ≡ idle
         go none t = refl
         go (shown c) t = absurd (false≢true t)
 
-    pub call_idle : idle_answer book r buffer ≡ Idle → idle_at book r ≡ true
+    pub call_idle : idle_answer book r buffer ≡ idle → idle_at book r ≡ true
     unfolding idle_at is_none idleness_of
     call_idle h = go (first_alone book r) (sym (idle_answer_law book r buffer given) ∙ h)
       where
-        go : (f : First Candidate) → idleness_of (head_of book) f ≡ Idle → is_none f ≡ true
+        go : (f : First Candidate) → idleness_of (head_of book) f ≡ idle → is_none f ≡ true
         go none t = refl
         go (shown c) t =
             let z : ◌≡◌ {A = ℕ} 0 1 = cc in

@@ -11,7 +11,7 @@ use Rattle.book.specs.Hierarchies.{parent_holds}
 use Rattle.book.specs.Head.{category_start, withdrawn_operations, is_user, is_data_leaf, support_of, supports}
 use Rattle.book.specs.Rule.{action_of, covers_user, in_leaf_set}
 use Rattle.book.specs.Blocks.{head_of, weighted, check_sum, check_holds}
-use Rattle.book.specs.Tests.{first_failing, refused_or, answered}
+use Rattle.book.specs.Tests.{Outcome, first_failing, refused_or, answered}
 use Rattle.book.specs.Refusals.{between, zeros, length_holds, kind_holds, users_counted, data_counted, columns_counted}
 use Rattle.book.specs.Refusals.{functions_counted, rule_counts, reference_end, rule_zeros, rule_counted, users_ordered}
 use Rattle.book.specs.Refusals.{own_holds, data_ordered, label_holds, labels_hold, functions_hold, user_numbers_hold}
@@ -21,8 +21,8 @@ use Rattle.book.specs.Refusals.{users_block_tests, data_block_tests, columns_blo
 use Rattle.book.specs.Refusals.{rule_block_tests, block_tests, content_tests, block_by_block, book_tests, seal_tests}
 use Rattle.book.specs.Answers.{with_check, seal_bytes}
 use Rattle.book.specs.Shop.{padded, block, users, categories, columns, functions, rule, rule0, rule1, rule2, shop}
-use Rattle.book.specs.declared.Tested.{Tested}
-use Rattle.book.specs.declared.Tested.TheVariants as tested
+use Rattle.std.specs.Prelude.{Ok, Err}
+use Rattle.book.specs.Numbers.{number_of, place_of}
 use Rattle.lineage.specs.Rows.{kind_of, kind_at}
 use Rattle.lineage.specs.Paths.{applied_as, through, paths_by, paths_in, paths, labels, takes, counting}
 use Rattle.lineage.specs.Paths.{first_operation, operation_of, carries}
@@ -114,9 +114,9 @@ unfolding start afternoon all any up_to from has upward_in upward under leaf cov
 shop_afternoon = refl
 
 -- the refusal of a list of tests, its number and its place, or none
-unfoldable pub refusal_of : Tested → ℕ × ℕ
-refusal_of tested.Passed = (0, 0)
-refusal_of (tested.Refused refusal) = (refusal.number, refusal.place)
+unfoldable pub refusal_of : Outcome → ℕ × ℕ
+refusal_of (Ok done) = (0, 0)
+refusal_of (Err refusal) = (number_of refusal, place_of refusal)
 
 -- at an arrival 33 comes before 1, and 1 before the refusals of the book, which here has a head of zeros, of no kind; at a
 -- departure 1 comes before all that is read, and the refusals of the book before 24
@@ -133,7 +133,7 @@ pub first_refusals :
     ∷ depart_tests (head_of shop) 0 0
     ∷ []))
     ((33, 0) ∷ (33, 0) ∷ (1, 0) ∷ (3, 0) ∷ (3, 4) ∷ (1, 0) ∷ (3, 0) ∷ (24, 0) ∷ [])
-unfolding refusal_of all any up_to from has upward_in upward under leaf covers proper_descendant support_along support less
+unfolding refusal_of number_of place_of all any up_to from has upward_in upward under leaf covers proper_descendant support_along support less
     category_start withdrawn_operations parent_holds is_user is_data_leaf support_of supports covers_user in_leaf_set weighted
     check_sum check_holds between zeros length_holds kind_holds users_counted data_counted columns_counted functions_counted
     rule_counts reference_end rule_zeros rule_counted users_ordered own_holds data_ordered label_holds labels_hold

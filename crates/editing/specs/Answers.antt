@@ -1,31 +1,27 @@
 -- The tests of an arrival and of a departure in document 02's order, what each replies, whole, and the blocks, the
 -- number of rules and the mask on leaving. Document 02, N11. Assumes nothing.
-use Rattle.std.specs.Prelude.{ℕ, ◌+◌, ◌-◌, List, [], ◌∷◌, ◌++◌, length, eqb, ltb, leb}
+use Rattle.std.specs.Prelude.{ℕ, ◌+◌, ◌-◌, List, [], ◌∷◌, ◌++◌, length, eqb, ltb, leb, Result, Ok, Err}
 use Rattle.book.specs.Blocks.{Book, Block}
 use Rattle.book.specs.Tests.{Test, answered}
-use Rattle.book.specs.Refusals.{book_length, book_tests}
+use Rattle.book.specs.Refusals.{book_tests}
+use Rattle.book.specs.declared.refusal.Refusal.{Refusal}
+use Rattle.book.specs.declared.refusal.Refusal.TheVariants.{BookLength, RulesFull}
 use Rattle.search.specs.Answers.{rule_tests}
 use Rattle.editing.specs.Books.{with_rule, without_rule}
 use Rattle.editing.specs.Marks.{arrival_marks, departure_marks}
 use Rattle.editing.specs.Record.{Blocks, book_in, laid}
-use Rattle.editing.specs.declared.Edited.{Edited}
-use Rattle.editing.specs.declared.Edited.TheVariants.{Marks, Refused}
-
--- the refusal's number
-abbrev pub rules_full : ℕ
-rules_full = 33
 
 -- 33: "an arrival at 32 rules or more"
 unfoldable pub room_tests : (rules : ℕ) → List Test
-room_tests rules = (rules_full, 0, ltb rules 32) ∷ []
+room_tests rules = (RulesFull, ltb rules 32) ∷ []
 
 -- 1: "a block not of 512 bytes"
 unfoldable pub new_block_tests : Block → List Test
-new_block_tests block = (book_length, 0, eqb (length block) 512) ∷ []
+new_block_tests block = (BookLength, eqb (length block) 512) ∷ []
 
 -- 1: "a number above 32 makes the book too long"
 unfoldable pub number_tests : (rules : ℕ) → List Test
-number_tests rules = (book_length, 0, leb rules 32) ∷ []
+number_tests rules = (BookLength, leb rules 32) ∷ []
 
 -- "an arrival at 32 rules or more is 33, tested first, then 1 for a block not of 512 bytes, then come the refusals of
 -- the book with the new block"
@@ -54,9 +50,9 @@ module _ (blocks : Blocks) (rules : ℕ) (block : Block) where
       answered arrive_tests (λ refusal. marks) (arrival_marks (with_rule (book_in blocks rules) block) rules marks)
 
   -- "and replies with the new mask"
-  unfoldable pub arrive_answer : (marks : ℕ) → Edited
+  unfoldable pub arrive_answer : (marks : ℕ) → Result ℕ Refusal
   arrive_answer marks =
-      answered arrive_tests Refused (Marks (arrival_marks (with_rule (book_in blocks rules) block) rules marks))
+      answered arrive_tests Err (Ok (arrival_marks (with_rule (book_in blocks rules) block) rules marks))
 
 -- A departure
 
@@ -74,6 +70,6 @@ module _ (blocks : Blocks) (rules r : ℕ) where
   depart_marks marks =
       answered depart_tests (λ refusal. marks) (departure_marks (without_rule (book_in blocks rules) r) r marks)
 
-  unfoldable pub depart_answer : (marks : ℕ) → Edited
+  unfoldable pub depart_answer : (marks : ℕ) → Result ℕ Refusal
   depart_answer marks =
-      answered depart_tests Refused (Marks (departure_marks (without_rule (book_in blocks rules) r) r marks))
+      answered depart_tests Err (Ok (departure_marks (without_rule (book_in blocks rules) r) r marks))

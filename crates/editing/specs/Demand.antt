@@ -9,9 +9,8 @@ use Rattle.book.specs.Refusals.{BookAccepted}
 use Rattle.lineage.specs.Rows.{Plan}
 use Rattle.lineage.specs.Answers.{PlanAccepted}
 use Rattle.search.specs.Alone.{plan_breaks_alone}
-use Rattle.search.specs.Answers.{idle_answer}
+use Rattle.search.specs.Answers.{idle, idle_answer}
 use Rattle.search.specs.Demand.{NobodyAlone}
-use Rattle.search.specs.declared.Idleness.TheVariants.{Idle}
 use Rattle.editing.specs.Books.{with_rule, without_rule, number_before}
 use Rattle.editing.specs.Marks.{marks_of}
 use Rattle.editing.specs.Record.{Record, Blocks, book_in, laid}
@@ -114,12 +113,12 @@ pub record Promise (start : Record) (list : List Edit) (s : Record) : Type 0 whe
       → r < s.rules
       → 36 ≤ length buffer
       → has s.marks r ≡ true
-      → idle_answer (made start list) r buffer ≡ Idle
+      → idle_answer (made start list) r buffer ≡ idle
   pub call_set :
       (r : ℕ) (buffer : List ℕ)
       → r < s.rules
       → 36 ≤ length buffer
-      → idle_answer (made start list) r buffer ≡ Idle
+      → idle_answer (made start list) r buffer ≡ idle
       → has s.marks r ≡ true
   pub past : (r : ℕ) → s.rules ≤ r → has s.marks r ≡ false
 

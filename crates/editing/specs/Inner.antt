@@ -1,4 +1,3 @@
 -- What the inner functions promise each other. No call's promise leans on these files.
 pub mod Laying
 pub mod Marking
-pub mod Testing

@@ -5,11 +5,13 @@ use native.Mathlib.Omega.{arith}
 use mathlib.Core.Path.{◌≡◌, refl, sym, ap, ◌∙◌}
 use mathlib.Core.Bool.{Bool, not, cond}
 use mathlib.Core.List.{List, [], ◌∷◌, ◌++◌, map}
+use Rattle.std.specs.Prelude.{Ok, Err}
 use lib.Dec.{eqb, ltb}
 use Rattle.book.specs.Lists.{any, keep}
 use Rattle.book.specs.Blocks.{head_of}
 use Rattle.book.specs.Tests.{answered}
 use Rattle.book.specs.Refusals.{book_tests}
+use Rattle.book.specs.declared.refusal.Refusal.TheVariants.{LedgerLength, CountsFull, PlacesFull, NotHeld}
 use Rattle.verdicts.specs.Accesses.{accesses_of, union}
 use Rattle.verdicts.specs.Breaking.{broken_mask}
 use Rattle.verdicts.specs.Answers.{user_tests, judge_tests}
@@ -20,8 +22,8 @@ use Rattle.ledger.specs.Answers.{settle_tests, settle_answer}
 use Rattle.ledger.specs.Histories.{Call, Ask, Commit, Drop, Made, Records, reply_of, Entry, records_after}
 use Rattle.ledger.specs.Histories.{entry_of, log, entries_of, numbered, Account, booked, account}
 use Rattle.ledger.specs.Alike.{eight_at, compared, EqualHistories}
-use Rattle.ledger.specs.declared.Reply.{Reply}
-use Rattle.ledger.specs.declared.Reply.TheVariants.{Held, Declined, Settled, Refused}
+use Rattle.ledger.specs.Histories.{Reply, of_asking, of_settling}
+use Rattle.ledger.specs.declared.Asked.TheVariants.{Held, Declined}
 use Rattle.ledger.proofs.UserKept.{given, account_accesses, UserKept, Whole, given_same, asked_same}
 use Rattle.ledger.proofs.UserKept.{mask_same_account}
 use Rattle.ledger.proofs.Kept.{by_user, kept}
@@ -29,33 +31,36 @@ use Rattle.ledger.proofs.Kept.{by_user, kept}
 -- what committing or dropping replies to a user of this account
 unfoldable account_settles : (book : List ℕ) (user number : ℕ) → Account → Reply
 account_settles book user n a =
-    answered
+    of_settling
+    (answered
     (book_tests book
     ++ user_tests (head_of book) user
-    ++ ((27, 0, eqb 1024 1024) ∷ [])
-    ++ ((32, 0, any (numbered n) a.holds) ∷ []))
-    Refused (Settled n)
+    ++ ((LedgerLength, eqb 1024 1024) ∷ [])
+    ++ ((NotHeld, any (numbered n) a.holds) ∷ []))
+    Err (Ok n))
 
 -- what a call replies to a user of this account
 unfoldable account_reply : (book : List ℕ) (user : ℕ) → Call → (eight : Bool) → Account → Reply
 account_reply book user (Ask plan) eight a =
-    answered
+    of_asking
+    (answered
     (judge_tests book user plan
-    ++ ((27, 0, eqb 1024 1024) ∷ [])
-    ++ ((28, 0, ltb (given a + a.declines) 1000000) ∷ [])
-    ++ ((31, 0, not eight) ∷ []))
-    Refused
+    ++ ((LedgerLength, eqb 1024 1024) ∷ [])
+    ++ ((CountsFull, ltb (given a + a.declines) 1000000) ∷ [])
+    ++ ((PlacesFull, not eight) ∷ []))
+    Err
+    (Ok
     (cond
     (eqb (broken_mask book user (union (account_accesses (head_of book) a) (accesses_of (head_of book) plan))) 0)
     (Held (given a + 1))
-    (Declined (broken_mask book user (union (account_accesses (head_of book) a) (accesses_of (head_of book) plan)))))
+    (Declined (broken_mask book user (union (account_accesses (head_of book) a) (accesses_of (head_of book) plan)))))))
 account_reply book user (Commit n) eight a = account_settles book user n a
 account_reply book user (Drop n) eight a = account_settles book user n a
 
 module _ (book : List ℕ) (user : ℕ) (s : Records) (whole : Whole s) (a : Account) (kept : UserKept book user s a) where
   settled_same :
       (n : ℕ)
-      → settle_answer book user n s.ledger s.holds
+      → of_settling (settle_answer book user n s.ledger s.holds)
       ≡ account_settles book user n a
   unfolding settle_answer settle_tests ledger_tests number_tests holds_number account_settles
   settled_same n = rw (whole.ledger, kept.holds.numbers n)

@@ -1,10 +1,9 @@
 -- Laws of the tally by user: a count raised for its user and for others. Assumes nothing.
-use Prim.Native.Nat.{ℕ, ◌+◌, ◌≤◌, ◌<◌}
-use native.Mathlib.Omega.{arith}
-use mathlib.Core.Path.{◌≡◌, sym, ◌∙◌}
+use Prim.Native.Nat.{ℕ, ◌+◌, ◌<◌}
+use mathlib.Core.Path.{◌≡◌, ◌∙◌}
 use mathlib.Core.List.{List}
 use lib.ListN.{length, get_or, length-set}
-use lib.Seq.{ext_get_or, get_or-set_same, get_or-set_other}
+use lib.Seq.{get_or-set_same, get_or-set_other}
 use borrow.Author.Tests.{lt-ltb}
 use Rattle.ledger.specs.Counts.{raised, raised_for}
 
@@ -22,10 +21,3 @@ module _ (counts : List ℕ) (user : ℕ) where
   pub raised_other : (other : ℕ) → (other ≡ user → ⊥) → get_or (raised_for counts user) other 0 ≡ get_or counts other 0
   unfolding raised_for
   raised_other other apart = get_or-set_other counts user other (raised (get_or counts user 0)) 0 apart
-
-  -- past the end there is none to raise
-  pub raised_past : length counts ≤ user → counts ≡ raised_for counts user
-  unfolding raised_for
-  raised_past past =
-      ext_get_or 0 counts (raised_for counts user) (sym raised_length)
-      (λ j low. sym (raised_other j (λ e. omega arith)))

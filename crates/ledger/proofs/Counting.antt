@@ -5,11 +5,13 @@ use native.Mathlib.Omega.{arith}
 use mathlib.Core.Path.{◌≡◌, refl, sym, ◌∙◌}
 use mathlib.Core.Logic.{⊎_elim}
 use mathlib.Core.Bool.{Bool, true, false, ◌&&◌, ◌||◌, not, cond, false≢true}
-use mathlib.Core.List.{List, [], ◌∷◌, ◌++◌}
-use lib.Dec.{eqb, ltb, eqb-suc-suc}
-use borrow.Author.Tests.{ne_eqb, eqb-true, eqb-false, lt-ltb, le-ltb}
+use mathlib.Core.List.{List, [], ◌∷◌}
+use lib.Dec.{eqb, eqb-suc-suc}
+use borrow.Author.Tests.{ne_eqb, eqb-true, eqb-false}
+use Rattle.std.specs.Prelude.{Some, is_some, unwrap_or}
+use Rattle.std.specs.List.{find}
 use Rattle.book.specs.Lists.{all, any, from, up_to}
-use Rattle.book.proofs.Lists.{same_test, or_left, or_right, or_either, or_neither, up_to_more}
+use Rattle.book.proofs.Lists.{same_test, or_left, or_right, or_either}
 use Rattle.verdicts.proofs.Quantifiers.{at_any, any_at}
 use Rattle.ledger.specs.Counting.{count, first_of}
 
@@ -37,26 +39,6 @@ module _ (f : ℕ → Bool) (none : ℕ) where
           let r = rec q in
           (r.0, omega (arith, r.1))
 
-  -- where none passes
-  pub first_none : (l : List ℕ) → any f l ≡ false → first_of f none l ≡ none
-  unfolding any first_of
-  first_none [] h = refl
-  first_none (x ∷ l) h =
-      let no = or_neither (f x) (any f l) h in
-      rw no.0 (first_none l no.1)
-
-  -- where one passes and none before it does
-  first_here : (i n p : ℕ) → any f (from i p) ≡ false → f (i + p) ≡ true → p < n → first_of f none (from i n) ≡ i + p
-  unfolding any from first_of
-  first_here i zero p before now low = absurd (omega arith)
-  first_here i (suc n) zero before now low =
-      let e : i + 0 ≡ i = omega arith in
-      rw (e, (rw e at now))
-  first_here i (suc n) (suc p) before now low =
-      let no = or_neither (f i) (any f (from (suc i) p)) before in
-      let e : suc i + p ≡ i + suc p = omega arith in
-      rw no.0 (first_here (suc i) n p no.1 (rw e now) (omega arith) ∙ e)
-
 module _ (f : ℕ → Bool) (n : ℕ) where
   pub first_passes : any f (up_to n) ≡ true → (f (first_of f n (up_to n)) ≡ true) × (first_of f n (up_to n) < n)
   unfolding up_to
@@ -64,19 +46,27 @@ module _ (f : ℕ → Bool) (n : ℕ) where
       let r = first_from f n 0 n h in
       (r.0, omega (arith, r.1))
 
-  pub first_at_law : (p : ℕ) → any f (up_to p) ≡ false → f p ≡ true → p < n → first_of f n (up_to n) ≡ p
-  unfolding up_to
-  first_at_law p before now low =
-      let e : 0 + p ≡ p = omega arith in
-      first_here f n 0 n p before (rw e now) low ∙ e
+-- the first that passes, as the library finds it, is the first that passes
+pub first_of_find : (f : ℕ → Bool) (none : ℕ) (l : List ℕ) → unwrap_or (find f l) none ≡ first_of f none l
+unfolding first_of
+first_of_find f none [] = refl
+first_of_find f none (x ∷ l) = go (f x) (first_of_find f none l)
+  where
+    go :
+        (b : Bool)
+        → unwrap_or (find f l) none ≡ first_of f none l
+        → unwrap_or (cond b (Some x) (find f l)) none ≡ cond b x (first_of f none l)
+    go true e = refl
+    go false e = e
 
-  -- one passes exactly where there is a first
-  pub first_found : ltb (first_of f n (up_to n)) n ≡ any f (up_to n)
-  first_found = go (any f (up_to n)) refl
-    where
-      go : (b : Bool) → any f (up_to n) ≡ b → ltb (first_of f n (up_to n)) n ≡ b
-      go true h = lt-ltb (first_of f n (up_to n)) n (first_passes h).1
-      go false h = rw (first_none f n (up_to n) h) (le-ltb n n (omega arith))
+pub some_of_find : (f : ℕ → Bool) (l : List ℕ) → is_some (find f l) ≡ any f l
+unfolding any
+some_of_find f [] = refl
+some_of_find f (x ∷ l) = go (f x) (some_of_find f l)
+  where
+    go : (b : Bool) → is_some (find f l) ≡ any f l → is_some (cond b (Some x) (find f l)) ≡ (b || any f l)
+    go true e = refl
+    go false e = e
 
 pub any_not : {A : Type 0} (f : A → Bool) (l : List A) → any (λ x. not (f x)) l ≡ not (all f l)
 unfolding all any
@@ -91,22 +81,6 @@ any_not f (x ∷ l) = go (f x) (any_not f l)
     go false e = refl
 
 -- Counting
-
-count_append : {A : Type 0} (f : A → Bool) (k l : List A) → count f (k ++ l) ≡ count f k + count f l
-unfolding count
-count_append f [] l = omega arith
-count_append f (x ∷ k) l = rw (count_append f k l) (omega arith)
-
--- one number more
-pub count_step : (f : ℕ → Bool) (n : ℕ) → count f (up_to (n + 1)) ≡ count f (up_to n) + cond (f n) 1 0
-unfolding count
-count_step f n =
-    let e : n + 1 ≡ suc n = omega arith in
-    rw (e, up_to_more n, count_append f (up_to n) (n ∷ [])) (omega arith)
-
-pub count_zero : (f : ℕ → Bool) → count f (up_to 0) ≡ 0
-unfolding count up_to from
-count_zero f = refl
 
 count_same_from :
     (f g : ℕ → Bool) (i n : ℕ) → ((q : ℕ) → i ≤ q → g q ≡ f q) → count g (from i n) ≡ count f (from i n)

@@ -11,7 +11,7 @@ use borrow.Author.Tests.{eq-eqb, ne_eqb, eqb-true, eqb-false}
 use Rattle.book.specs.Lists.{any, flat, from, keep, up_to}
 use Rattle.book.specs.Blocks.{head_of}
 use Rattle.book.specs.Refusals.{BookAccepted}
-use Rattle.book.specs.declared.Refusal.{Refusal}
+use Rattle.book.specs.declared.refusal.Refusal.{Refusal}
 use Rattle.book.proofs.Lists.{keep_in, keep_out, same_test}
 use Rattle.lineage.specs.Accesses.{access_words}
 use Rattle.verdicts.specs.Breaking.{broken_mask}
@@ -27,7 +27,7 @@ use Rattle.ledger.specs.Histories.{records_after, entry_of, log, entries_of, bes
 use Rattle.ledger.specs.Histories.{account, not_refused, answered_ask, number_in, takes_place, frees_place, down_from}
 use Rattle.ledger.specs.Histories.{none_twice}
 use Rattle.ledger.specs.Demand.{AskAccepted, SettleAccepted, Reserved, Counted, Promise, EveryList}
-use Rattle.ledger.specs.declared.Reply.TheVariants.{Refused}
+use Rattle.ledger.specs.Histories.{Refused}
 use Rattle.ledger.proofs.WordLaws.{joined_length}
 use Rattle.ledger.proofs.CountLaws.{raised_length}
 use Rattle.ledger.proofs.Counting.{count_more, all_count}

@@ -4,9 +4,10 @@ use Prim.Native.Nat.{ℕ, ◌+◌}
 use mathlib.Core.Path.{◌≡◌}
 use mathlib.Core.Bool.{cond}
 use mathlib.Core.List.{List}
+use Rattle.std.specs.Prelude.{Ok, Err}
 use Rattle.book.specs.Blocks.{head_of}
 use Rattle.book.specs.Tests.{answered, refused_or}
-use Rattle.book.specs.declared.Refusal.{Refusal}
+use Rattle.book.specs.declared.refusal.Refusal.{Refusal}
 use Rattle.lineage.specs.Accesses.{access_words}
 use Rattle.ledger.specs.Ledger.{words_of, joined_for}
 use Rattle.ledger.specs.Counts.{raised_for}
@@ -14,9 +15,9 @@ use Rattle.ledger.specs.Places.{empty_place, place_of, placed, freed}
 use Rattle.ledger.specs.Answers.{given_to, ask_mask, ask_answer, ask_tally, ask_holds}
 use Rattle.ledger.specs.Answers.{settle_answer, settle_holds, commit_ledger, commit_tally, drop_tally}
 use Rattle.ledger.specs.Histories.{Call, Ask, Commit, Drop, Records, reply_of, records_of}
+use Rattle.ledger.specs.Histories.{Reply, Held, Declined, Settled, Refused, of_asking, of_settling}
 use Rattle.ledger.specs.Demand.{AskAccepted, SettleAccepted}
-use Rattle.ledger.specs.declared.Reply.{Reply}
-use Rattle.ledger.specs.declared.Reply.TheVariants.{Held, Declined, Settled, Refused}
+use Rattle.ledger.specs.declared.Asked.TheVariants as asked
 use Rattle.ledger.proofs.CallLaws.{ask_cases, settle_cases}
 
 -- what an ask that is declined or held leaves, and a hold that is committed or dropped
@@ -93,14 +94,15 @@ module _
     -- what holds of each outcome that may come holds of the one that does
     pub every_outcome : (c : Call) → P c (reply_of book s user c) (records_of book s user c)
     unfolding reply_of records_of ask_answer ask_tally ask_holds settle_answer settle_holds commit_ledger commit_tally drop_tally
-        answered refused_or
+        answered refused_or of_asking of_settling
     every_outcome (Ask plan) =
         ask_cases book user plan s.ledger s.tally s.holds
         (λ t b.
         P (Ask plan)
-        (refused_or t Refused
-        (cond b (Held (given_to user s.tally s.holds + 1))
-        (Declined (ask_mask book user plan s.ledger s.tally s.holds))))
+        (of_asking
+        (refused_or t Err
+        (Ok (cond b (asked.Held (given_to user s.tally s.holds + 1))
+        (asked.Declined (ask_mask book user plan s.ledger s.tally s.holds))))))
         (record {
           ledger = s.ledger;
           tally = refused_or t (λ r. s.tally) (cond b s.tally (declining user s).tally);
@@ -112,7 +114,7 @@ module _
     every_outcome (Commit n) =
         settle_cases book user n s.ledger s.holds
         (λ t.
-        P (Commit n) (refused_or t Refused (Settled n))
+        P (Commit n) (of_settling (refused_or t Err (Ok n)))
         (record {
           ledger = refused_or t (λ r. s.ledger) (committing user n s).ledger;
           tally = refused_or t (λ r. s.tally) (committing user n s).tally;
@@ -122,7 +124,7 @@ module _
     every_outcome (Drop n) =
         settle_cases book user n s.ledger s.holds
         (λ t.
-        P (Drop n) (refused_or t Refused (Settled n))
+        P (Drop n) (of_settling (refused_or t Err (Ok n)))
         (record {
           ledger = s.ledger;
           tally = refused_or t (λ r. s.tally) (dropping user n s).tally;

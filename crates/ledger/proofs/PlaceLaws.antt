@@ -1,30 +1,33 @@
 -- Laws of the hold record: what a place reads, and what it and the others read after it is taken or freed. Assumes
 -- nothing.
-use Prim.Native.Nat.{ℕ, ◌≤◌, ◌<◌}
+use Prim.Native.Nat.{ℕ, ◌+◌, ◌<◌}
 use native.Mathlib.Omega.{arith}
-use mathlib.Core.Path.{◌≡◌, refl, sym, ◌∙◌}
+use mathlib.Core.Path.{◌≡◌, refl, sym, ap, ◌∙◌}
 use mathlib.Core.Bool.{true, false, ◌&&◌, not}
 use mathlib.Core.List.{List}
-use lib.ListN.{length, get_or, set, length-set, get_or-eq_default}
+use lib.Bits.{bit_or}
+use lib.ListN.{length, get_or, set, replicate, length-set}
 use lib.Seq.{get_or-set_same, get_or-set_other}
-use lib.Dec.{eqb, ltb}
+use lib.Dec.{eqb}
 use borrow.Author.Tests.{eq-eqb, ne_eqb, eqb-true, not-true}
-use Rattle.book.specs.Lists.{up_to}
-use Rattle.book.proofs.Lists.{and_both, and_false}
+use Rattle.std.specs.Prelude.{Option, is_some, unwrap_or}
+use Rattle.book.specs.Lists.{any, from, up_to}
+use Rattle.book.proofs.Lists.{and_both, and_false, any_none, any_more, or_end}
+use Rattle.lineage.proofs.Steps.{get_d_zeros}
+use Rattle.verdicts.specs.Accesses.{Access, held_by, union}
+use Rattle.verdicts.proofs.Held.{held_union, held_zero}
 use Rattle.ledger.specs.Ledger.{words_of}
-use Rattle.ledger.specs.Places.{WholeHolds, taken, held_at, number_at, eight_held, empty_place, place_of, holds_number}
+use Rattle.ledger.specs.Places.{WholeHolds, taken, held_at, number_at, eight_held, empty_place, held_accesses, held_count, place_of, holds_number}
 use Rattle.ledger.specs.Places.{placed}
 use Rattle.ledger.specs.declared.Holds.{Holds}
 use Rattle.ledger.proofs.WordLaws.{written_own, written_other, written_length}
-use Rattle.ledger.proofs.Counting.{any_not, first_passes, first_found}
+use Rattle.ledger.specs.Counting.{count}
+use Rattle.ledger.specs.Inner.Steps.{HeldWords, lowest, passing}
+use Rattle.ledger.proofs.Counting.{any_not, first_passes, first_of_find, some_of_find}
 
 -- What a place reads
 
 module _ (holds : Holds) where
-  pub none_past : (user p : ℕ) → length holds.numbers ≤ p → held_at holds user p ≡ false
-  unfolding held_at taken
-  none_past user p past = rw (get_or-eq_default holds.numbers 0 past)
-
   -- what it is for a place to hold a number
   pub number_held :
       (user n p : ℕ) → number_at holds user n p ≡ true → (held_at holds user p ≡ true) × (get_or holds.numbers p 0 ≡ n)
@@ -60,11 +63,33 @@ module _ (holds : Holds) where
   unfolding held_at
   not_taken u p h = rw h
 
-  -- there is an empty place exactly while eight are not held, and it is empty
-  pub empty_found : ltb (empty_place holds) 8 ≡ not (eight_held holds)
-  unfolding empty_place eight_held
-  empty_found = first_found (λ p. not (taken holds p)) 8 ∙ any_not (taken holds) (up_to 8)
+  -- what the code counts and finds
+  pub held_passing : (user : ℕ) → passing (held_at holds user) ≡ held_count holds user
+  unfolding held_count count up_to from
+  held_passing user = omega arith
 
+  pub lowest_empty : (found : Option ℕ) → found ≡ lowest (λ p. not (taken holds p)) → unwrap_or found 8 ≡ empty_place holds
+  unfolding empty_place up_to from
+  lowest_empty found e =
+      ap (λ o. unwrap_or o 8) e ∙ first_of_find (λ p. not (taken holds p)) 8 (up_to 8)
+
+  pub lowest_number :
+      (user n : ℕ) (found : Option ℕ) → found ≡ lowest (number_at holds user n) → unwrap_or found 8 ≡ place_of holds user n
+  unfolding place_of up_to from
+  lowest_number user n found e =
+      ap (λ o. unwrap_or o 8) e ∙ first_of_find (number_at holds user n) 8 (up_to 8)
+
+  pub empty_some : (found : Option ℕ) → found ≡ lowest (λ p. not (taken holds p)) → is_some found ≡ not (eight_held holds)
+  unfolding eight_held up_to from
+  empty_some found e =
+      ap is_some e ∙ some_of_find (λ p. not (taken holds p)) (up_to 8) ∙ any_not (taken holds) (up_to 8)
+
+  pub number_some :
+      (user n : ℕ) (found : Option ℕ) → found ≡ lowest (number_at holds user n) → is_some found ≡ holds_number holds user n
+  unfolding holds_number up_to from
+  number_some user n found e = ap is_some e ∙ some_of_find (number_at holds user n) (up_to 8)
+
+  -- while eight are not held there is a lowest empty place, and it is empty
   pub empty_place_law : eight_held holds ≡ false → (taken holds (empty_place holds) ≡ false) × (empty_place holds < 8)
   unfolding empty_place eight_held
   empty_place_law room =
@@ -78,9 +103,40 @@ module _ (holds : Holds) where
   unfolding place_of holds_number
   number_place user n there = first_passes (number_at holds user n) 8 there
 
-  pub number_found : (user n : ℕ) → ltb (place_of holds user n) 8 ≡ holds_number holds user n
-  unfolding place_of holds_number
-  number_found user n = first_found (number_at holds user n) 8
+-- The words of a user's held plans, gathered place by place
+
+-- those of the first n places
+unfoldable pub Gathered : Holds → (user : ℕ) (words : List ℕ) (n : ℕ) → Type 0
+Gathered holds user words n =
+    (x : Access) → held_by words x ≡ any (λ p. held_at holds user p && held_by (words_of holds.words p) x) (up_to n)
+
+module _ (holds : Holds) (user : ℕ) where
+  pub gather_none : Gathered holds user (replicate 32 0) 0
+  unfolding Gathered
+  gather_none x = held_zero (replicate 32 0) (λ w l. get_d_zeros 32 w) x ∙ sym (any_none _)
+
+  pub gather_more :
+      (words more new : List ℕ) (n : ℕ)
+      → Gathered holds user words n
+      → held_at holds user n ≡ true
+      → more ≡ words_of holds.words n
+      → ((w : ℕ) → w < 32 → get_or new w 0 ≡ bit_or (get_or words w 0) (get_or more w 0))
+      → Gathered holds user new (n + 1)
+  unfolding Gathered union
+  gather_more words more new n so_far held em joined x =
+      held_union words more new joined x ∙ rw (em, so_far x) (sym (any_more _ n ∙ rw held))
+
+  pub gather_past :
+      (words : List ℕ) (n : ℕ)
+      → Gathered holds user words n
+      → held_at holds user n ≡ false
+      → Gathered holds user words (n + 1)
+  unfolding Gathered
+  gather_past words n so_far other x = so_far x ∙ sym (any_more _ n ∙ rw (other, or_end _))
+
+  pub gather_all : (words : List ℕ) (n : ℕ) → Gathered holds user words n → n ≡ 8 → HeldWords holds user words
+  unfolding Gathered held_accesses
+  gather_all words n all end x = rw end at (all x)
 
 -- A place taken or freed
 

@@ -4,10 +4,10 @@ use Prim.Native.Nat.{ℕ, ◌+◌}
 use mathlib.Core.Path.{◌≡◌, sym, subst, ◌∙◌}
 use mathlib.Core.List.{List, ◌∷◌}
 use borrow.Author.Tests.{eq-eqb, ne_eqb}
+use Rattle.std.specs.Prelude.{Result, Ok, Err}
 use Rattle.book.specs.Blocks.{head_of}
 use Rattle.book.specs.Tests.{first_failing, refused_or, answered}
-use Rattle.book.specs.declared.Refusal.{Refusal}
-use Rattle.book.specs.declared.Tested.TheVariants as tested
+use Rattle.book.specs.declared.refusal.Refusal.{Refusal}
 use Rattle.book.proofs.Accepted.{accepted_head}
 use Rattle.lineage.specs.Accesses.{access_words}
 use Rattle.verdicts.specs.Accesses.{held_by, union}
@@ -23,8 +23,8 @@ use Rattle.ledger.specs.Histories.{Ask, Commit, Drop, Made, Records, records_of,
 use Rattle.ledger.specs.Demand.{AskAccepted, Asks, SettleAccepted, Promise, Continues}
 use Rattle.ledger.specs.declared.Tally.{Tally}
 use Rattle.ledger.specs.declared.Holds.{Holds}
-use Rattle.ledger.specs.declared.Outcome.{Outcome}
-use Rattle.ledger.specs.declared.Reply.TheVariants.{Held, Declined, Settled, Refused}
+use Rattle.ledger.specs.declared.Asked.{Asked}
+use Rattle.ledger.specs.declared.Asked.TheVariants.{Held, Declined}
 use Rattle.ledger.proofs.CallLaws.{ask_passes, ask_means, settle_passes, settle_means}
 use Rattle.ledger.proofs.Kept.{promise}
 use Rattle.ledger.proofs.Alike.{equal_histories}
@@ -45,41 +45,42 @@ continues book made before after e list left =
 -- Asking
 
 module _ (book : List ℕ) (user : ℕ) (plan ledger : List ℕ) (tally : Tally) (holds : Holds) where
-  abbrev pub AskPromised : Outcome → Type 0
-  AskPromised r =
-      (r.reply ≡ ask_answer book user plan ledger tally holds)
-      × (r.tally ≡ ask_tally book user plan ledger tally holds)
-      × (r.holds ≡ ask_holds book user plan ledger tally holds)
+  abbrev pub AskPromised : Result Asked Refusal → (tally_after : Tally) (holds_after : Holds) → Type 0
+  AskPromised r t h =
+      (r ≡ ask_answer book user plan ledger tally holds)
+      × (t ≡ ask_tally book user plan ledger tally holds)
+      × (h ≡ ask_holds book user plan ledger tally holds)
       × (AskAccepted book user plan ledger tally holds
-      → Asks book user (ask_accesses book user plan ledger tally holds) (given_to user tally holds) r.reply)
+      → Asks book user (ask_accesses book user plan ledger tally holds) (given_to user tally holds) r)
       × Continues book (record { user = user; call = Ask plan })
       (record { ledger = ledger; tally = tally; holds = holds })
-      (record { ledger = ledger; tally = r.tally; holds = r.holds })
+      (record { ledger = ledger; tally = t; holds = h })
 
   ask_promised :
-      (r : Outcome)
-      → r.reply ≡ ask_answer book user plan ledger tally holds
-      → r.tally ≡ ask_tally book user plan ledger tally holds
-      → r.holds ≡ ask_holds book user plan ledger tally holds
-      → AskPromised r
+      (r : Result Asked Refusal) (t : Tally) (h : Holds)
+      → r ≡ ask_answer book user plan ledger tally holds
+      → t ≡ ask_tally book user plan ledger tally holds
+      → h ≡ ask_holds book user plan ledger tally holds
+      → AskPromised r t h
   unfolding records_of
-  ask_promised r er et eh = (
+  ask_promised r t h er et eh = (
     er,
     et,
     eh,
     λ given. rw er (ask_means book user plan ledger tally holds given),
     continues book (record { user = user; call = Ask plan })
         (record { ledger = ledger; tally = tally; holds = holds })
-        (record { ledger = ledger; tally = r.tally; holds = r.holds })
+        (record { ledger = ledger; tally = t; holds = h })
         (λ i. record { ledger = ledger; tally = et i; holds = eh i }),
   )
 
   pub ask_refused :
-      (r : Refusal)
-      → first_failing (ask_tests book user plan ledger tally holds) ≡ tested.Refused r
-      → AskPromised (record { reply = Refused r; tally = tally; holds = holds })
+      (r : Refusal) (reply : Result Asked Refusal)
+      → reply ≡ Err r
+      → first_failing (ask_tests book user plan ledger tally holds) ≡ Err r
+      → AskPromised reply tally holds
   unfolding ask_answer ask_tally ask_holds answered refused_or
-  ask_refused r h = ask_promised (record { reply = Refused r; tally = tally; holds = holds }) (rw h) (rw h) (rw h)
+  ask_refused r reply e h = ask_promised reply tally holds (rw h e) (rw h) (rw h)
 
   module _
       (accepted : AskAccepted book user plan ledger tally holds)
@@ -101,59 +102,59 @@ module _ (book : List ℕ) (user : ℕ) (plan ledger : List ℕ) (tally : Tally)
           ))
 
       pub ask_held :
-          (r : Outcome)
+          (r : Result Asked Refusal) (t : Tally) (h : Holds)
           → mask ≡ 0
-          → r.reply ≡ Held (given_to user tally holds + 1)
-          → r.tally ≡ tally
-          → r.holds ≡ placed holds (empty_place holds) user (given_to user tally holds + 1) words
-          → AskPromised r
+          → r ≡ Ok (Held (given_to user tally holds + 1))
+          → t ≡ tally
+          → h ≡ placed holds (empty_place holds) user (given_to user tally holds + 1) words
+          → AskPromised r t h
       unfolding ask_answer ask_tally ask_holds answered refused_or
-      ask_held r z er et eh =
+      ask_held r t h z er et eh =
           let passes = ask_passes book user plan ledger tally holds accepted in
           let none = eq-eqb (ask_mask book user plan ledger tally holds) 0 (sym is_mask ∙ z) in
-          ask_promised r (rw (passes, none) er) (rw (passes, none) et) (rw (passes, none, ← words_are) eh)
+          ask_promised r t h (rw (passes, none) er) (rw (passes, none) et) (rw (passes, none, ← words_are) eh)
 
       pub ask_declined :
-          (r : Outcome)
+          (r : Result Asked Refusal) (t : Tally) (h : Holds)
           → (mask ≡ 0 → ⊥)
-          → r.reply ≡ Declined mask
-          → r.tally
+          → r ≡ Ok (Declined mask)
+          → t
           ≡ record {
             admitted = tally.admitted;
             declined = raised_for tally.declined user;
             dropped = tally.dropped;
           }
-          → r.holds ≡ holds
-          → AskPromised r
+          → h ≡ holds
+          → AskPromised r t h
       unfolding ask_answer ask_tally ask_holds answered refused_or
-      ask_declined r z er et eh =
+      ask_declined r t h z er et eh =
           let passes = ask_passes book user plan ledger tally holds accepted in
           let some = ne_eqb (ask_mask book user plan ledger tally holds) 0 (λ e. z (is_mask ∙ e)) in
-          ask_promised r (rw (passes, some, ← is_mask) er) (rw (passes, some) et) (rw (passes, some) eh)
+          ask_promised r t h (rw (passes, some, ← is_mask) er) (rw (passes, some) et) (rw (passes, some) eh)
 
 -- Committing
 
 module _ (book : List ℕ) (user number : ℕ) (ledger : List ℕ) (tally : Tally) (holds : Holds) where
-  abbrev pub CommitPromised : Outcome → (after : List ℕ) → Type 0
-  CommitPromised r after =
-      (r.reply ≡ settle_answer book user number ledger holds)
-      × (r.tally ≡ commit_tally book user number ledger holds tally)
-      × (r.holds ≡ settle_holds book user number ledger holds)
+  abbrev pub CommitPromised : Result ℕ Refusal → (tally_after : Tally) (holds_after : Holds) (after : List ℕ) → Type 0
+  CommitPromised r t h after =
+      (r ≡ settle_answer book user number ledger holds)
+      × (t ≡ commit_tally book user number ledger holds tally)
+      × (h ≡ settle_holds book user number ledger holds)
       × (after ≡ commit_ledger book user number ledger holds)
-      × (SettleAccepted book user number ledger holds → r.reply ≡ Settled number)
+      × (SettleAccepted book user number ledger holds → r ≡ Ok number)
       × Continues book (record { user = user; call = Commit number })
       (record { ledger = ledger; tally = tally; holds = holds })
-      (record { ledger = after; tally = r.tally; holds = r.holds })
+      (record { ledger = after; tally = t; holds = h })
 
   commit_promised :
-      (r : Outcome) (after : List ℕ)
-      → r.reply ≡ settle_answer book user number ledger holds
-      → r.tally ≡ commit_tally book user number ledger holds tally
-      → r.holds ≡ settle_holds book user number ledger holds
+      (r : Result ℕ Refusal) (t : Tally) (h : Holds) (after : List ℕ)
+      → r ≡ settle_answer book user number ledger holds
+      → t ≡ commit_tally book user number ledger holds tally
+      → h ≡ settle_holds book user number ledger holds
       → after ≡ commit_ledger book user number ledger holds
-      → CommitPromised r after
+      → CommitPromised r t h after
   unfolding records_of
-  commit_promised r after er et eh el = (
+  commit_promised r t h after er et eh el = (
     er,
     et,
     eh,
@@ -161,86 +162,88 @@ module _ (book : List ℕ) (user number : ℕ) (ledger : List ℕ) (tally : Tall
     λ given. er ∙ settle_means book user number ledger holds given,
     continues book (record { user = user; call = Commit number })
         (record { ledger = ledger; tally = tally; holds = holds })
-        (record { ledger = after; tally = r.tally; holds = r.holds })
+        (record { ledger = after; tally = t; holds = h })
         (λ i. record { ledger = el i; tally = et i; holds = eh i }),
   )
 
   pub commit_refused :
-      (r : Refusal)
-      → first_failing (settle_tests book user number ledger holds) ≡ tested.Refused r
-      → CommitPromised (record { reply = Refused r; tally = tally; holds = holds }) ledger
+      (r : Refusal) (reply : Result ℕ Refusal)
+      → reply ≡ Err r
+      → first_failing (settle_tests book user number ledger holds) ≡ Err r
+      → CommitPromised reply tally holds ledger
   unfolding settle_answer settle_holds commit_ledger commit_tally answered refused_or
-  commit_refused r h =
-      commit_promised (record { reply = Refused r; tally = tally; holds = holds }) ledger (rw h) (rw h) (rw h) (rw h)
+  commit_refused r reply e h =
+      commit_promised reply tally holds ledger (rw h e) (rw h) (rw h) (rw h)
 
   pub commit_settled :
       SettleAccepted book user number ledger holds
-      → (r : Outcome) (after : List ℕ)
-      → r.reply ≡ Settled number
-      → r.tally
+      → (r : Result ℕ Refusal) (t : Tally) (h : Holds) (after : List ℕ)
+      → r ≡ Ok number
+      → t
       ≡ record {
         admitted = raised_for tally.admitted user;
         declined = tally.declined;
         dropped = tally.dropped;
       }
-      → r.holds ≡ freed holds (place_of holds user number)
+      → h ≡ freed holds (place_of holds user number)
       → after ≡ joined_for ledger user (words_of holds.words (place_of holds user number))
-      → CommitPromised r after
+      → CommitPromised r t h after
   unfolding settle_answer settle_holds commit_ledger commit_tally answered refused_or
-  commit_settled given r after er et eh el =
+  commit_settled given r t h after er et eh el =
       let passes = settle_passes book user number ledger holds given in
-      commit_promised r after (rw passes er) (rw passes et) (rw passes eh) (rw passes el)
+      commit_promised r t h after (rw passes er) (rw passes et) (rw passes eh) (rw passes el)
 
   -- Dropping
 
-  abbrev pub DropPromised : Outcome → Type 0
-  DropPromised r =
-      (r.reply ≡ settle_answer book user number ledger holds)
-      × (r.tally ≡ drop_tally book user number ledger holds tally)
-      × (r.holds ≡ settle_holds book user number ledger holds)
-      × (SettleAccepted book user number ledger holds → r.reply ≡ Settled number)
+  abbrev pub DropPromised : Result ℕ Refusal → (tally_after : Tally) (holds_after : Holds) → Type 0
+  DropPromised r t h =
+      (r ≡ settle_answer book user number ledger holds)
+      × (t ≡ drop_tally book user number ledger holds tally)
+      × (h ≡ settle_holds book user number ledger holds)
+      × (SettleAccepted book user number ledger holds → r ≡ Ok number)
       × Continues book (record { user = user; call = Drop number })
       (record { ledger = ledger; tally = tally; holds = holds })
-      (record { ledger = ledger; tally = r.tally; holds = r.holds })
+      (record { ledger = ledger; tally = t; holds = h })
 
   drop_promised :
-      (r : Outcome)
-      → r.reply ≡ settle_answer book user number ledger holds
-      → r.tally ≡ drop_tally book user number ledger holds tally
-      → r.holds ≡ settle_holds book user number ledger holds
-      → DropPromised r
+      (r : Result ℕ Refusal) (t : Tally) (h : Holds)
+      → r ≡ settle_answer book user number ledger holds
+      → t ≡ drop_tally book user number ledger holds tally
+      → h ≡ settle_holds book user number ledger holds
+      → DropPromised r t h
   unfolding records_of
-  drop_promised r er et eh = (
+  drop_promised r t h er et eh = (
     er,
     et,
     eh,
     λ given. er ∙ settle_means book user number ledger holds given,
     continues book (record { user = user; call = Drop number })
         (record { ledger = ledger; tally = tally; holds = holds })
-        (record { ledger = ledger; tally = r.tally; holds = r.holds })
+        (record { ledger = ledger; tally = t; holds = h })
         (λ i. record { ledger = ledger; tally = et i; holds = eh i }),
   )
 
   pub drop_refused :
-      (r : Refusal)
-      → first_failing (settle_tests book user number ledger holds) ≡ tested.Refused r
-      → DropPromised (record { reply = Refused r; tally = tally; holds = holds })
+      (r : Refusal) (reply : Result ℕ Refusal)
+      → reply ≡ Err r
+      → first_failing (settle_tests book user number ledger holds) ≡ Err r
+      → DropPromised reply tally holds
   unfolding settle_answer settle_holds drop_tally answered refused_or
-  drop_refused r h = drop_promised (record { reply = Refused r; tally = tally; holds = holds }) (rw h) (rw h) (rw h)
+  drop_refused r reply e h = drop_promised reply tally holds (rw h e) (rw h) (rw h)
 
   pub drop_settled :
       SettleAccepted book user number ledger holds
-      → (r : Outcome)
-      → r.reply ≡ Settled number
-      → r.tally
+      → (r : Result ℕ Refusal) (t : Tally) (h : Holds)
+      → r ≡ Ok number
+      → t
       ≡ record {
         admitted = tally.admitted;
         declined = tally.declined;
         dropped = raised_for tally.dropped user;
       }
-      → r.holds ≡ freed holds (place_of holds user number)
-      → DropPromised r
+      → h ≡ freed holds (place_of holds user number)
+      → DropPromised r t h
   unfolding settle_answer settle_holds drop_tally answered refused_or
-  drop_settled given r er et eh =
+  drop_settled given r t h er et eh =
       let passes = settle_passes book user number ledger holds given in
-      drop_promised r (rw passes er) (rw passes et) (rw passes eh)
+      drop_promised r t h (rw passes er) (rw passes et) (rw passes eh)

@@ -12,7 +12,7 @@ use borrow.Author.Tests.{ne_eqb}
 use Rattle.book.specs.Lists.{any}
 use Rattle.book.specs.Blocks.{head_of}
 use Rattle.book.specs.Refusals.{BookAccepted}
-use Rattle.book.specs.declared.Refusal.{Refusal}
+use Rattle.book.specs.declared.refusal.Refusal.{Refusal}
 use Rattle.book.proofs.Accepted.{accepted_head}
 use Rattle.book.proofs.Lists.{and_false, or_left, or_right, or_either}
 use Rattle.lineage.specs.Accesses.{access_words}
@@ -30,7 +30,7 @@ use Rattle.ledger.specs.Histories.{Call, Ask, Commit, Drop, Records, fresh, Hold
 use Rattle.ledger.specs.Histories.{reply_of, records_of, Account, booked, account}
 use Rattle.ledger.specs.Demand.{AskAccepted, SettleAccepted, in_some}
 use Rattle.ledger.specs.Inner.Steps.{joined_words}
-use Rattle.ledger.specs.declared.Reply.TheVariants.{Held, Declined, Settled, Refused}
+use Rattle.ledger.specs.Histories.{Held, Declined, Settled, Refused}
 use Rattle.ledger.proofs.WordLaws.{words_zero, zero_words, own_words, other_words, held_own, held_other}
 use Rattle.ledger.proofs.CountLaws.{raised_own, raised_other}
 use Rattle.ledger.proofs.PlaceLaws.{empty_place_law, number_place, number_held, held_one, not_taken, held_here}

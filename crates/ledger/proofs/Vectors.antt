@@ -4,6 +4,7 @@ use Prim.Native.Nat.{ℕ}
 use mathlib.Core.Path.{◌≡◌, refl}
 use mathlib.Core.List.{List, [], ◌∷◌, ◌++◌, map, reverse}
 use lib.ListN.{replicate}
+use Rattle.std.specs.Prelude.{Result, Ok, Err}
 use Rattle.book.specs.Lists.{flat, all, any, up_to, from, keep}
 use Rattle.book.specs.Sets.{has, less}
 use Rattle.book.specs.Hierarchies.{upward_in, upward, under, leaf, covers, proper_descendant, support_along, support}
@@ -19,6 +20,8 @@ use Rattle.book.specs.Refusals.{mask_allows, mask_holds, masks_hold, length_test
 use Rattle.book.specs.Refusals.{users_block_tests, data_block_tests, columns_block_tests, functions_block_tests}
 use Rattle.book.specs.Refusals.{rule_block_tests, block_tests, content_tests, block_by_block, book_tests, seal_tests}
 use Rattle.book.specs.Tests.{first_failing, refused_or, answered}
+use Rattle.book.specs.declared.refusal.Refusal.{Refusal}
+use Rattle.book.specs.declared.refusal.Refusal.TheVariants.{NoUser, LedgerLength, CountsFull, PlacesFull, NotHeld}
 use Rattle.book.specs.Answers.{with_check, seal_bytes}
 use Rattle.book.specs.Shop.{padded, block, users, categories, columns, functions, rule, rule0, rule1, rule2, shop}
 use Rattle.lineage.specs.Rows.{kind_of, kind_at, is_value, names, sound_as, row_holds}
@@ -41,14 +44,11 @@ use Rattle.ledger.specs.Answers.{ledger_tests, given_to, asked_by, count_tests, 
 use Rattle.ledger.specs.Answers.{ask_tests, ask_accesses, ask_mask, ask_answer, ask_tally, ask_holds, settle_tests}
 use Rattle.ledger.specs.Answers.{settle_answer, settle_holds, commit_ledger, commit_tally, drop_tally}
 use Rattle.ledger.specs.Histories.{Call, Ask, Commit, Drop, Made, fresh, reply_of, records_of, records_after}
-use Rattle.ledger.specs.Histories.{entry_of, log}
+use Rattle.ledger.specs.Histories.{entry_of, log, Reply, Held, Declined, Settled, Refused, of_asking, of_settling}
 use Rattle.ledger.specs.declared.Tally.{Tally}
 use Rattle.ledger.specs.declared.Holds.{Holds}
-use Rattle.ledger.specs.declared.Reply.{Reply}
-use Rattle.ledger.specs.declared.Reply.TheVariants.{Held, Declined, Settled, Refused}
-
-abbrev refuses : ℕ → Reply
-refuses number = Refused (record { number = number; place = 0 })
+use Rattle.ledger.specs.declared.Asked.{Asked}
+use Rattle.ledger.specs.declared.Asked.TheVariants as asked
 
 -- the user, his call, and the reply: day by day, from a fresh ledger, tally and hold record
 unfoldable pub days : List (ℕ × Call × Reply)
@@ -63,15 +63,15 @@ days =
     ∷ (1, Ask (plan (price ∷ output 0 ∷ [])), Declined 2)
     -- a dropped number is not given again, and another user does not hold it
     ∷ (1, Ask (plan (state ∷ output 0 ∷ [])), Held 2)
-    ∷ (2, Commit 2, refuses 32)
+    ∷ (2, Commit 2, Refused NotHeld)
     -- State is committed once; then it counts for good
     ∷ (1, Commit 2, Settled 2)
-    ∷ (1, Commit 2, refuses 32)
+    ∷ (1, Commit 2, Refused NotHeld)
     ∷ (1, Ask (plan (price ∷ output 0 ∷ [])), Declined 7)
     -- an average may stand beside State; user 0 is no leaf; nobody holds 0
     ∷ (1, Ask (plan (price ∷ avg 0 ∷ output 1 ∷ [])), Held 3)
-    ∷ (0, Ask (plan (state ∷ output 0 ∷ [])), refuses 20)
-    ∷ (1, Commit 0, refuses 32)
+    ∷ (0, Ask (plan (state ∷ output 0 ∷ [])), Refused NoUser)
+    ∷ (1, Commit 0, Refused NotHeld)
     ∷ (2, Ask (plan (state ∷ output 0 ∷ [])), Held 1)
     ∷ []
 
@@ -114,7 +114,11 @@ top =
 -- the first. Other records: eight holds of nobody refuse every ask, but the user's million comes first; of two places
 -- the lowest is meant, and a count at the top stays.
 pub shop_days :
-    ◌≡◌ {A = (List Reply × List ℕ × List ℕ) × List Reply × List ℕ × List ℕ} (
+    ◌≡◌ {A =
+    (List Reply × List ℕ × List ℕ)
+    × (List (Result Asked Refusal) × List (Result ℕ Refusal))
+    × List ℕ
+    × List ℕ} (
       (
         map (λ e. e.reply) (log shop calls),
         (records_after shop calls).tally.admitted
@@ -126,12 +130,13 @@ pub shop_days :
             ++ (records_after shop calls).holds.numbers
             ++ (records_after shop calls).holds.words,
       ),
-      ask_answer shop 1 (plan (price ∷ output 0 ∷ [])) fresh.ledger fresh.tally nobodys
-          ∷ ask_answer shop 1 (plan (state ∷ output 0 ∷ [])) fresh.ledger million nobodys
-          ∷ ask_answer shop 2 (plan (state ∷ output 0 ∷ [])) fresh.ledger million fresh.holds
-          ∷ settle_answer shop 1 7 fresh.ledger twice
-          ∷ settle_answer shop 1 7 (replicate 1023 0) twice
-          ∷ [],
+      (
+        ask_answer shop 1 (plan (price ∷ output 0 ∷ [])) fresh.ledger fresh.tally nobodys
+            ∷ ask_answer shop 1 (plan (state ∷ output 0 ∷ [])) fresh.ledger million nobodys
+            ∷ ask_answer shop 2 (plan (state ∷ output 0 ∷ [])) fresh.ledger million fresh.holds
+            ∷ [],
+        settle_answer shop 1 7 fresh.ledger twice ∷ settle_answer shop 1 7 (replicate 1023 0) twice ∷ [],
+      ),
       words_of (commit_ledger shop 1 7 fresh.ledger twice) 1
           ++ (commit_tally shop 1 7 fresh.ledger twice top).admitted
           ++ (drop_tally shop 1 7 fresh.ledger twice top).dropped,
@@ -152,7 +157,7 @@ pub shop_days :
             ++ (4 ∷ replicate 31 0)
             ++ replicate 192 0,
       ),
-      refuses 31 ∷ refuses 28 ∷ Held 1 ∷ Settled 7 ∷ refuses 27 ∷ [],
+      (Err PlacesFull ∷ Err CountsFull ∷ Ok (asked.Held 1) ∷ [], Ok 7 ∷ Err LedgerLength ∷ []),
       (4 ∷ replicate 31 0) ++ (0 ∷ 4294967295 ∷ replicate 30 0) ++ (0 ∷ 4294967295 ∷ replicate 30 0),
       (1 ∷ 1 ∷ 0 ∷ replicate 5 1)
           ++ (0 ∷ 0 ∷ 0 ∷ 0 ∷ 0 ∷ 7 ∷ 0 ∷ 0 ∷ [])
@@ -174,5 +179,5 @@ unfolding days calls nobodys twice million top plan all any up_to from has upwar
     admitted_for joined_for counts_of raised raised_for count first_of taken held_at number_at held_count holds_number eight_held
     empty_place place_of held_accesses written_at placed freed ledger_tests given_to asked_by count_tests place_tests number_tests
     counted_for ask_tests ask_accesses ask_mask ask_answer ask_tally ask_holds settle_tests settle_answer settle_holds commit_ledger
-    commit_tally drop_tally reply_of records_of records_after entry_of log
+    commit_tally drop_tally of_asking of_settling reply_of records_of records_after entry_of log
 shop_days = refl

@@ -1,17 +1,18 @@
 -- Laws of words by their index: a user's words, what is joined to them, and what they hold. Assumes nothing.
-use Prim.Native.Nat.{ℕ, ◌+◌, ◌*◌, ◌-◌, ◌/◌, ◌%◌, ◌≤◌, ◌<◌}
+use Prim.Native.Nat.{ℕ, ◌+◌, ◌*◌, ◌-◌, ◌/◌, ◌%◌, ◌≤◌, ◌<◌, min}
 use native.Mathlib.Nat.{zero-add}
 use native.Mathlib.Omega.{arith}
-use mathlib.Core.Path.{◌≡◌, refl, sym, ap, ◌∙◌}
+use mathlib.Core.Path.{◌≡◌, refl, sym, ap, subst, ◌∙◌}
+use mathlib.Core.Logic.{◌⊎◌}
 use mathlib.Core.Bool.{Bool, true, false, cond}
-use mathlib.Core.List.{List, map}
-use lib.ListN.{length, get_or, replicate, set, length-replicate, length-set, get_or-eq_default}
-use lib.Seq.{ext_get_or, get_or-set_same, get_or-set_other}
+use mathlib.Core.List.{List, map, ◌++◌}
+use lib.ListN.{length, get_or, get_or-append, replicate, take, drop, length-replicate, get_or-eq_default}
+use lib.Seq.{ext_get_or}
 use lib.Bits.{bit_or, or_zero_r}
 use lib.Dec.{eqb, ltb}
 use borrow.Author.Tests.{eq-eqb, ne_eqb, eqb-true, eqb-false, ltb-true, ltb-false}
+use Rattle.std.proofs.lemmas.List.{get_or-append_right, get_or-take, get_or-drop, length-append, length-drop, length-take-le}
 use Rattle.book.specs.Lists.{up_to}
-use Rattle.book.proofs.Loops.{Filled}
 use Rattle.lineage.specs.Accesses.{access_words, is_access, word_of}
 use Rattle.lineage.proofs.Steps.{get_d_zeros}
 use Rattle.lineage.proofs.Words.{get_d_from, length_from}
@@ -32,13 +33,6 @@ module _ (g : ℕ → ℕ) (n : ℕ) where
   unfolding up_to
   mapped_length = length_from g 0 n
 
-  -- an array that was written to its end
-  pub filled_map : {r : List ℕ} {k : ℕ} → Filled n (λ j v. v ≡ g j) r k → n ≤ k → r ≡ map g (up_to n)
-  filled_map {r = r} {k = k} f past =
-      let size : length r ≡ n = f.size in
-      ext_get_or 0 r (map g (up_to n)) (size ∙ sym mapped_length)
-      (λ j l. f.at j (omega (arith, size, l)) ∙ sym (mapped_at j (omega (arith, size, l))))
-
 pub joined_at : (a b : List ℕ) (w : ℕ) → w < 32 → get_or (joined_words a b) w 0 ≡ bit_or (get_or a w 0) (get_or b w 0)
 unfolding joined_words
 joined_at a b w l = mapped_at (λ v. bit_or (get_or a v 0) (get_or b v 0)) 32 w l
@@ -47,146 +41,44 @@ joined_words_length : (a b : List ℕ) → length (joined_words a b) ≡ 32
 unfolding joined_words
 joined_words_length a b = mapped_length (λ v. bit_or (get_or a v 0) (get_or b v 0)) 32
 
--- Words over those of a number, one a turn: joined to them, or in their stead
+-- Words joined to a user's, where the list is: the user's words are joined, all others are as they were
 
-module _ (over : ℕ → ℕ → ℕ) where
-  -- the first k of them, from the word `first` on
-  pub record Laid (first : ℕ) (words old new : List ℕ) (k : ℕ) : Type 0 where
-    pub bound : k ≤ 32
-    pub size : length new ≡ length old
-    pub below : (j : ℕ) → j < first → get_or new j 0 ≡ get_or old j 0
-    pub own :
-        (w : ℕ)
-        → w < k
-        → first + w < length old
-        → get_or new (first + w) 0 ≡ over (get_or old (first + w) 0) (get_or words w 0)
-    pub above : (j : ℕ) → first + k ≤ j → get_or new j 0 ≡ get_or old j 0
+module _
+    (user : ℕ)
+    (words old new : List ℕ)
+    (size : length new ≡ length old)
+    (own :
+    (w : ℕ)
+    → w < 32
+    → 32 * user + w < length old
+    → get_or new (32 * user + w) 0 ≡ bit_or (get_or old (32 * user + w) 0) (get_or words w 0))
+    (others : (j : ℕ) → (j < 32 * user) ⊎ (32 * user + 32 ≤ j) → get_or new j 0 ≡ get_or old j 0)
+  where
+    word_in_place :
+        (j : ℕ)
+        → j < length old
+        → (b : Bool)
+        → eqb (j / 32) user ≡ b
+        → get_or new j 0 ≡ bit_or (get_or old j 0) (cond b (get_or words (j % 32) 0) 0)
+    word_in_place j low true e =
+        let q : j / 32 ≡ user = eqb-true (j / 32) user e in
+        let at : 32 * user + j % 32 ≡ j = omega arith in
+        subst (λ i. get_or new i 0 ≡ bit_or (get_or old i 0) (get_or words (j % 32) 0)) at
+        (own (j % 32) (omega arith) (omega arith))
+    word_in_place j low false e =
+        let q : j / 32 ≡ user → ⊥ = eqb-false (j / 32) user e in
+        rw or_zero_r (others j (grind arith))
 
-  pub lay_none : {first : ℕ} {words old : List ℕ} → Laid first words old old 0
-  lay_none =
-      record {
-        bound = omega arith;
-        size = refl;
-        below = λ j l. refl;
-        own = λ w l m. absurd (omega arith);
-        above = λ j l. refl;
-      }
-
-  module _ {first : ℕ} {words old new : List ℕ} {k : ℕ} (so_far : Laid first words old new k) (low : k < 32) where
-    pub lay_more :
-        first + k < length new
-        → Laid first words old (set new (first + k) (over (get_or new (first + k) 0) (get_or words k 0))) (k + 1)
-    lay_more room =
-        record {
-          bound = omega arith;
-          size = length-set new (first + k) word ∙ so_far.size;
-          below = λ j l. get_or-set_other new (first + k) j word 0 (λ e. omega arith) ∙ so_far.below j l;
-          own = λ w l m. at w l m (eqb w k) refl;
-          above = λ j l. get_or-set_other new (first + k) j word 0 (λ e. omega arith) ∙ so_far.above j (omega arith);
-        }
+    pub joined_in_place : new ≡ joined_for old user words
+    unfolding joined_for
+    joined_in_place =
+        ext_get_or 0 new (map g (up_to (length old))) (size ∙ sym (mapped_length g (length old)))
+        (λ j l.
+        let m : j < length old = rw size at l in
+        word_in_place j m (eqb (j / 32) user) refl ∙ sym (mapped_at g (length old) j m))
       where
-        word : ℕ
-        word = over (get_or new (first + k) 0) (get_or words k 0)
-
-        at :
-            (w : ℕ)
-            → w < k + 1
-            → first + w < length old
-            → (b : Bool)
-            → eqb w k ≡ b
-            → get_or (set new (first + k) word) (first + w) 0 ≡ over (get_or old (first + w) 0) (get_or words w 0)
-        at w l m true e =
-            rw (eqb-true w k e, get_or-set_same new (first + k) word 0 room, so_far.above (first + k) (omega arith))
-        at w l m false e =
-            let other : w ≡ k → ⊥ = eqb-false w k e in
-            get_or-set_other new (first + k) (first + w) word 0 (λ z. other (omega arith))
-            ∙ so_far.own w (omega (arith, other)) m
-
-    -- past the end nothing is written
-    pub lay_past : length new ≤ first + k → Laid first words old new (k + 1)
-    lay_past past =
-        let same : length new ≡ length old = so_far.size in
-        record {
-          bound = omega arith;
-          size = same;
-          below = so_far.below;
-          own = λ w l m. so_far.own w (omega arith) m;
-          above = λ j l. so_far.above j (omega arith);
-        }
-
-  -- all of them: each word by its number
-  laid_at :
-      (i : ℕ) {first : ℕ} {words old new : List ℕ} {k : ℕ}
-      → first ≡ 32 * i
-      → Laid first words old new k
-      → 32 ≤ k
-      → (j : ℕ)
-      → j < length old
-      → get_or new j 0 ≡ cond (eqb (j / 32) i) (over (get_or old j 0) (get_or words (j % 32) 0)) (get_or old j 0)
-  laid_at i {first} {words} {old} {new} {k} start all past j m = at (ltb j first) refl (ltb j (first + 32)) refl
-    where
-      g : ℕ
-      g = cond (eqb (j / 32) i) (over (get_or old j 0) (get_or words (j % 32) 0)) (get_or old j 0)
-
-      other : (j / 32 ≡ i → ⊥) → get_or old j 0 ≡ g
-      other n = rw (ne_eqb (j / 32) i n)
-
-      at : (b : Bool) → ltb j first ≡ b → (c : Bool) → ltb j (first + 32) ≡ c → get_or new j 0 ≡ g
-      at true e c f =
-          let l : j < first = ltb-true j first e in
-          all.below j l ∙ other (λ z. omega arith)
-      at false e true f =
-          let lo : first ≤ j = ltb-false j first e in
-          let hi : j < first + 32 = ltb-true j (first + 32) f in
-          let w = j - first in
-          let z : j ≡ first + w = omega arith in
-          let q : j / 32 ≡ i = omega arith in
-          let p : j % 32 ≡ w = omega arith in
-          ap (λ (i : ℕ). get_or new i 0) z
-          ∙ all.own w (omega arith) (omega arith)
-          ∙ rw (p, eq-eqb (j / 32) i q, ← z)
-      at false e false f =
-          let hi : first + 32 ≤ j = ltb-false j (first + 32) f in
-          let most : k ≤ 32 = all.bound in
-          all.above j (omega arith) ∙ other (λ z. omega arith)
-
-pub join_end :
-    (user : ℕ) {first : ℕ} {words old new : List ℕ} {k : ℕ}
-    → first ≡ 32 * user
-    → Laid bit_or first words old new k
-    → 32 ≤ k
-    → new ≡ joined_for old user words
-unfolding joined_for
-join_end user {first} {words} {old} {new} {k} start all past =
-    ext_get_or 0 new (map g (up_to (length old))) (all.size ∙ sym (mapped_length g (length old)))
-    (λ j l.
-    let m : j < length old = rw all.size at l in
-    laid_at bit_or user start all past j m
-    ∙ inside (eqb (j / 32) user) (get_or old j 0) (get_or words (j % 32) 0)
-    ∙ sym (mapped_at g (length old) j m))
-  where
-    g : ℕ → ℕ
-    g j = bit_or (get_or old j 0) (cond (eqb (j / 32) user) (get_or words (j % 32) 0) 0)
-
-    inside : (b : Bool) (x y : ℕ) → cond b (bit_or x y) x ≡ bit_or x (cond b y 0)
-    inside true x y = refl
-    inside false x y = sym (or_zero_r x)
-
-pub write_end :
-    (p : ℕ) {first : ℕ} {words old new : List ℕ} {k : ℕ}
-    → first ≡ 32 * p
-    → Laid (λ was is. is) first words old new k
-    → 32 ≤ k
-    → new ≡ written_at old p words
-unfolding written_at
-write_end p {first} {words} {old} {new} {k} start all past =
-    ext_get_or 0 new (map g (up_to (length old))) (all.size ∙ sym (mapped_length g (length old)))
-    (λ j l.
-    let m : j < length old = rw all.size at l in
-    laid_at (λ was is. is) p start all past j m ∙ sym (mapped_at g (length old) j m))
-  where
-    g : ℕ → ℕ
-    g j = cond (eqb (j / 32) p) (get_or words (j % 32) 0) (get_or old j 0)
+        g : ℕ → ℕ
+        g j = bit_or (get_or old j 0) (cond (eqb (j / 32) user) (get_or words (j % 32) 0) 0)
 
 -- What is held
 
@@ -207,6 +99,54 @@ words_same :
     → a ≡ b
 words_same a b size size' at = ext_get_or 0 a b (size ∙ sym size') (λ w l. at w (omega (arith, size, l)))
 
+-- 32 words that are those of a user one by one
+pub words_are :
+    (ledger words : List ℕ) (user : ℕ)
+    → length words ≡ 32
+    → ((w : ℕ) → w < 32 → get_or words w 0 ≡ get_or ledger (32 * user + w) 0)
+    → words ≡ words_of ledger user
+words_are ledger words user size at =
+    words_same words (words_of ledger user) size (words_length ledger user)
+    (λ w l. at w l ∙ sym (words_at ledger user w l))
+
+-- as many words of a user as there are, and zeros for the others
+pub words_front :
+    (ledger own front : List ℕ) (user n : ℕ)
+    → own ≡ drop (32 * user) ledger
+    → front ≡ take n own
+    → n ≡ min (length own) 32
+    → front ++ drop n (replicate 32 0) ≡ words_of ledger user
+words_front ledger own front user n eo ef en =
+    let long : length front ≡ n = rw ef (length-take-le n own (omega arith)) in
+    let zeros : List ℕ = replicate 32 0 in
+    let rest : length (drop n zeros) ≡ 32 - n = length-drop n zeros in
+    words_are ledger (front ++ drop n (replicate 32 0)) user
+    (length-append front (drop n (replicate 32 0)) ∙ omega (arith, long, rest))
+    (λ w l. at long w l (ltb w n) refl)
+  where
+    word : (w : ℕ) → get_or own w 0 ≡ get_or ledger (32 * user + w) 0
+    word w = rw eo (get_or-drop (32 * user) ledger w 0)
+
+    at :
+        length front ≡ n
+        → (w : ℕ)
+        → w < 32
+        → (b : Bool)
+        → ltb w n ≡ b
+        → get_or (front ++ drop n (replicate 32 0)) w 0 ≡ get_or ledger (32 * user + w) 0
+    at long w m true e =
+        let l : w < n = ltb-true w n e in
+        get_or-append front (drop n (replicate 32 0)) 0 w (omega (arith, long))
+        ∙ ap (λ (f : List ℕ). get_or f w 0) ef
+        ∙ get_or-take n own w 0 l
+        ∙ word w
+    at long w m false e =
+        let h : n ≤ w = ltb-false w n e in
+        get_or-append_right front (drop n (replicate 32 0)) n w 0 long h
+        ∙ get_or-drop n (replicate 32 0) (w - n) 0
+        ∙ get_d_zeros 32 (n + (w - n))
+        ∙ sym (sym (word w) ∙ get_or-eq_default own 0 (omega (arith, en)))
+
 -- words in the stead of those of a place
 
 module _ (words : List ℕ) (p : ℕ) (new : List ℕ) where
@@ -221,6 +161,58 @@ module _ (words : List ℕ) (p : ℕ) (new : List ℕ) where
   unfolding written_at
   written_word j l =
       mapped_at (λ j. cond (eqb (j / 32) p) (get_or new (j % 32) 0) (get_or words j 0)) (length words) j l
+
+  -- those words written over
+  pub written_in_place :
+      (a k : ℕ)
+      → a ≡ 32 * p
+      → k ≡ 32
+      → length new ≡ 32
+      → a + 32 ≤ length words
+      → take a words ++ (new ++ drop k (drop a words)) ≡ written_at words p new
+  written_in_place a k start whole size room =
+      let rest : length (drop k (drop a words)) ≡ length words - a - k =
+      length-drop k (drop a words) ∙ rw (length-drop a words) in
+      let tail : length (new ++ drop k (drop a words)) ≡ length words - a =
+      length-append new (drop k (drop a words)) ∙ omega (arith, rest, size) in
+      let front : length (take a words) ≡ a = length-take-le a words (omega arith) in
+      let long : length (take a words ++ (new ++ drop k (drop a words))) ≡ length words =
+      length-append (take a words) (new ++ drop k (drop a words)) ∙ omega (arith, front, tail) in
+      ext_get_or 0 (take a words ++ (new ++ drop k (drop a words))) (written_at words p new) (long ∙ sym written_length)
+      (λ j l.
+      let m : j < length words = omega (arith, long, l) in
+      at front j (ltb j a) refl (ltb j (a + 32)) refl ∙ sym (written_word j m))
+    where
+      at :
+          length (take a words) ≡ a
+          → (j : ℕ)
+          → (b : Bool)
+          → ltb j a ≡ b
+          → (c : Bool)
+          → ltb j (a + 32) ≡ c
+          → get_or (take a words ++ (new ++ drop k (drop a words))) j 0
+          ≡ cond (eqb (j / 32) p) (get_or new (j % 32) 0) (get_or words j 0)
+      at front j true e c f =
+          let l : j < a = ltb-true j a e in
+          get_or-append (take a words) (new ++ drop k (drop a words)) 0 j (omega (arith, front))
+          ∙ get_or-take a words j 0 l
+          ∙ rw (ne_eqb (j / 32) p (λ z. omega arith))
+      at front j false e true f =
+          let lo : a ≤ j = ltb-false j a e in
+          let hi : j < a + 32 = ltb-true j (a + 32) f in
+          let q : j / 32 ≡ p = omega arith in
+          let r : j - a ≡ j % 32 = omega arith in
+          get_or-append_right (take a words) (new ++ drop k (drop a words)) a j 0 front lo
+          ∙ get_or-append new (drop k (drop a words)) 0 (j - a) (omega arith)
+          ∙ rw (r, eq-eqb (j / 32) p q)
+      at front j false e false f =
+          let hi : a + 32 ≤ j = ltb-false j (a + 32) f in
+          let z : a + (k + (j - a - 32)) ≡ j = omega arith in
+          get_or-append_right (take a words) (new ++ drop k (drop a words)) a j 0 front (omega arith)
+          ∙ get_or-append_right new (drop k (drop a words)) 32 (j - a) 0 size (omega arith)
+          ∙ get_or-drop k (drop a words) (j - a - 32) 0
+          ∙ get_or-drop a words (k + (j - a - 32)) 0
+          ∙ rw (z, ne_eqb (j / 32) p (λ z. omega arith))
 
   pub written_own : length new ≡ 32 → 32 * p + 32 ≤ length words → words_of (written_at words p new) p ≡ new
   written_own size room =
@@ -326,19 +318,6 @@ module _ (ledger : List ℕ) (user : ℕ) (words : List ℕ) where
       → admitted_for (joined_for ledger user words) other x ≡ admitted_for ledger other x
   unfolding admitted_for
   held_other other apart x = rw (other_words other apart)
-
--- 32 words alone, joined with others
-pub join_held :
-    (all words : List ℕ)
-    → length all ≡ 32
-    → (x : Access)
-    → held_by (joined_for all 0 words) x ≡ union (held_by all) (held_by words) x
-join_held all words size =
-    held_union all words (joined_for all 0 words)
-    (λ w l.
-    let q : w / 32 ≡ 0 = omega arith in
-    let r : w % 32 ≡ w = omega arith in
-    joined_word all 0 words w (omega (arith, size)) ∙ rw (r, eq-eqb (w / 32) 0 q))
 
 -- a plan has 32 words
 pub access_length : (head plan : List ℕ) → length (access_words head plan) ≡ 32

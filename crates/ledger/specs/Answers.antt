@@ -1,9 +1,11 @@
 -- The tests of the three calls in document 02's order, what each replies, whole, and the ledger, the tally and the hold
 -- record on leaving. Document 02, N3, N8 and N10. Assumes nothing.
-use Rattle.std.specs.Prelude.{ℕ, ◌+◌, not, cond, List, [], ◌∷◌, ◌++◌, length, eqb, ltb}
+use Rattle.std.specs.Prelude.{ℕ, ◌+◌, not, cond, List, [], ◌∷◌, ◌++◌, length, eqb, ltb, Result, Ok, Err}
 use Rattle.book.specs.Blocks.{Book, head_of}
 use Rattle.book.specs.Tests.{Test, answered}
 use Rattle.book.specs.Refusals.{book_tests}
+use Rattle.book.specs.declared.refusal.Refusal.{Refusal}
+use Rattle.book.specs.declared.refusal.Refusal.TheVariants.{LedgerLength, CountsFull, PlacesFull, NotHeld}
 use Rattle.lineage.specs.Rows.{Plan}
 use Rattle.lineage.specs.Accesses.{access_words}
 use Rattle.verdicts.specs.Accesses.{Accesses, accesses_of, union}
@@ -15,25 +17,12 @@ use Rattle.ledger.specs.Places.{held_count, holds_number, eight_held, empty_plac
 use Rattle.ledger.specs.Places.{placed, freed}
 use Rattle.ledger.specs.declared.Tally.{Tally}
 use Rattle.ledger.specs.declared.Holds.{Holds}
-use Rattle.ledger.specs.declared.Reply.{Reply}
-use Rattle.ledger.specs.declared.Reply.TheVariants.{Held, Declined, Settled, Refused}
-
--- the refusals' numbers
-abbrev pub ledger_length : ℕ
-ledger_length = 27
-
-abbrev pub counts_full : ℕ
-counts_full = 28
-
-abbrev pub places_full : ℕ
-places_full = 31
-
-abbrev pub not_held : ℕ
-not_held = 32
+use Rattle.ledger.specs.declared.Asked.{Asked}
+use Rattle.ledger.specs.declared.Asked.TheVariants.{Held, Declined}
 
 -- 27: "a ledger not of 1,024 words"
 unfoldable pub ledger_tests : Ledger → List Test
-ledger_tests ledger = (ledger_length, 0, eqb (length ledger) 1024) ∷ []
+ledger_tests ledger = (LedgerLength, eqb (length ledger) 1024) ∷ []
 
 -- "its user's admitted + dropped + held": how many numbers he was given
 unfoldable pub given_to : (user : ℕ) → Tally → Holds → ℕ
@@ -45,15 +34,15 @@ asked_by user tally holds = given_to user tally holds + (counts_of tally user).d
 
 -- 28: "for an ask when that sum is 1,000,000 or more"
 unfoldable pub count_tests : (user : ℕ) → Tally → Holds → List Test
-count_tests user tally holds = (counts_full, 0, ltb (asked_by user tally holds) 1000000) ∷ []
+count_tests user tally holds = (CountsFull, ltb (asked_by user tally holds) 1000000) ∷ []
 
 -- 31: "exactly while eight are held"
 unfoldable pub place_tests : Holds → List Test
-place_tests holds = (places_full, 0, not (eight_held holds)) ∷ []
+place_tests holds = (PlacesFull, not (eight_held holds)) ∷ []
 
 -- 32: "for a number that user doesn't hold"
 unfoldable pub number_tests : (user number : ℕ) → Holds → List Test
-number_tests user number holds = (not_held, 0, holds_number holds user number) ∷ []
+number_tests user number holds = (NotHeld, holds_number holds user number) ∷ []
 
 -- "his words joined with his held plans"
 unfoldable pub counted_for : Ledger → Holds → (user : ℕ) → Accesses
@@ -75,9 +64,9 @@ module _ (book : Book) (user : ℕ) (plan : Plan) (ledger : Ledger) (tally : Tal
 
   -- "An ask replies with the mask and that number, 0 if declined": held, the mask is 0, and "A new hold's number is 1 +
   -- its user's admitted + dropped + held"; declined, it is the number that is 0
-  unfoldable pub ask_answer : Reply
+  unfoldable pub ask_answer : Result Asked Refusal
   ask_answer =
-      answered ask_tests Refused (cond (eqb ask_mask 0) (Held (given_to user tally holds + 1)) (Declined ask_mask))
+      answered ask_tests Err (Ok (cond (eqb ask_mask 0) (Held (given_to user tally holds + 1)) (Declined ask_mask)))
 
   -- a declined plan is counted for its user; "a refusal leaves every ledger and record as it was"
   unfoldable pub ask_tally : Tally
@@ -106,8 +95,8 @@ module _ (book : Book) (user number : ℕ) (ledger : Ledger) (holds : Holds) whe
       book_tests book ++ user_tests (head_of book) user ++ ledger_tests ledger ++ number_tests user number holds
 
   -- "committing and dropping reply with the number given"
-  unfoldable pub settle_answer : Reply
-  settle_answer = answered settle_tests Refused (Settled number)
+  unfoldable pub settle_answer : Result ℕ Refusal
+  settle_answer = answered settle_tests Err (Ok number)
 
   -- "a committed or dropped hold frees its place"; "a refusal leaves every ledger and record as it was"
   unfoldable pub settle_holds : Holds

@@ -1,11 +1,12 @@
 -- N3, N8 and N10, over the definitions of accesses and rules and not over the words: what one ask says, and what holds
 -- "For every list of these calls from a fresh ledger, tally and hold record, with one book". Document 02. Assumes
 -- nothing.
-use Rattle.std.specs.Prelude.{ℕ, ◌+◌, ◌≤◌, ◌<◌, ◌≡◌, true, false, List, ◌∷◌, length, eqb}
+use Rattle.std.specs.Prelude.{ℕ, ◌+◌, ◌≤◌, ◌<◌, ◌≡◌, true, false, List, ◌∷◌, length, eqb, Result, Ok}
 use Rattle.book.specs.Lists.{any, flat}
 use Rattle.book.specs.Blocks.{Book, Head, head_of, rule_at, rule_count}
 use Rattle.book.specs.Head.{is_user}
 use Rattle.book.specs.Refusals.{BookAccepted}
+use Rattle.book.specs.declared.refusal.Refusal.{Refusal}
 use Rattle.lineage.specs.Rows.{Plan}
 use Rattle.lineage.specs.Accesses.{access_words}
 use Rattle.verdicts.specs.Accesses.{Access, Accesses, accesses_of}
@@ -22,8 +23,8 @@ use Rattle.ledger.specs.Histories.{account, answered_ask, number_in, takes_place
 use Rattle.ledger.specs.Alike.{EqualHistories}
 use Rattle.ledger.specs.declared.Tally.{Tally}
 use Rattle.ledger.specs.declared.Holds.{Holds}
-use Rattle.ledger.specs.declared.Reply.{Reply}
-use Rattle.ledger.specs.declared.Reply.TheVariants.{Held, Declined}
+use Rattle.ledger.specs.declared.Asked.{Asked}
+use Rattle.ledger.specs.declared.Asked.TheVariants.{Held, Declined}
 
 -- One call
 
@@ -38,14 +39,14 @@ pub record AskAccepted
 
 -- the reply, by the accesses of the plan joined with the user's words and held plans, and by how many numbers he was
 -- given
-pub record Asks (book : Book) (user : ℕ) (query : Accesses) (given : ℕ) (reply : Reply) : Type 0 where
+pub record Asks (book : Book) (user : ℕ) (query : Accesses) (given : ℕ) (reply : Result Asked Refusal) : Type 0 where
   -- a plan is held, with the next number, exactly when they satisfy the policy
-  pub held_satisfies : (number : ℕ) → reply ≡ Held number → SatisfiesPolicy book user query
-  pub satisfies_held : SatisfiesPolicy book user query → reply ≡ Held (given + 1)
+  pub held_satisfies : (number : ℕ) → reply ≡ Ok (Held number) → SatisfiesPolicy book user query
+  pub satisfies_held : SatisfiesPolicy book user query → reply ≡ Ok (Held (given + 1))
   -- otherwise it is declined with the mask of that union, which is not 0
   pub otherwise :
-      ((number : ℕ) → reply ≡ Held number → ⊥)
-      → (mask : ℕ) × (reply ≡ Declined mask) × (0 < mask) × Demand2 book user query mask
+      ((number : ℕ) → reply ≡ Ok (Held number) → ⊥)
+      → (mask : ℕ) × (reply ≡ Ok (Declined mask)) × (0 < mask) × Demand2 book user query mask
 
 -- what committing and dropping have to be given
 pub record SettleAccepted (book : Book) (user number : ℕ) (ledger : Ledger) (holds : Holds) : Type 0 where

@@ -1,8 +1,9 @@
 -- Lists of the three calls from a fresh ledger, tally and hold record with one book, the replies to them, and what the
 -- replies say of a user. Document 02, N3, N8 and N10. Assumes nothing.
-use Rattle.std.specs.Prelude.{ℕ, zero, suc, ◌+◌, Bool, true, false, ◌&&◌, not, cond, List, [], ◌∷◌, replicate, eqb}
+use Rattle.std.specs.Prelude.{ℕ, zero, suc, ◌+◌, Bool, true, false, ◌&&◌, not, cond, List, [], ◌∷◌, replicate, eqb, Result, Ok, Err}
 use Rattle.book.specs.Lists.{any, keep}
 use Rattle.book.specs.Blocks.{Book}
+use Rattle.book.specs.declared.refusal.Refusal.{Refusal}
 use Rattle.lineage.specs.Rows.{Plan}
 use Rattle.ledger.specs.Ledger.{Ledger}
 use Rattle.ledger.specs.Places.{eight_held}
@@ -10,8 +11,8 @@ use Rattle.ledger.specs.Answers.{ask_answer, ask_tally, ask_holds}
 use Rattle.ledger.specs.Answers.{settle_answer, settle_holds, commit_ledger, commit_tally, drop_tally}
 use Rattle.ledger.specs.declared.Tally.{Tally}
 use Rattle.ledger.specs.declared.Holds.{Holds}
-use Rattle.ledger.specs.declared.Reply.{Reply}
-use Rattle.ledger.specs.declared.Reply.TheVariants.{Held, Declined, Settled, Refused}
+use Rattle.ledger.specs.declared.Asked.{Asked}
+use Rattle.ledger.specs.declared.Asked.TheVariants as asked
 
 -- "three calls": asking for a plan, committing or dropping a number
 pub data Call : Type 0 where
@@ -39,12 +40,29 @@ fresh =
       holds = record { users = replicate 8 0; numbers = replicate 8 0; words = replicate 256 0 };
     }
 
+-- what the calls reply: an ask that is held its number, one that is declined the mask, committing and dropping the
+-- number given
+pub data Reply : Type 0 where
+  Held : ℕ → Reply
+  Declined : ℕ → Reply
+  Settled : ℕ → Reply
+  Refused : Refusal → Reply
+
+unfoldable pub of_asking : Result Asked Refusal → Reply
+of_asking (Ok (asked.Held n)) = Held n
+of_asking (Ok (asked.Declined mask)) = Declined mask
+of_asking (Err r) = Refused r
+
+unfoldable pub of_settling : Result ℕ Refusal → Reply
+of_settling (Ok n) = Settled n
+of_settling (Err r) = Refused r
+
 -- One call
 
 unfoldable pub reply_of : Book → Records → (user : ℕ) → Call → Reply
-reply_of book s user (Ask plan) = ask_answer book user plan s.ledger s.tally s.holds
-reply_of book s user (Commit number) = settle_answer book user number s.ledger s.holds
-reply_of book s user (Drop number) = settle_answer book user number s.ledger s.holds
+reply_of book s user (Ask plan) = of_asking (ask_answer book user plan s.ledger s.tally s.holds)
+reply_of book s user (Commit number) = of_settling (settle_answer book user number s.ledger s.holds)
+reply_of book s user (Drop number) = of_settling (settle_answer book user number s.ledger s.holds)
 
 unfoldable pub records_of : Book → Records → (user : ℕ) → Call → Records
 records_of book s user (Ask plan) =

@@ -1,23 +1,23 @@
-// What an analyst has already seen, and what is held for him: a plan is asked for together with all that
-// its user was shown or may still be shown, and then committed or dropped.
-//
-// No function has a `requires`. What the three calls reply, and what they leave in the ledger, the tally
-// and the hold record, are equations with definitions of specs/Answers.antt; what holds after every list
-// of calls is specs/Demand.antt, and what two lists that are alike for a user give him is
-// specs/Alike.antt.
+//! What an analyst has already seen, and what is held for him: a plan is asked for together with all that
+//! its user was shown or may still be shown, and then committed or dropped.
+//!
+//! No function has a `requires`. What the three calls reply, and what they leave in the ledger, the tally
+//! and the hold record, are equations with definitions of specs/Answers.antt; what holds after every list
+//! of calls is specs/Demand.antt, and what two lists that are alike for a user give him is
+//! specs/Alike.antt.
 #![tactic(auto)]
 
-pub mod asking; // Ask, with tally and hold record by value
+pub mod asking; // Ask
 pub mod counts; // the counts of a user
 pub mod places; // the places of the hold record
 pub mod settling; // Commit and Drop
 pub mod words; // the words of a user
 
 pub use asking::ask;
-use book::Refusal;
 pub use settling::{commit, drop_hold};
 
-// How many plans were admitted, declined and dropped, for each user number.
+/// How many plans were admitted, declined and dropped, for each user number.
+// Three arrays side by side and no record for each user: the layout is the C interface's.
 #[repr(C)]
 #[derive(Clone, Copy)]
 pub struct Tally {
@@ -26,8 +26,9 @@ pub struct Tally {
     pub dropped: [u32; 32],
 }
 
-// Eight places, each with a user, the number of his hold and 32 words. A place is empty when its number
-// is 0.
+/// Eight places, each with a user, the number of his hold and 32 words. A place is empty when its number
+/// is 0.
+// Three arrays side by side and no record for each place: the layout is the C interface's.
 #[repr(C)]
 #[derive(Clone, Copy)]
 pub struct Holds {
@@ -36,29 +37,10 @@ pub struct Holds {
     pub words: [u64; 256],
 }
 
-// What the calls reply: an ask that is held the number, one that is declined the mask of the rules that
-// its plan breaks together with its user's words and held plans, committing and dropping the number given.
-#[derive(Clone, Copy)]
-pub enum Reply {
+/// What an ask replies that nothing refuses: one that is held the number, one that is declined the mask
+/// of the rules that its plan breaks together with its user's words and held plans.
+#[derive(Clone, Copy, Debug, PartialEq, Eq)]
+pub enum Asked {
     Held(u32),
     Declined(u32),
-    Settled(u32),
-    Refused(Refusal),
 }
-
-// The reply, and tally and hold record on leaving.
-#[derive(Clone, Copy)]
-pub struct Outcome {
-    pub reply: Reply,
-    pub tally: Tally,
-    pub holds: Holds,
-}
-
-// The refusals' numbers.
-pub const LEDGER_LENGTH: u32 = 27;
-
-pub const COUNTS_FULL: u32 = 28;
-
-pub const PLACES_FULL: u32 = 31;
-
-pub const NOT_HELD: u32 = 32;

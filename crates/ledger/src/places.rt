@@ -1,109 +1,113 @@
-// The places of the hold record. A place is empty when its number is 0.
-ghost use Rattle.std.specs.Prelude.{◌≡◌, ℕ, ◌<◌, List};
-ghost use Rattle.ledger.specs.Places.{empty_place, freed, held_at, held_count, place_of, placed, written_at};
-ghost use Rattle.ledger.specs.Inner.Steps.{HeldWords, places_with};
+//! The places of the hold record. A place is empty when its number is 0.
+ghost use Rattle.std.specs.Prelude.{◌≡◌, ◌<◌, IfSome, is_some, not, unwrap_or};
+ghost use Rattle.ledger.specs.Places.{eight_held, empty_place, freed, held_at, held_count, holds_number, number_at, place_of, placed, taken};
+ghost use Rattle.ledger.specs.Inner.Steps.{HeldWords, lowest, passing};
 
 use crate::Holds;
-use crate::words::{join_words, words_of};
+use crate::words::words_of;
+use book::sets::join;
 
-// Whether a place is a user's; none past the end is.
-fn held_at(users: [u32; 8], numbers: [u32; 8], user: u32, p: u32) -> bool
-    ensures { (words : List ℕ) → result ≡ held_at (places_with users numbers words) user p }
-{
-    if p < 8 {
-        return (numbers[p as usize] != 0) & (users[p as usize] == user);
+impl Holds {
+    /// Whether a place holds a plan; none past the end does.
+    #[tactic(auto, unfolding(crate::specs::Places::taken))]
+    fn is_taken(&self, p: u8) -> bool
+        ensures { result ≡ taken self.now p }
+    {
+        self.numbers.get(usize::from(p)).is_some_and(|n| *n != 0)
     }
-    false
-}
 
-// How many places are a user's.
-pub fn held_count(users: [u32; 8], numbers: [u32; 8], user: u32) -> u32
-    ensures { ((words : List ℕ) → result ≡ held_count (places_with users numbers words) user) × (result < 9) }
-{
-    let mut n = 0u32;
-    for p in 0..8u32 {
-        if held_at(users, numbers, user, p) {
-            n = n + 1;
-        }
+    /// Whether a place holds a plan of a user.
+    #[tactic(auto, unfolding(crate::specs::Places::held_at, crate::specs::Places::taken))]
+    fn is_held_by(&self, user: u32, p: u8) -> bool
+        ensures { result ≡ held_at self.now user p }
+    {
+        self.is_taken(p) && self.users.get(usize::from(p)) == Some(&user)
     }
-    n
-}
 
-// The lowest empty place; 8 where none is empty.
-pub fn empty_place(numbers: [u32; 8]) -> u32
-    ensures { (users : List ℕ) (words : List ℕ) → result ≡ empty_place (places_with users numbers words) }
-{
-    for p in 0..8u32 {
-        if numbers[p as usize] == 0 {
-            return p;
-        }
+    /// Whether a place holds the plan of a user and a number.
+    #[tactic(auto, unfolding(crate::specs::Places::number_at, crate::specs::Places::held_at, crate::specs::Places::taken))]
+    fn has_number(&self, user: u32, number: u32, p: u8) -> bool
+        ensures { result ≡ number_at self.now user number p }
+    {
+        self.is_held_by(user, p) && self.numbers.get(usize::from(p)) == Some(&number)
     }
-    8
-}
 
-// The lowest place with that user and number; 8 where he does not hold it.
-pub fn place_of(users: [u32; 8], numbers: [u32; 8], user: u32, number: u32) -> u32
-    ensures { (words : List ℕ) → result ≡ place_of (places_with users numbers words) user number }
-{
-    for p in 0..8u32 {
-        if held_at(users, numbers, user, p) {
-            if numbers[p as usize] == number {
-                return p;
+    // The chain of `held_count` alone: only so does the search follow it.
+    fn places_of(&self, user: u32) -> usize
+        ensures count { result ≡ passing (held_at self.now user) }
+        ensures within { result < 9 }
+    {
+        (0..8u8).filter(|p| self.is_held_by(user, *p)).count()
+    }
+
+    // The chain of `place_of`, likewise.
+    fn first_with(&self, user: u32, number: u32) -> Option<u8>
+        ensures place { result ≡ lowest (number_at self.now user number) }
+        ensures within { IfSome result (λ p. p < 8) }
+    {
+        (0..8u8).find(|p| self.has_number(user, number, *p))
+    }
+
+    /// How many places are a user's.
+    #[tactic(auto, using(crate::proofs::PlaceLaws::held_passing))]
+    pub fn held_count(&self, user: u32) -> usize
+        ensures count { result ≡ held_count self.now user }
+        ensures within { result < 9 }
+    {
+        self.places_of(user)
+    }
+
+    /// The lowest empty place.
+    pub fn empty_place(&self) -> Option<u8>
+        ensures found { is_some result ≡ not (eight_held self.now) }
+        ensures place { unwrap_or result 8 ≡ empty_place self.now }
+        ensures within { IfSome result (λ p. p < 8) }
+    {
+        (0..8u8).find(|p| !self.is_taken(*p))
+    }
+
+    /// The lowest place with that user and number.
+    #[tactic(auto, using(crate::proofs::PlaceLaws::lowest_number, crate::proofs::PlaceLaws::number_some))]
+    pub fn place_of(&self, user: u32, number: u32) -> Option<u8>
+        ensures found { is_some result ≡ holds_number self.now user number }
+        ensures place { unwrap_or result 8 ≡ place_of self.now user number }
+        ensures within { IfSome result (λ p. p < 8) }
+    {
+        self.first_with(user, number)
+    }
+
+    /// The words of a user's held plans, joined.
+    #[tactic(auto, using(crate::proofs::PlaceLaws::gather_none, crate::proofs::PlaceLaws::gather_more, crate::proofs::PlaceLaws::gather_past, crate::proofs::PlaceLaws::gather_all))]
+    pub fn held_words(&self, user: u32) -> [u64; 32]
+        ensures { HeldWords self.now user result }
+    {
+        let mut all = [0; 32];
+        for p in 0..8u8 {
+            if self.is_held_by(user, p) {
+                join(&mut all, &words_of(&self.words, u32::from(p)));
             }
         }
+        all
     }
-    8
-}
 
-// The words of a user's held plans, joined.
-pub fn held_words(users: [u32; 8], numbers: [u32; 8], words: &[u64], user: u32) -> [u64; 32]
-    ensures { HeldWords (places_with users numbers words.now) user result }
-{
-    let mut all = [0u64; 32];
-    for p in 0..8u32 {
-        if held_at(users, numbers, user, p) {
-            join_words(&mut all, 0, words_of(words, p));
+    /// A plan is put into a place: its user, its number and its words. Past the end nothing is.
+    #[tactic(auto, using(crate::proofs::WordLaws::written_in_place), unfolding(crate::specs::Places::placed))]
+    pub fn put(&mut self, p: u8, user: u32, number: u32, words: &[u64; 32])
+        ensures { p < 8 → self.new ≡ placed self.old p user number words.now }
+    {
+        if p < 8 {
+            let at = usize::from(p);
+            self.users[at] = user;
+            self.numbers[at] = number;
+            self.words[32 * at..32 * at + 32].copy_from_slice(words);
         }
     }
-    all
-}
 
-// Words in the stead of those of a place.
-fn written_at(words: [u64; 256], p: u32, new: [u64; 32]) -> [u64; 256]
-    ensures { result ≡ written_at words p new }
-{
-    let first = 32 * (p as usize);
-    let mut r = words;
-    for w in 0..32usize {
-        if first + w < 256 {
-            r[first + w] = new[w];
-        }
+    /// A place is freed: all zero.
+    #[tactic(auto, unfolding(crate::specs::Places::freed))]
+    pub fn free(&mut self, p: u8)
+        ensures { p < 8 → self.new ≡ freed self.old p }
+    {
+        self.put(p, 0, 0, &[0; 32]);
     }
-    r
-}
-
-// A place with that user, number and words.
-pub fn placed(holds: Holds, p: u32, user: u32, number: u32, new: [u64; 32]) -> Holds
-    ensures { p < 8 → result ≡ placed holds p user number new }
-{
-    let mut users = holds.users;
-    let mut numbers = holds.numbers;
-    let before = holds.words;
-    let words = written_at(before, p, new);
-    if p < 8 {
-        users[p as usize] = user;
-        numbers[p as usize] = number;
-    }
-    Holds {
-        users,
-        numbers,
-        words,
-    }
-}
-
-// A place freed: all zero.
-pub fn freed(holds: Holds, p: u32) -> Holds
-    ensures { p < 8 → result ≡ freed holds p }
-{
-    placed(holds, p, 0, 0, [0u64; 32])
 }

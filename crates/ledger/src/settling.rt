@@ -1,120 +1,77 @@
-// Commit and Drop: a held plan is admitted or forgotten, and its place is free for the next.
-ghost use Rattle.std.specs.Prelude.{◌≡◌};
-ghost use Rattle.ledger.specs.Answers.{commit_ledger, commit_tally, drop_tally, settle_answer, settle_holds};
+//! Commit and Drop: a held plan is admitted or forgotten, and its place is free for the next.
+ghost use Rattle.std.specs.Prelude.{◌≡◌, ◌<◌, Ok, Err, IfOk};
+ghost use Rattle.book.specs.Tests.{answered};
+ghost use Rattle.ledger.specs.Places.{place_of};
+ghost use Rattle.ledger.specs.Answers.{commit_ledger, commit_tally, drop_tally, settle_answer, settle_holds, settle_tests};
 ghost use Rattle.ledger.specs.Histories.{Commit, Drop};
 ghost use Rattle.ledger.specs.Demand.{Continues, SettleAccepted};
-ghost use Rattle.ledger.specs.Inner.Steps.{SettleTested};
 
-use crate::counts::{with_admitted, with_dropped};
-use crate::places::{freed, place_of};
-use crate::words::{join_words, words_of};
-use crate::{Holds, LEDGER_LENGTH, NOT_HELD, Outcome, Reply, Tally};
-use book::Tested;
-use book::checking::test_book;
-use book::fields::head_of;
-use book::testing::{or_else, test};
-use book::words::head_words;
+use crate::words::{join_words, test_ledger, words_of};
+use crate::{Holds, Tally};
+use book::{Book, Refusal};
 use verdicts::judging::test_user;
 
-// The tests of the book, of the user, of the ledger, of the number.
-fn test_settle(
-    book: &[u8],
-    t: &[u64],
-    user: u32,
-    number: u32,
-    ledger: &[u64],
-    holds: Holds,
-) -> Tested
-    ensures { SettleTested book.now t.now user number ledger.now holds result }
+/// What committing and dropping test: the place of the number that the user holds, or the refusal.
+fn settle(book: &[u8], user: u32, number: u32, ledger: &[u64], holds: &Holds) -> Result<u8, Refusal>
+    ensures place { result
+        ≡ answered (settle_tests book.now user number ledger.now holds.now) Err
+        (Ok (place_of holds.now user number)) }
+    ensures within { IfOk result (λ p. p < 8) }
 {
-    let both = or_else(test_book(book, t), test_user(t, user));
-    let whole = or_else(both, test(LEDGER_LENGTH, 0, ledger.len() == 1024));
-    let users = holds.users;
-    let numbers = holds.numbers;
-    or_else(
-        whole,
-        test(NOT_HELD, 0, place_of(users, numbers, user, number) < 8),
-    )
+    let book = Book::new(book)?;
+    test_user(&book.words, user)?;
+    test_ledger(ledger)?;
+    holds.place_of(user, number).ok_or(Refusal::NotHeld)
 }
 
-// Commit: the held plan's words are joined to the user's; no rule is tested, as asking has tested them.
-// A refusal leaves ledger, tally and hold record as they were.
+// `commit` and `drop_hold` stay two, as the C interface has both: they share `settle`.
+/// Commit: the held plan's words are joined to the user's; no rule is tested, as asking has tested them.
+/// A refusal leaves ledger, tally and hold record as they were.
 pub fn commit(
     book: &[u8],
     user: u32,
     number: u32,
     ledger: &mut [u64],
-    tally: Tally,
-    holds: Holds,
-) -> Outcome
-    ensures { (result.reply ≡ settle_answer book.now user number ledger.entry.now holds)
-        × (result.tally ≡ commit_tally book.now user number ledger.entry.now holds tally)
-        × (result.holds ≡ settle_holds book.now user number ledger.entry.now holds)
-        × (ledger.exit.now ≡ commit_ledger book.now user number ledger.entry.now holds)
-        × (SettleAccepted book.now user number ledger.entry.now holds
-        → result.reply ≡ Reply.Settled number)
-        × Continues book.now (record { user = user; call = Commit number })
-        (record { ledger = ledger.entry.now; tally = tally; holds = holds })
-        (record { ledger = ledger.exit.now; tally = result.tally; holds = result.holds }) }
+    tally: &mut Tally,
+    holds: &mut Holds,
+) -> Result<u32, Refusal>
+    ensures answer { result ≡ settle_answer book.now user number ledger.old holds.old }
+    ensures tally { tally.new ≡ commit_tally book.now user number ledger.old holds.old tally.old }
+    ensures holds { holds.new ≡ settle_holds book.now user number ledger.old holds.old }
+    ensures ledger { ledger.new ≡ commit_ledger book.now user number ledger.old holds.old }
+    ensures settled { SettleAccepted book.now user number ledger.old holds.old
+        → result ≡ Ok number }
+    ensures continues { Continues book.now (record { user = user; call = Commit number })
+        (record { ledger = ledger.old; tally = tally.old; holds = holds.old })
+        (record { ledger = ledger.new; tally = tally.new; holds = holds.new }) }
 {
-    let t = head_words(head_of(book));
-    let outcome = test_settle(book, &t, user, number, ledger, holds);
-    match outcome {
-        Tested::Refused(refusal) => Outcome {
-            reply: Reply::Refused(refusal),
-            tally,
-            holds,
-        },
-        Tested::Passed => {
-            let users = holds.users;
-            let numbers = holds.numbers;
-            let p = place_of(users, numbers, user, number);
-            let words = holds.words;
-            join_words(ledger, user, words_of(&words, p));
-            Outcome {
-                reply: Reply::Settled(number),
-                tally: with_admitted(tally, user),
-                holds: freed(holds, p),
-            }
-        }
-    }
+    let place = settle(book, user, number, ledger, holds)?;
+    join_words(ledger, user, &words_of(&holds.words, u32::from(place)));
+    tally.count_admitted(user);
+    holds.free(place);
+    Ok(number)
 }
 
-// Drop: the held plan is forgotten. A refusal leaves tally and hold record as they were.
+/// Drop: the held plan is forgotten. A refusal leaves tally and hold record as they were.
 pub fn drop_hold(
     book: &[u8],
     user: u32,
     number: u32,
     ledger: &[u64],
-    tally: Tally,
-    holds: Holds,
-) -> Outcome
-    ensures { (result.reply ≡ settle_answer book.now user number ledger.entry.now holds)
-        × (result.tally ≡ drop_tally book.now user number ledger.entry.now holds tally)
-        × (result.holds ≡ settle_holds book.now user number ledger.entry.now holds)
-        × (SettleAccepted book.now user number ledger.entry.now holds
-        → result.reply ≡ Reply.Settled number)
-        × Continues book.now (record { user = user; call = Drop number })
-        (record { ledger = ledger.entry.now; tally = tally; holds = holds })
-        (record { ledger = ledger.entry.now; tally = result.tally; holds = result.holds }) }
+    tally: &mut Tally,
+    holds: &mut Holds,
+) -> Result<u32, Refusal>
+    ensures answer { result ≡ settle_answer book.now user number ledger.now holds.old }
+    ensures tally { tally.new ≡ drop_tally book.now user number ledger.now holds.old tally.old }
+    ensures holds { holds.new ≡ settle_holds book.now user number ledger.now holds.old }
+    ensures settled { SettleAccepted book.now user number ledger.now holds.old
+        → result ≡ Ok number }
+    ensures continues { Continues book.now (record { user = user; call = Drop number })
+        (record { ledger = ledger.now; tally = tally.old; holds = holds.old })
+        (record { ledger = ledger.now; tally = tally.new; holds = holds.new }) }
 {
-    let t = head_words(head_of(book));
-    let outcome = test_settle(book, &t, user, number, ledger, holds);
-    match outcome {
-        Tested::Refused(refusal) => Outcome {
-            reply: Reply::Refused(refusal),
-            tally,
-            holds,
-        },
-        Tested::Passed => {
-            let users = holds.users;
-            let numbers = holds.numbers;
-            let p = place_of(users, numbers, user, number);
-            Outcome {
-                reply: Reply::Settled(number),
-                tally: with_dropped(tally, user),
-                holds: freed(holds, p),
-            }
-        }
-    }
+    let place = settle(book, user, number, ledger, holds)?;
+    tally.count_dropped(user);
+    holds.free(place);
+    Ok(number)
 }

@@ -83,13 +83,13 @@ pub record PlanHolds (head plan : List ℕ) : Type 0 where
 pub accepted_plan : (head plan : List ℕ) → PlanAccepted head plan → PlanHolds head plan
 unfolding plan_tests row_tests
 accepted_plan head plan h =
-    let first = first_passed 21 0 (plan_length_holds (length plan)) (flat (row_tests head plan) (up_to (row_count plan))) h in
+    let first = first_passed _ (plan_length_holds (length plan)) (flat (row_tests head plan) (up_to (row_count plan))) h in
     let each = passed_flat (row_tests head plan) (row_count plan) first.1 in
     let bounds = plan_length_law (length plan) first.0 in
     record {
       whole = bounds.0;
       short = bounds.1;
-      rows = λ i l. last_passed 22 i (row_holds head plan i) (each i l);
+      rows = λ i l. last_passed _ (row_holds head plan i) (each i l);
     }
 
 -- The paths of an accepted plan

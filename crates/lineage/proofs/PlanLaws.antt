@@ -9,10 +9,11 @@ use lib.Dec.{eqb, leb}
 use borrow.Author.Tests.{lt-leb, leb-true, eqb-true}
 use Rattle.book.specs.Lists.{flat, up_to}
 use Rattle.book.specs.Tests.{Passes, first_failing}
-use Rattle.book.specs.declared.Tested.TheVariants.{Refused}
+use Rattle.std.specs.Prelude.{Err}
+use Rattle.book.specs.declared.refusal.Refusal.TheVariants.{PlanLength, FaultyRow}
 use Rattle.book.proofs.Lists.{and_both, and_false}
 use Rattle.lineage.specs.Rows.{Unknown}
-use Rattle.lineage.specs.Rows.{row_count, kind_byte, kind_of, kind_at, row_a, row_b, row_c, is_value, sound_as, row_holds}
+use Rattle.lineage.specs.Rows.{row_count, kind_of, is_value, row_holds}
 use Rattle.lineage.specs.Answers.{plan_length_holds, row_tests, plan_tests}
 
 -- Kinds
@@ -43,19 +44,12 @@ kind_other (suc (suc (suc (suc (suc (suc n)))))) a b c d e = refl
 -- Rows
 
 module _ (head plan : List ℕ) (i : ℕ) where
-  pub holds_as :
-      (n : ℕ) →
-      kind_byte plan i ≡ n →
-      row_holds head plan i ≡ sound_as (kind_of n) head plan i (row_a plan i) (row_b plan i) (row_c plan i)
-  unfolding row_holds kind_at
-  holds_as n e = rw e
-
   pub row_passed : row_holds head plan i ≡ true → Passes (row_tests head plan i)
   unfolding first_failing row_tests
   row_passed h = rw h
 
   pub row_failed :
-      row_holds head plan i ≡ false → first_failing (row_tests head plan i) ≡ Refused (record { number = 22; place = i })
+      row_holds head plan i ≡ false → first_failing (row_tests head plan i) ≡ Err (FaultyRow i)
   unfolding first_failing row_tests
   row_failed h = rw h
 
@@ -71,7 +65,7 @@ plan_length_law n h =
 module _ (head plan : List ℕ) where
   pub plan_refused :
       plan_length_holds (length plan) ≡ false
-      → first_failing (plan_tests head plan) ≡ Refused (record { number = 21; place = 0 })
+      → first_failing (plan_tests head plan) ≡ Err PlanLength
   unfolding plan_tests first_failing
   plan_refused h = rw h
 

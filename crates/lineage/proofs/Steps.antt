@@ -1,13 +1,15 @@
 -- Laws of the pass up the rows: what the words of a row hold, by the row's kind. Assumes nothing.
-use Prim.Native.Nat.{ℕ, zero, suc, ◌+◌, ◌*◌, ◌-◌, ◌^◌, ◌≤◌, ◌<◌}
+use Prim.Native.Nat.{ℕ, zero, suc, ◌+◌, ◌-◌, ◌^◌, ◌≤◌, ◌<◌}
 use native.Mathlib.Omega.{arith}
 use mathlib.Core.Path.{◌≡◌, refl, sym, ◌∙◌}
 use mathlib.Core.Bool.{Bool, true, false, ◌&&◌, ◌||◌, not, cond, false≢true}
 use mathlib.Core.List.{List, [], ◌∷◌}
-use lib.ListN.{length, get_or, set, length-set, replicate, length-replicate, get_or-replicate, get_or-eq_default}
+use lib.ListN.{length, get_or, set, take, length-set, replicate, length-replicate, get_or-replicate, get_or-eq_default}
+use Rattle.std.specs.Prelude.{◌≢◌}
+use Rattle.std.proofs.lemmas.List.{get_or-take}
 use lib.Seq.{get_or-set_same, get_or-set_other}
 use native.Mathlib.Nat.{lt_of_le_of_lt}
-use lib.Bits.{bit_and, bit_or, and_le_l}
+use lib.Bits.{bit_and, bit_or, and_le_l, or_zero_l}
 use lib.Dec.{eqb, ltb}
 use borrow.Author.Tests.{ltb-true, ltb-false, lt-ltb, le-ltb, eqb-true, eqb-false, eq-eqb, ne_eqb}
 use Rattle.book.specs.Lists.{any}
@@ -15,12 +17,24 @@ use Rattle.book.specs.Sets.{has, WordOf}
 use Rattle.book.specs.Head.{is_data_leaf, label, operation, supports}
 use Rattle.book.proofs.Lists.{and_end, and_false, and_never, and_or, or_end, ltb_more}
 use Rattle.book.proofs.Members.{has_zero, has_and, has_or, has_minus}
-use Rattle.lineage.specs.Rows.{Column, Apply, Choose, is_value, kind_at, kind_byte, kind_of, row_a, row_b, row_c}
+use Rattle.lineage.specs.Rows.{Column, Apply, Choose, Unknown, is_value, kind_at, row_a, row_b, row_c}
+use Rattle.lineage.specs.Inner.Reading.{kind_using}
+use Rattle.lineage.specs.declared.rows.Channel.{Channel}
+use Rattle.lineage.specs.declared.rows.Channel.TheVariants as channel
 use Rattle.lineage.specs.Paths.{labels, takes}
 use Rattle.lineage.specs.Inner.Table.{Brought, ByOperation, Mixed, Moved, Operated, PlanSound, Reached}
-use Rattle.lineage.specs.Inner.Table.{RowOf, RowReached, Stored, stands}
+use Rattle.lineage.specs.Inner.Table.{RowReached, stands, word}
 use Rattle.book.specs.Inner.Reading.{Supporting}
 use Rattle.lineage.proofs.Paths.{stands_column, stands_choose, stands_one, stands_two, stands_none}
+
+-- Empty words
+
+pub get_d_zeros : (n j : ℕ) → ◌≡◌ {A = ℕ} (get_or (replicate n 0) j 0) 0
+get_d_zeros n j = go (ltb j n) refl
+  where
+    go : (b : Bool) → ltb j n ≡ b → ◌≡◌ {A = ℕ} (get_or (replicate n 0) j 0) 0
+    go true t = get_or-replicate {A = ℕ} n j 0 0 (ltb-true j n t)
+    go false t = get_or-eq_default {A = ℕ} (replicate n 0) 0 (rw length-replicate (ltb-false j n t))
 
 -- Column
 
@@ -100,19 +114,8 @@ taken_too false false true = refl
 taken_too false false false = refl
 
 -- word 0 is lessened, and what it loses is joined to word o
-module _ (row : List ℕ) (o less more : ℕ) (size : length row ≡ 17) (low : o ≡ 0 → ⊥) (high : o < 17) where
-  abbrev next : List ℕ
-  next = set (set row 0 less) o more
-
-  at_zero : get_or next 0 0 ≡ less
-  at_zero = get_or-set_other (set row 0 less) o 0 more 0 (λ z. low (sym z)) ∙ get_or-set_same row 0 less 0 (omega arith)
-
-  at_taken : get_or next o 0 ≡ more
-  at_taken = get_or-set_same (set row 0 less) o more 0 (rw length-set (omega arith))
-
-  at_other : (k : ℕ) → (k ≡ 0 → ⊥) → (k ≡ o → ⊥) → get_or next k 0 ≡ get_or row k 0
-  at_other k p q = get_or-set_other (set row 0 less) o k more 0 q ∙ get_or-set_other row 0 k less 0 p
-
+module _ (row next : List ℕ) (o less more : ℕ) (low : o ≢ 0) (at_zero : get_or next 0 0 ≡ less)
+    (at_taken : get_or next o 0 ≡ more) (at_other : (k : ℕ) → k ≢ 0 → k ≢ o → get_or next k 0 ≡ get_or row k 0) where
   moved_by :
       (set : ℕ → Bool) →
       ((d : ℕ) → has less d ≡ (has (get_or row 0 0) d && not (has (get_or row 0 0) d && set d))) →
@@ -141,28 +144,40 @@ module _ (row : List ℕ) (o less more : ℕ) (size : length row ≡ 17) (low : 
 pub operated_some :
     (row supporting : List ℕ) (o : ℕ) →
     length row ≡ 17 →
-    (o ≡ 0 → ⊥) →
+    o ≢ 0 →
     o < 16 →
     get_or row 0 0 < 2 ^ 64 →
-    Operated row o supporting
-    (set (set row 0 (bit_and (get_or row 0 0) ((2 ^ 64 - 1) - bit_and (get_or row 0 0) (get_or supporting o 0)))) o
-    (bit_or (get_or row o 0) (bit_and (get_or row 0 0) (get_or supporting o 0))))
+    let taken = bit_and (get_or row 0 0) (get_or supporting o 0) in
+    let first = set row 0 (bit_and (get_or row 0 0) ((2 ^ 64 - 1) - taken)) in
+    Operated row o supporting (set first o (bit_or (get_or first o 0) taken))
 operated_some row supporting o size low high fits =
     let taken = bit_and (get_or row 0 0) (get_or supporting o 0) in
+    let less = bit_and (get_or row 0 0) ((2 ^ 64 - 1) - taken) in
+    let first = set row 0 less in
     let taken_fits = lt_of_le_of_lt (and_le_l (get_or row 0 0) (get_or supporting o 0)) fits in
-    moved_by row o (bit_and (get_or row 0 0) ((2 ^ 64 - 1) - taken)) (bit_or (get_or row o 0) taken) size low (omega arith)
+    let same : get_or first o 0 ≡ get_or row o 0 = get_or-set_other row 0 o less 0 low in
+    moved_by row (set first o (bit_or (get_or first o 0) taken)) o less (bit_or (get_or first o 0) taken) low
+    (get_or-set_other first o 0 (bit_or (get_or first o 0) taken) 0 (λ z. low (sym z)) ∙ get_or-set_same row 0 less 0 (omega arith))
+    (get_or-set_same first o (bit_or (get_or first o 0) taken) 0 (rw length-set (omega arith)))
+    (λ k p q. get_or-set_other first o k (bit_or (get_or first o 0) taken) 0 q ∙ get_or-set_other row 0 k less 0 p)
     (λ d. not (eqb o 0) && has (get_or supporting o 0) d)
     (λ d. rw (
       has_minus 64 (get_or row 0 0) taken d fits taken_fits,
       has_and (get_or row 0 0) (get_or supporting o 0) d,
       ne_eqb o 0 low,
     ))
-    (λ d. rw (has_or (get_or row o 0) taken d, has_and (get_or row 0 0) (get_or supporting o 0) d, ne_eqb o 0 low))
+    (λ d. rw (same, has_or (get_or row o 0) taken d, has_and (get_or row 0 0) (get_or supporting o 0) d, ne_eqb o 0 low))
 
 pub mixed_row :
-    (row : List ℕ) → length row ≡ 17 → Mixed row (set (set row 0 0) 16 (bit_or (get_or row 16 0) (get_or row 0 0)))
+    (row : List ℕ) → length row ≡ 17 → Mixed row (set (set row 16 (bit_or (get_or row 16 0) (get_or row 0 0))) 0 0)
 mixed_row row size =
-    moved_by row 16 0 (bit_or (get_or row 16 0) (get_or row 0 0)) size (λ z. omega arith) (omega arith) (λ d. true)
+    let more = bit_or (get_or row 16 0) (get_or row 0 0) in
+    let first = set row 16 more in
+    moved_by row (set first 0 0) 16 0 more (λ z. omega arith)
+    (get_or-set_same first 0 0 0 (rw length-set (omega arith)))
+    (get_or-set_other first 0 16 0 0 (λ z. omega arith) ∙ get_or-set_same row 16 more 0 (omega arith))
+    (λ k p q. get_or-set_other first 0 k 0 0 p ∙ get_or-set_other row 16 k more 0 q)
+    (λ d. true)
     (λ d. rw (has_zero d, and_end (has (get_or row 0 0) d)) (sym (never (has (get_or row 0 0) d))))
     (λ d. rw (has_or (get_or row 16 0) (get_or row 0 0) d, and_end (has (get_or row 0 0) d)))
   where
@@ -172,36 +187,20 @@ mixed_row row size =
 
 -- Leaves by operation: those without one joined
 
-pub operations_of_law :
-    (table row words : List ℕ) (r : ℕ) →
+pub by_operation_of :
+    (table : List (List ℕ)) (row words : List ℕ) (r : ℕ) →
+    get_or table r [] ≡ row →
     length words ≡ 16 →
-    ((k : ℕ) → k < 16 → get_or words k 0 ≡ get_or row k 0) →
-    RowOf table r row →
-    ByOperation table r (set words 0 (bit_or (get_or row 0 0) (get_or row 16 0)))
-operations_of_law table row words r size words_at row_at whole zero small =
-    get_or-set_same words 0 (bit_or (get_or row 0 0) (get_or row 16 0)) 0 (omega arith)
-    ∙ rw (row_at whole 0 (omega arith), row_at whole 16 (omega arith))
-operations_of_law table row words r size words_at row_at whole (suc k) small =
-    get_or-set_other words 0 (suc k) (bit_or (get_or row 0 0) (get_or row 16 0)) 0 (λ z. omega arith)
-    ∙ words_at (suc k) small
-    ∙ row_at whole (suc k) (omega arith)
-    ∙ rw (ne_eqb (suc k) 0 (λ z. omega arith))
+    words ≡ take 16 row →
+    ByOperation table r (set words 0 (bit_or (get_or words 0 0) (get_or row 16 0)))
+by_operation_of table row words r at size cut zero small =
+    get_or-set_same words 0 (bit_or (get_or words 0 0) (get_or row 16 0)) 0 (omega arith)
+    ∙ rw (at, cut, get_or-take 16 row 0 0 (omega arith))
+by_operation_of table row words r at size cut (suc k) small =
+    get_or-set_other words 0 (suc k) (bit_or (get_or words 0 0) (get_or row 16 0)) 0 (λ z. omega arith)
+    ∙ rw (at, cut, ne_eqb (suc k) 0 (λ z. omega arith)) (get_or-take 16 row (suc k) 0 small)
 
 -- The row by its kind
-
-pub kind_is : (plan : List ℕ) (i kind n : ℕ) → kind ≡ kind_byte plan i → kind ≡ n → kind_at plan i ≡ kind_of n
-unfolding kind_at
-kind_is plan i kind n e q = rw (← e, q)
-
-pub no_value : (n : ℕ) → (n ≡ 1 → ⊥) → (n ≡ 2 → ⊥) → (n ≡ 3 → ⊥) → is_value (kind_of n) ≡ false
-unfolding kind_of is_value
-no_value zero p q r = refl
-no_value (suc zero) p q r = absurd (p refl)
-no_value (suc (suc zero)) p q r = absurd (q refl)
-no_value (suc (suc (suc zero))) p q r = absurd (r refl)
-no_value (suc (suc (suc (suc zero)))) p q r = refl
-no_value (suc (suc (suc (suc (suc zero))))) p q r = refl
-no_value (suc (suc (suc (suc (suc (suc n)))))) p q r = refl
 
 module _ (head plan : List ℕ) (i : ℕ) where
   -- what the rows that b and c name bring
@@ -211,32 +210,34 @@ module _ (head plan : List ℕ) (i : ℕ) where
       || (ltb (row_c plan i) i && stands head plan (row_c plan i) d w)
 
   pub brought_words :
-      (table both : List ℕ) →
+      (table : List (List ℕ)) (both : List ℕ) →
       Reached head plan i table →
-      Brought plan table i both →
+      Brought table (row_b plan i) (row_c plan i) both →
       (w : ℕ) → w < 17 → WordOf (λ d. brought d w) (get_or both w 0)
   brought_words table both reached joined w small d =
       rw (
-        joined reached.whole w small,
-        has_or (get_or table (17 * row_b plan i + w) 0) (get_or table (17 * row_c plan i + w) 0) d,
-        reached.at (row_b plan i) w small d,
-        reached.at (row_c plan i) w small d,
+        joined w small,
+        has_or (word table (row_b plan i) w) (word table (row_c plan i) w) d,
+        reached (row_b plan i) w small d,
+        reached (row_c plan i) w small d,
       )
       (sym (and_or (ltb d 64) (ltb (row_b plan i) i && stands head plan (row_b plan i) d w)
       (ltb (row_c plan i) i && stands head plan (row_c plan i) d w)))
 
   -- 255 in c is no lower row, and row b brings all
   pub below_words :
-      (table below : List ℕ) →
+      (table : List (List ℕ)) (below : List ℕ) →
       Reached head plan i table →
-      RowOf table (row_b plan i) below →
+      ((w : ℕ) → w < 17 → get_or below w 0 ≡ bit_or (get_or (replicate 17 0) w 0) (word table (row_b plan i) w)) →
       row_c plan i ≡ 255 →
       i ≤ 255 →
       (w : ℕ) → w < 17 → WordOf (λ d. brought d w) (get_or below w 0)
   below_words table below reached row_at one few w small d =
       rw (
-        row_at reached.whole w small,
-        reached.at (row_b plan i) w small d,
+        row_at w small,
+        get_d_zeros 17 w,
+        or_zero_l (word table (row_b plan i) w),
+        reached (row_b plan i) w small d,
         le-ltb (row_c plan i) i (rw one few),
         or_end (ltb (row_b plan i) i && stands head plan (row_b plan i) d w),
       )
@@ -258,6 +259,16 @@ module _ (head plan : List ℕ) (i : ℕ) where
   pub no_row : is_value (kind_at plan i) ≡ false → RowReached head plan i (replicate 17 0)
   no_row e w small d =
       rw (get_or-replicate {A = ℕ} 17 w 0 0 small, has_zero d, stands_none head plan i d w e, and_false (ltb d 64))
+
+  -- a row that uses another, and one of no kind
+  pub no_row_used : (c : Channel) → kind_at plan i ≡ kind_using c → RowReached head plan i (replicate 17 0)
+  unfolding is_value
+  no_row_used channel.Projection e = no_row (rw e refl)
+  no_row_used channel.Condition e = no_row (rw e refl)
+
+  pub no_row_unknown : kind_at plan i ≡ Unknown → RowReached head plan i (replicate 17 0)
+  unfolding is_value
+  no_row_unknown e = no_row (rw e refl)
 
   -- what is brought is a leaf, so that the words of leaves tell what is supported
   leaf_brought : PlanSound head plan → (d w : ℕ) → is_data_leaf head d ≡ false → brought d w ≡ false
@@ -319,54 +330,33 @@ module _ (head plan : List ℕ) (i : ℕ) where
 
 -- The table, row by row
 
-pub get_d_zeros : (n j : ℕ) → ◌≡◌ {A = ℕ} (get_or (replicate n 0) j 0) 0
-get_d_zeros n j = go (ltb j n) refl
+pub word_zeros : (n m r w : ℕ) → word (replicate n (replicate m 0)) r w ≡ 0
+word_zeros n m r w = go (ltb r n) refl
   where
-    go : (b : Bool) → ltb j n ≡ b → ◌≡◌ {A = ℕ} (get_or (replicate n 0) j 0) 0
-    go true t = get_or-replicate {A = ℕ} n j 0 0 (ltb-true j n t)
-    go false t = get_or-eq_default {A = ℕ} (replicate n 0) 0 (rw length-replicate (ltb-false j n t))
+    go : (b : Bool) → ltb r n ≡ b → word (replicate n (replicate m 0)) r w ≡ 0
+    go true t = rw (get_or-replicate {A = List ℕ} n r (replicate m 0) [] (ltb-true r n t)) (get_d_zeros m w)
+    go false t =
+        let table : List (List ℕ) = replicate n (replicate m 0) in
+        let past : length table ≤ r = rw length-replicate (ltb-false r n t) in
+        rw (get_or-eq_default table [] past) refl
 
 module _ (head plan : List ℕ) where
-  pub reached_none : Reached head plan 0 (replicate 1088 0)
-  reached_none =
-      record {
-        whole = refl;
-        at =
-            λ r w small d.
-            rw (get_d_zeros 1088 (17 * r + w), has_zero d, le-ltb r 0 (omega arith), and_false (ltb d 64));
-      }
+  pub reached_none : Reached head plan 0 (replicate 64 (replicate 17 0))
+  reached_none r w small d = rw (word_zeros 64 17 r w, has_zero d, le-ltb r 0 (omega arith), and_false (ltb d 64))
 
   pub reached_more :
-      (i : ℕ) (row before after : List ℕ) →
-      length before ≡ 1088 →
-      i < 64 →
+      (i : ℕ) (row : List ℕ) (before : List (List ℕ)) →
+      i < length before →
       Reached head plan i before →
       RowReached head plan i row →
-      Stored i row before after →
-      Reached head plan (i + 1) after
-  reached_more i row before after size few reached row_at stored =
-      record { whole = rw stored.0 reached.whole; at = each }
+      Reached head plan (i + 1) (set before i row)
+  reached_more i row before few reached row_at r w small d = go (eqb r i) refl
     where
-      each : (r w : ℕ) → w < 17 → WordOf (λ d. ltb r (i + 1) && stands head plan r d w) (get_or after (17 * r + w) 0)
-      each r w small d = go (ltb (17 * r + w) 1088) refl (eqb r i) refl
-        where
-          there :
-              17 * r + w < 1088 → get_or after (17 * r + w) 0 ≡ cond (eqb r i) (get_or row w 0) (get_or before (17 * r + w) 0)
-          there l = stored.1 reached.whole r w small (rw size l)
-
-          go :
-              (b : Bool) →
-              ltb (17 * r + w) 1088 ≡ b →
-              (t : Bool) →
-              eqb r i ≡ t →
-              has (get_or after (17 * r + w) 0) d ≡ (ltb d 64 && (ltb r (i + 1) && stands head plan r d w))
-          go true b true t =
-              let e : r ≡ i = eqb-true r i t in
-              rw (there (ltb-true (17 * r + w) 1088 b), t, lt-ltb r (i + 1) (omega arith)) (row_at w small d ∙ rw e)
-          go true b false t =
-              rw (there (ltb-true (17 * r + w) 1088 b), t, ltb_more r i (eqb-false r i t)) (reached.at r w small d)
-          go false b t q =
-              let l : 1088 ≤ 17 * r + w = ltb-false (17 * r + w) 1088 b in
-              let s : length after ≡ length before = stored.0 in
-              let past : length after ≤ 17 * r + w = omega arith in
-              rw (get_or-eq_default after 0 past, has_zero d, le-ltb r (i + 1) (omega arith), and_false (ltb d 64))
+      go :
+          (t : Bool) →
+          eqb r i ≡ t →
+          has (word (set before i row) r w) d ≡ (ltb d 64 && (ltb r (i + 1) && stands head plan r d w))
+      go true t =
+          rw (eqb-true r i t, get_or-set_same before i row [] few, lt-ltb i (i + 1) (omega arith)) (row_at w small d)
+      go false t =
+          rw (get_or-set_other before i r row [] (eqb-false r i t), ltb_more r i (eqb-false r i t)) (reached r w small d)

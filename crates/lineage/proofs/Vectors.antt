@@ -13,8 +13,8 @@ use Rattle.book.specs.Tests.{first_failing, refused_or, answered}
 use Rattle.book.specs.Refusals.{seal_tests}
 use Rattle.book.specs.Answers.{with_check, seal_bytes}
 use Rattle.book.specs.Shop.{padded, block, users, categories, columns, functions, shop}
-use Rattle.book.specs.declared.Tested.{Tested}
-use Rattle.book.specs.declared.Tested.TheVariants.{Passed}
+use Rattle.std.specs.Prelude.{Ok}
+use Rattle.book.specs.Tests.{Outcome}
 use Rattle.lineage.specs.Rows.{kind_of, kind_at, is_value, names, sound_as, row_holds}
 use Rattle.lineage.specs.Paths.{applied_as, through, paths_by, paths_in, paths, labels, takes, counting}
 use Rattle.lineage.specs.Paths.{first_operation, operation_of, carries}
@@ -196,18 +196,18 @@ passed_over = refl
 
 -- each of the cases' plans is accepted
 pub shop_plans :
-    ◌≡◌ {A = List Tested}
+    ◌≡◌ {A = List Outcome}
     (map (λ c. first_failing (plan_tests (head_of shop) (plan c.0))) cases)
-    (map (λ c. Passed) cases)
+    (map (λ c. Ok tt) cases)
 unfolding plan cases up_to from weighted check_sum with_check seal_bytes answered refused_or seal_tests first_failing padded
     block users categories columns functions shop kind_of kind_at is_value names sound_as row_holds flat plan_length_holds
     row_tests plan_tests
 shop_plans = refl
 
 pub mixing_plans :
-    ◌≡◌ {A = List Tested}
+    ◌≡◌ {A = List Outcome}
     (map (λ c. first_failing (plan_tests (head_of shop) (plan c.0))) mixing)
-    (map (λ c. Passed) mixing)
+    (map (λ c. Ok tt) mixing)
 unfolding plan mixing up_to from weighted check_sum with_check seal_bytes answered refused_or seal_tests first_failing padded
     block users categories columns functions shop kind_of kind_at is_value names sound_as row_holds flat plan_length_holds
     row_tests plan_tests

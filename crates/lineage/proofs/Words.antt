@@ -6,21 +6,21 @@ use native.Mathlib.Omega.{arith}
 use mathlib.Core.Path.{◌≡◌, refl, sym, ap, ◌∙◌}
 use mathlib.Core.Bool.{Bool, true, false, ◌&&◌, ◌||◌, cond}
 use mathlib.Core.List.{List, [], ◌∷◌, ◌++◌, map}
-use lib.ListN.{length, get_or, replicate}
-use lib.Seq.{ext_get_or}
-use lib.Bits.{bit_or, or_shifted, or_zero_l, or_lt}
+use lib.ListN.{length, get_or, set, replicate}
+use lib.Seq.{ext_get_or, get_or-set_same, get_or-set_other}
+use lib.Bits.{bit_or, or_shifted, or_zero_l, or_zero_r, or_lt}
 use lib.Pow.{pow_pos, pow-lt}
 use lib.Dec.{eqb, ltb}
 use borrow.Author.Tests.{lt-ltb, le-ltb, eqb-true, eqb-false}
 use Rattle.book.specs.Lists.{any, from, up_to}
-use Rattle.book.specs.Sets.{has}
+use Rattle.book.specs.Sets.{has, WordOf}
 use Rattle.book.proofs.Lists.{and_end, and_false, and_or, or_end, any_more, any_none, ltb_more, up_to_more}
 use Rattle.book.proofs.Members.{has_zero, has_or, has_single, same_members, has_cond}
-use Rattle.lineage.specs.Rows.{kind_at, kind_byte, kind_of, row_a, row_count}
+use Rattle.lineage.specs.Rows.{kind_at, row_a}
 use Rattle.lineage.specs.Accesses.{access_words, gives, is_access, reaches, word_of}
-use Rattle.lineage.specs.Inner.Table.{ByOperation, Gathered, Given, PlanSound, Reached, RowAdded, stands}
+use Rattle.lineage.specs.Inner.Table.{ByOperation, Gathered, Given, PlanSound, Reached, RowAdded, stands, word}
 use Rattle.lineage.proofs.Paths.{reaches_stands}
-use Rattle.lineage.proofs.Steps.{get_d_zeros, kind_is}
+use Rattle.lineage.proofs.Steps.{word_zeros}
 
 -- A word by its members
 
@@ -79,44 +79,37 @@ word_of_law f (suc n) = step (word_of_law f n)
 
 -- The words that the rows give
 
-pub gives_kind :
-    (plan : List ℕ) (i kind n : ℕ) →
-    kind ≡ kind_byte plan i →
-    kind ≡ n →
-    (s t : ℕ) →
-    gives (kind_of n) t ≡ eqb t s →
-    gives (kind_at plan i) t ≡ eqb t s
-gives_kind plan i kind n e q s t g = rw (kind_is plan i kind n e q) g
-
-pub gives_none : (n : ℕ) → (n ≡ 3 → ⊥) → (n ≡ 4 → ⊥) → (n ≡ 5 → ⊥) → (t : ℕ) → gives (kind_of n) t ≡ false
-unfolding kind_of gives
-gives_none zero p q r t = refl
-gives_none (suc zero) p q r t = refl
-gives_none (suc (suc zero)) p q r t = refl
-gives_none (suc (suc (suc zero))) p q r t = absurd (p refl)
-gives_none (suc (suc (suc (suc zero)))) p q r t = absurd (q refl)
-gives_none (suc (suc (suc (suc (suc zero))))) p q r t = absurd (r refl)
-gives_none (suc (suc (suc (suc (suc (suc n)))))) p q r t = refl
+-- a row joined to the words of its channel
+pub row_added :
+    (words : List (List ℕ)) (s : ℕ) (row own : List ℕ) →
+    s < length words →
+    ((k : ℕ) → k < 16 → get_or own k 0 ≡ bit_or (word words s k) (get_or row k 0)) →
+    RowAdded words s row (set words s own)
+row_added words s row own few joined t k channel small = go (eqb t s) refl
+  where
+    go : (b : Bool) → eqb t s ≡ b → word (set words s own) t k ≡ bit_or (word words t k) (cond b (get_or row k 0) 0)
+    go true e = rw (eqb-true t s e, get_or-set_same words s own [] few) (joined k small)
+    go false e = rw (get_or-set_other words s t own [] (eqb-false t s e)) (sym (or_zero_r (word words t k)))
 
 module _ (head plan : List ℕ) where
-  pub gathered_none : (n : ℕ) → Gathered head plan 0 (replicate n 0)
-  gathered_none n w small d =
+  pub gathered_none : (n m : ℕ) → Gathered head plan 0 (replicate n (replicate m 0))
+  gathered_none n m s k channel small d =
       rw (
-        get_d_zeros n w,
+        word_zeros n m s k,
         has_zero d,
-        any_none (λ j. gives (kind_at plan j) (w / 16) && reaches head plan (row_a plan j) d (w % 16)),
+        any_none (λ j. gives (kind_at plan j) s && reaches head plan (row_a plan j) d k),
         and_false (ltb d 64),
       )
 
   -- word k of a row by operation
   reached_word :
-      (r k n : ℕ) (table : List ℕ) →
+      (r k n : ℕ) (table : List (List ℕ)) →
       PlanSound head plan →
       Reached head plan n table →
       r < n →
       k < 16 →
       (d : ℕ) →
-      has (cond (eqb k 0) (bit_or (get_or table (17 * r + 0) 0) (get_or table (17 * r + 16) 0)) (get_or table (17 * r + k) 0)) d ≡
+      has (cond (eqb k 0) (bit_or (word table r 0) (word table r 16)) (word table r k)) d ≡
       (ltb d 64 && reaches head plan r d k)
   reached_word r k n table sound reached l small d =
       rw (reaches_stands head plan r d k small none) (go (eqb k 0) refl)
@@ -130,28 +123,23 @@ module _ (head plan : List ℕ) where
               absurd (omega arith)
           never false e = e
 
-      at : (w : ℕ) → w < 17 → has (get_or table (17 * r + w) 0) d ≡ (ltb d 64 && stands head plan r d w)
-      at w h = rw (reached.at r w h d, lt-ltb r n l)
+      at : (w : ℕ) → w < 17 → has (word table r w) d ≡ (ltb d 64 && stands head plan r d w)
+      at w h = rw (reached r w h d, lt-ltb r n l)
 
       go :
           (b : Bool) →
           eqb k 0 ≡ b →
-          has (cond b (bit_or (get_or table (17 * r + 0) 0) (get_or table (17 * r + 16) 0)) (get_or table (17 * r + k) 0)) d ≡
+          has (cond b (bit_or (word table r 0) (word table r 16)) (word table r k)) d ≡
           (ltb d 64 && (stands head plan r d k || (b && stands head plan r d 16)))
       go true e =
-          rw (
-            eqb-true k 0 e,
-            has_or (get_or table (17 * r + 0) 0) (get_or table (17 * r + 16) 0) d,
-            at 0 (omega arith),
-            at 16 (omega arith),
-          )
+          rw (eqb-true k 0 e, has_or (word table r 0) (word table r 16) d, at 0 (omega arith), at 16 (omega arith))
           (sym (and_or (ltb d 64) (stands head plan r d 0) (stands head plan r d 16)))
       go false e = at k (omega arith) ∙ rw (or_end (stands head plan r d k))
 
-  module _ (i : ℕ) (words next : List ℕ) (before : Gathered head plan i words) where
-    -- a row that gives accesses of action s
+  module _ (i : ℕ) (words : List (List ℕ)) (before : Gathered head plan i words) where
+    -- a row that gives accesses by channel s
     pub gathered_more :
-        (s n : ℕ) (row table : List ℕ) →
+        (s n : ℕ) (row : List ℕ) (table next : List (List ℕ)) →
         PlanSound head plan →
         Reached head plan n table →
         Given plan n i →
@@ -159,37 +147,36 @@ module _ (head plan : List ℕ) where
         ByOperation table (row_a plan i) row →
         RowAdded words s row next →
         Gathered head plan (i + 1) next
-    gathered_more s n row table sound reached given action row_at next_at w small d =
+    gathered_more s n row table next sound reached given action row_at next_at t k channel small d =
         rw (
-          next_at w small,
-          has_or (get_or words w 0) (cond (eqb (w / 16) s) (get_or row (w % 16) 0) 0) d,
-          before w small d,
-          any_more (λ j. gives (kind_at plan j) (w / 16) && reaches head plan (row_a plan j) d (w % 16)) i,
-          action (w / 16),
+          next_at t k channel small,
+          has_or (word words t k) (cond (eqb t s) (get_or row k 0) 0) d,
+          before t k channel small d,
+          any_more (λ j. gives (kind_at plan j) t && reaches head plan (row_a plan j) d k) i,
+          action t,
         )
-        (rw (row_word (eqb (w / 16) s) refl)
-        (sym (and_or (ltb d 64) (any (λ j. gives (kind_at plan j) (w / 16) && reaches head plan (row_a plan j) d (w % 16)) (up_to i))
-        (eqb (w / 16) s && reaches head plan (row_a plan i) d (w % 16)))))
+        (rw (row_word (eqb t s) refl)
+        (sym (and_or (ltb d 64) (any (λ j. gives (kind_at plan j) t && reaches head plan (row_a plan j) d k) (up_to i))
+        (eqb t s && reaches head plan (row_a plan i) d k))))
       where
         row_word :
             (b : Bool) →
-            eqb (w / 16) s ≡ b →
-            has (cond b (get_or row (w % 16) 0) 0) d ≡ (ltb d 64 && (b && reaches head plan (row_a plan i) d (w % 16)))
+            eqb t s ≡ b →
+            has (cond b (get_or row k 0) 0) d ≡ (ltb d 64 && (b && reaches head plan (row_a plan i) d k))
         row_word true e =
-            let l : row_a plan i < n = given (w / 16) (action (w / 16) ∙ e) in
-            let k : w % 16 < 16 = omega arith in
-            rw (row_at reached.whole (w % 16) k) (reached_word (row_a plan i) (w % 16) n table sound reached l k d)
+            let l : row_a plan i < n = given t (action t ∙ e) in
+            rw (row_at k small) (reached_word (row_a plan i) k n table sound reached l small d)
         row_word false e = rw (has_zero d, and_false (ltb d 64))
 
     -- a row that gives none
     pub gathered_same :
         ((t : ℕ) → gives (kind_at plan i) t ≡ false) → Gathered head plan (i + 1) words
-    gathered_same action w small d =
+    gathered_same action t k channel small d =
         rw (
-          before w small d,
-          any_more (λ j. gives (kind_at plan j) (w / 16) && reaches head plan (row_a plan j) d (w % 16)) i,
-          action (w / 16),
-          or_end (any (λ j. gives (kind_at plan j) (w / 16) && reaches head plan (row_a plan j) d (w % 16)) (up_to i)),
+          before t k channel small d,
+          any_more (λ j. gives (kind_at plan j) t && reaches head plan (row_a plan j) d k) i,
+          action t,
+          or_end (any (λ j. gives (kind_at plan j) t && reaches head plan (row_a plan j) d k) (up_to i)),
         )
 
 -- The words of a plan
@@ -209,24 +196,28 @@ pub access_words_law :
     (head plan r : List ℕ) →
     length r ≡ 32 →
     ((w : ℕ) → w < 32 → get_or r w 0 < 2 ^ 64) →
-    Gathered head plan (row_count plan) r →
+    ((s k : ℕ) → s < 2 → k < 16 → WordOf (λ d. is_access head plan s d k) (get_or r (16 * s + k) 0)) →
     r ≡ access_words head plan
-unfolding access_words is_access up_to
+unfolding access_words up_to
 access_words_law head plan r size fits at =
-    ext_get_or 0 r (map word (from 0 32)) (size ∙ sym (length_from word 0 32)) (λ w h. each w (rw size at h))
+    ext_get_or 0 r (map access_word (from 0 32)) (size ∙ sym (length_from access_word 0 32)) (λ w h. each w (rw size at h))
   where
     member : ℕ → ℕ → Bool
-    member w d =
-        any (λ i. gives (kind_at plan i) (w / 16) && reaches head plan (row_a plan i) d (w % 16)) (from 0 (row_count plan))
+    member w d = is_access head plan (w / 16) d (w % 16)
 
-    word : ℕ → ℕ
-    word w = word_of (member w) (from 0 64)
+    access_word : ℕ → ℕ
+    access_word w = word_of (member w) (from 0 64)
 
-    each : (w : ℕ) → w < 32 → get_or r w 0 ≡ get_or (map word (from 0 32)) w 0
+    own : (w : ℕ) → w < 32 → WordOf (member w) (get_or r w 0)
+    own w h =
+        let z : 16 * (w / 16) + w % 16 ≡ w = omega arith in
+        rw z at (at (w / 16) (w % 16) (omega arith) (omega arith))
+
+    each : (w : ℕ) → w < 32 → get_or r w 0 ≡ get_or (map access_word (from 0 32)) w 0
     each w h =
         let whole = word_of_law (member w) 64 in
-        same_members 64 (get_or r w 0) (word w) (fits w h) whole.0 (λ d l. at w h d ∙ sym (whole.1 d))
-        ∙ sym (get_d_from word 0 32 w h ∙ ap word (zero-add w))
+        same_members 64 (get_or r w 0) (access_word w) (fits w h) whole.0 (λ d l. own w h d ∙ sym (whole.1 d))
+        ∙ sym (get_d_from access_word 0 32 w h ∙ ap access_word (zero-add w))
 
 -- "bit d of word 16 × s + k is set exactly when (s, d, k) is an access"
 pub access_bit :

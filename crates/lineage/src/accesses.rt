@@ -1,67 +1,54 @@
-// The accesses of a plan as 32 words: bit d of word 16 × s + k for access (s, d, k).
-ghost use Rattle.std.specs.Prelude.{◌≡◌};
+//! The accesses of a plan as 32 words: bit d of word 16 × s + k for access (s, d, k).
+ghost use Rattle.std.specs.Prelude.{◌≡◌, ℕ, ◌<◌, ◌+◌, ◌*◌, get_or};
 ghost use Rattle.book.specs.Blocks.{head_of};
-ghost use Rattle.book.specs.Inner.Words.{HeadWords};
 ghost use Rattle.lineage.specs.Accesses.{access_words};
-ghost use Rattle.lineage.specs.Answers.{BothAccepted};
-ghost use Rattle.lineage.specs.Inner.Table.{GatheredAll, GatheredStep, RowAdded};
+ghost use Rattle.lineage.specs.Answers.{PlanAccepted};
+ghost use Rattle.lineage.specs.Inner.Table.{GatheredAll, GatheredStep, word};
 
 use crate::reach::{by_operation, fill_reach};
-use crate::rows::{kind, row_a};
-use book::fields::head_of;
+use crate::rows::given;
+use book::Book;
+use book::sets::join;
 
-// The words with a row's words added to those of action s.
-fn with_row(words: [u64; 32], s: usize, row: [u64; 16]) -> [u64; 32]
-    ensures { RowAdded words s row result }
+/// What row i gives, joined to the words of its channel.
+fn give(words: &mut [[u64; 16]; 2], plan: &[u8], reach: &[[u64; 17]; 64], i: u8)
+    ensures { GatheredStep plan.now reach.now i words.old words.new }
 {
-    if 2 <= s {
-        return words;
-    }
-    let mut next = words;
-    for k in 0..16usize {
-        next[16 * s + k] = words[16 * s + k] | row[k];
-    }
-    next
-}
-
-// The words with what row i gives.
-fn with_given(words: [u64; 32], plan: &[u8], table: &[u64], i: u8) -> [u64; 32]
-    ensures { GatheredStep plan.now table.now i words result }
-{
-    let a = row_a(plan, i);
-    let kind = kind(plan, i);
-    match kind {
-        3 => with_row(words, 1, by_operation(table, a)),
-        4 => with_row(words, 0, by_operation(table, a)),
-        5 => with_row(words, 1, by_operation(table, a)),
-        _ => words,
+    if let Some((channel, row)) = given(plan, i) {
+        join(&mut words[channel.index()], &by_operation(reach, row));
     }
 }
 
-// What the first n rows give.
-fn gathered(plan: &[u8], table: &[u64], n: u8) -> [u64; 32]
-    ensures { GatheredAll plan.now table.now n result }
+/// The words of both channels, one channel after the other.
+fn flat(words: &[[u64; 16]; 2]) -> [u64; 32]
+    ensures { (s k : ℕ) → s < 2 → k < 16 → get_or result (16 * s + k) 0 ≡ word words.now s k }
 {
-    let mut words = [0u64; 32];
+    let mut flat = [0u64; 32];
+    flat[..16].copy_from_slice(&words[0]);
+    flat[16..].copy_from_slice(&words[1]);
+    flat
+}
+
+/// What the first n rows give.
+fn gathered(plan: &[u8], reach: &[[u64; 17]; 64], n: u8) -> [u64; 32]
+    ensures { GatheredAll plan.now reach.now n result }
+{
+    let mut words = [[0u64; 16]; 2];
     for i in 0..n {
-        let next = with_given(words, plan, table, i);
-        words = next;
+        give(&mut words, plan, reach, i);
     }
-    words
+    flat(&words)
 }
 
-// The accesses of an accepted plan for an accepted book.
-pub fn accesses(book: &[u8], t: &[u64], plan: &[u8]) -> [u64; 32]
-    ensures { HeadWords (head_of book.now) t.now
-        → BothAccepted book.now plan.now
-        → result ≡ access_words (head_of book.now) plan.now }
+/// The accesses of an accepted plan.
+pub fn accesses(book: &Book, plan: &[u8]) -> [u64; 32]
+    ensures { PlanAccepted (head_of book.now.bytes.now) plan.now
+        → result ≡ access_words (head_of book.now.bytes.now) plan.now }
 {
-    if 256 < plan.len() {
+    let Ok(n) = u8::try_from(plan.len() / 4) else {
         return [0u64; 32];
-    }
-    let n = (plan.len() / 4) as u8;
-    let head = head_of(book);
-    let mut table = [0u64; 1088];
-    fill_reach(&mut table, head, t, plan, n);
-    gathered(plan, &table, n)
+    };
+    let mut reach = [[0u64; 17]; 64];
+    fill_reach(&mut reach, book.head(), &book.words, plan, n);
+    gathered(plan, &reach, n)
 }

@@ -1,5 +1,5 @@
 -- Laws of the places that can be chosen: their words, and the search among them. Assumes nothing.
-use Prim.Native.Nat.{ℕ, ◌+◌, ◌*◌, ◌-◌, ◌/◌, ◌%◌, ◌^◌, ◌≤◌, ◌<◌}
+use Prim.Native.Nat.{ℕ, ◌+◌, ◌-◌, ◌/◌, ◌%◌, ◌^◌, ◌≤◌, ◌<◌}
 use native.Mathlib.Omega.{arith}
 use mathlib.Core.Path.{◌≡◌, refl, sym, ap, ◌∙◌}
 use mathlib.Core.Bool.{Bool, true, false, ◌&&◌, ◌||◌, not, cond}
@@ -11,20 +11,22 @@ use lib.Bits.{bit_and}
 use borrow.Author.Tests.{eqb-true, eqb-false, eq-eqb, ne_eqb, ltb-true, ltb-false, lt-ltb, le-ltb}
 use Rattle.book.specs.Sets.{has}
 use Rattle.book.proofs.Lists.{and_true, and_left, and_both, or_neither, same_test}
-use Rattle.book.proofs.Members.{has_zero, has_and, has_minus, has_single}
+use Rattle.book.proofs.Members.{has_zero, has_and, has_not, has_single}
+use Rattle.search.proofs.PlaceLaws.{Mapped}
 use Rattle.lineage.proofs.Tables.{Filled, fill_none, fill_more}
 use Rattle.search.specs.Inner.Places.{in_places, PlacesOf}
-use Rattle.search.specs.Inner.Table.{meets}
+use Rattle.search.specs.Inner.Table.{meets_words, meets}
 use Rattle.search.specs.Inner.Closing.{accepted_at, closes, Within, Grown, Sifted}
 use Rattle.search.specs.Inner.Search.{candidate, refuses, drops, solves, solves_in}
 use Rattle.search.specs.Inner.Search.{Thirds, Possible}
-use Rattle.search.specs.declared.sifting.Remaining.{Remaining}
+use Rattle.search.specs.Inner.Closing.{Remaining}
 use Rattle.search.proofs.Solutions.{drop_in, grown_join, grown_within, passes, passing}
 use Rattle.search.proofs.Solutions.{place_below, unmarked}
+use Rattle.search.specs.declared.tables.RuleTable.{RuleTable}
 
 -- The places that can be chosen
 
-pub candidate_below : (t : List ℕ) (r n : ℕ) (had : List ℕ) (i p : ℕ) → candidate t r n had i p ≡ true → p < 2112
+pub candidate_below : (t : List RuleTable) (r n : ℕ) (had : List ℕ) (i p : ℕ) → candidate t r n had i p ≡ true → p < 2112
 unfolding candidate
 candidate_below t r n had i p h = go (ltb ((i + n) % 3) n) h
   where
@@ -42,7 +44,7 @@ candidate_below t r n had i p h = go (ltb ((i + n) % 3) n) h
 
 -- an absent reference has place 2048 alone
 pub candidate_absent :
-    (t : List ℕ) (r n : ℕ) (had : List ℕ) (i reference : ℕ) (zeros : List ℕ) (p : ℕ)
+    (t : List RuleTable) (r n : ℕ) (had : List ℕ) (i reference : ℕ) (zeros : List ℕ) (p : ℕ)
     → reference ≡ (i + n) % 3
     → n ≤ reference
     → length zeros ≡ 33
@@ -71,12 +73,12 @@ candidate_absent t r n had i reference zeros p same absent size none l =
         )
 
 -- the words of a reference's places that can be had; the last word stays empty
-pub record Candidates (t had : List ℕ) (r reference : ℕ) (found : List ℕ) (w : ℕ) : Type 0 where
+pub record Candidates (t : List RuleTable) (had : List ℕ) (r reference : ℕ) (found : List ℕ) (w : ℕ) : Type 0 where
   pub short : w ≤ 32
-  pub filled : Filled 33 (λ k x. x ≡ bit_and (get_or had k 0) (get_or t (128 * r + 33 * reference + k) 0)) found w
+  pub filled : Filled 33 (λ k x. x ≡ bit_and (get_or had k 0) (get_or (meets_words t r reference) k 0)) found w
   pub last : get_or found 32 0 ≡ 0
 
-module _ (t had : List ℕ) (r reference : ℕ) where
+module _ (t : List RuleTable) (had : List ℕ) (r reference : ℕ) where
   pub candidates_none : (zeros : List ℕ) → length zeros ≡ 33 → get_or zeros 32 0 ≡ 0
       → Candidates t had r reference zeros 0
   candidates_none zeros size e = record { short = omega arith; filled = fill_none size; last = e }
@@ -84,7 +86,7 @@ module _ (t had : List ℕ) (r reference : ℕ) where
   pub candidates_more :
       (found : List ℕ) (w word : ℕ)
       → w < 32
-      → word ≡ get_or t (128 * r + 33 * reference + w) 0
+      → word ≡ get_or (meets_words t r reference) w 0
       → Candidates t had r reference found w
       → Candidates t had r reference (set found w (bit_and (get_or had w 0) word)) (w + 1)
   candidates_more found w word l e old =
@@ -111,7 +113,7 @@ module _ (t had : List ℕ) (r reference : ℕ) where
           → ltb p 2048 ≡ b
           → has (get_or found (p / 64) 0) (p % 64)
           ≡ (b
-          && (has (get_or had (p / 64) 0) (p % 64) && has (get_or t (128 * r + 33 * reference + p / 64) 0) (p % 64)))
+          && (has (get_or had (p / 64) 0) (p % 64) && has (get_or (meets_words t r reference) (p / 64) 0) (p % 64)))
       go true e =
           let q = ltb-true p 2048 e in
           rw (all.filled.at (p / 64) (omega arith), has_and)
@@ -124,17 +126,16 @@ module _ (t had : List ℕ) (r reference : ℕ) where
 pub without_operations :
     (places rest : List ℕ) (operations w p : ℕ)
     → operations < 2 ^ 64
-    → get_or places (p / 64) 0 < 2 ^ 64
-    → Filled 33 (λ k x. x ≡ bit_and (get_or places k 0) ((2 ^ 64 - 1) - operations)) rest w
+    → Mapped (λ k x. bit_and x ((2 ^ 64 - 1) - operations)) places rest w
     → p / 64 < w
     → in_places rest p ≡ (in_places places p && not (has operations (p % 64)))
 unfolding in_places
-without_operations places rest operations w p small fits filled l =
-    rw (filled.at (p / 64) l, has_minus 64 (get_or places (p / 64) 0) operations (p % 64) fits small)
+without_operations places rest operations w p small mapped l =
+    rw (mapped.below (p / 64) l, has_and, has_not 64 operations (p % 64) small, lt-ltb (p % 64) 64 (omega arith))
 
 -- less what some restriction accepts beside a and y, and what breaks a rule
 pub thirds_made :
-    (t : List ℕ) (r n rules a y : ℕ) (before refused after : Remaining) (accepted : ℕ)
+    (t : List RuleTable) (r n rules a y : ℕ) (before refused after : Remaining) (accepted : ℕ)
     → ((p : ℕ) → has accepted (p % 64) ≡ accepted_at t r ((2 + n) % 3) ((0 + n) % 3) ((1 + n) % 3) a y p)
     → PlacesOf (λ p. in_places before.places p && not (has accepted (p % 64))) refused.places
     → refused.rules ≡ before.rules
@@ -163,7 +164,7 @@ thirds_made t r n rules a y before refused after accepted e less same sifted =
 -- All three
 
 pub possible_made :
-    (t : List ℕ) (r n : ℕ) (had : List ℕ) (rules i : ℕ) (before after : Remaining)
+    (t : List RuleTable) (r n : ℕ) (had : List ℕ) (rules i : ℕ) (before after : Remaining)
     → PlacesOf (candidate t r n had i) before.places
     → Sifted t rules (has rules) 2048 2048 before after
     → Possible t r n had rules i before.rules after
@@ -178,7 +179,7 @@ possible_made t r n had rules i before after same sifted =
 
 -- a rule that does not drop three places
 undropped :
-    (t : List ℕ) (q a y x : ℕ)
+    (t : List RuleTable) (q a y x : ℕ)
     → drops t q a y x ≡ false
     → (closes t q 2048 2048 a ≡ false)
     × (closes t q 2048 2048 y ≡ false)
@@ -196,7 +197,7 @@ undropped t q a y x h =
 
 -- a place that breaks no marked rule by itself is left
 possible_left :
-    (t : List ℕ) (r n : ℕ) (had : List ℕ) (rules i seen : ℕ) (after : Remaining)
+    (t : List RuleTable) (r n : ℕ) (had : List ℕ) (rules i seen : ℕ) (after : Remaining)
     → Possible t r n had rules i seen after
     → (marked : ℕ → Bool)
     → Within (has after.rules) marked
@@ -214,7 +215,7 @@ possible_left t r n had rules i seen after possible marked within p h free = go 
         (possible.gone p (candidate_below t r n had i p h) h e))
 
 module _
-    (t : List ℕ)
+    (t : List RuleTable)
     (r n : ℕ)
     (had : List ℕ)
     (rules start : ℕ)

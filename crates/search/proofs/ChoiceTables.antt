@@ -31,6 +31,7 @@ use Rattle.search.proofs.Orders.{choice_had}
 use Rattle.search.proofs.AloneLaws.{members_within, own_refused, refused_choice}
 use Rattle.search.proofs.ChoicePlaces.{Stand, choice_one, choice_three, choice_two, stand_one, stand_two}
 use Rattle.search.proofs.ChoicePlaces.{stands, stands_at}
+use Rattle.search.specs.declared.tables.RuleTable.{RuleTable}
 
 -- A choice breaks its rule by its own operations
 
@@ -144,7 +145,7 @@ third_first false y z = sym (and_false z)
 first_last : (x y z : Bool) → (x && (y && z)) ≡ (y && (z && x))
 first_last x y z = third_first x y z ∙ third_first z x y
 
-module _ (book : List ℕ) (count r : ℕ) (l : r < count) (t : List ℕ) (tables : TableHolds book count t) where
+module _ (book : List ℕ) (count r : ℕ) (l : r < count) (t : List RuleTable) (tables : TableHolds book count t) where
   -- which places can be chosen
   module _ (had : List ℕ) (hads : HadHolds (head_of book) had) where
     pub candidate_stands :

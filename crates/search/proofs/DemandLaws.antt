@@ -14,25 +14,25 @@ use Rattle.book.specs.Blocks.{head_of, rule_at, rule_count}
 use Rattle.book.specs.Head.{is_user}
 use Rattle.book.specs.Tests.{Passes, first_failing}
 use Rattle.book.specs.Refusals.{BookAccepted, book_tests}
-use Rattle.book.specs.Inner.Testing.{or_else}
 use Rattle.book.proofs.Accepted.{accepted_head, accepted_rule}
-use Rattle.book.proofs.Answers.{answered_passed, first_append}
+use Rattle.book.proofs.Answers.{answered_passed}
+use Rattle.book.proofs.Calls.{passed_both}
 use Rattle.book.proofs.Members.{has_single, same_members}
 use Rattle.lineage.specs.Rows.{row_count}
 use Rattle.lineage.specs.Answers.{PlanAccepted}
 use Rattle.lineage.proofs.Words.{word_of_law}
 use Rattle.verdicts.specs.Accesses.{Accesses, accesses_of}
 use Rattle.verdicts.specs.Breaking.{breaks, broken_mask}
-use Rattle.verdicts.specs.Answers.{judge_answer}
-use Rattle.verdicts.specs.declared.Judged.TheVariants.{Broken}
+use Rattle.verdicts.specs.Answers.{broken, judge_answer}
 use Rattle.verdicts.proofs.JudgeLaws.{judge_answer_law, judge_passes}
 use Rattle.verdicts.proofs.Verdict.{mask_bit}
 use Rattle.search.specs.Choices.{Candidate, candidate_before}
 use Rattle.search.specs.Shown.{shown_plan}
 use Rattle.search.specs.Alone.{First, none, shown, breaks_alone, candidate_alone, first_alone, plan_breaks_alone}
-use Rattle.search.specs.Answers.{rule_tests, buffer_tests, idle_tests, idleness_of, idle_answer, written, idle_buffer}
+use Rattle.search.specs.Answers.{rule_tests, buffer_tests, idle_tests, idle, needed, idleness_of, idle_answer, written}
+use Rattle.search.specs.Answers.{idle_buffer}
 use Rattle.search.specs.Demand.{IdleAccepted, Demand3, NobodyAlone, ShownFirst, ShownIn}
-use Rattle.search.specs.declared.Idleness.TheVariants.{Idle, Needed, Refused}
+use Rattle.std.specs.Prelude.{Err}
 use Rattle.search.proofs.ShownPlans.{shown_accepted, shown_few, shown_whole}
 use Rattle.search.proofs.Orders.{candidate, none_alone, shown_alone}
 use Rattle.search.proofs.AloneLaws.{alone_breaks, alone_spares, plan_candidate}
@@ -64,30 +64,33 @@ pub judged_alone :
     → is_user (head_of book) user ≡ true
     → PlanAccepted (head_of book) plan
     → plan_breaks_alone book r user plan ≡ true
-    → judge_answer book user plan ≡ Broken (2 ^ r)
+    → judge_answer book user plan ≡ broken (2 ^ r)
 unfolding plan_breaks_alone
 judged_alone book accepted r user plan l u plans h =
     judge_answer_law book user plan
     (judge_passes book user plan (record { book_accepted = accepted; a_user = u; plan_accepted = plans }))
-    ∙ ap Broken (alone_mask book r user (accesses_of (head_of book) plan) l h)
+    ∙ ap broken (alone_mask book r user (accesses_of (head_of book) plan) l h)
 
 -- The answer and the buffer of an accepted call
 
 module _ (book : List ℕ) (r : ℕ) (buffer : List ℕ) (accepted : IdleAccepted book r buffer) where
+  rule_passes : Passes (rule_tests book r)
+  unfolding rule_tests first_failing
+  rule_passes = rw (lt-ltb r (rule_count book) accepted.rule_there)
+
+  buffer_passes : Passes (buffer_tests buffer)
+  unfolding buffer_tests first_failing
+  buffer_passes = rw (le-leb 36 (length buffer) accepted.long)
+
   pub idle_passes : Passes (idle_tests book r buffer)
-  unfolding idle_tests rule_tests buffer_tests first_failing or_else
+  unfolding idle_tests
   idle_passes =
-      rw (
-        first_append (book_tests book ++ rule_tests book r) (buffer_tests buffer),
-        first_append (book_tests book) (rule_tests book r),
-        accepted.book_accepted,
-        lt-ltb r (rule_count book) accepted.rule_there,
-        le-leb 36 (length buffer) accepted.long,
-      )
+      passed_both (book_tests book ++ rule_tests book r) (buffer_tests buffer)
+      (passed_both (book_tests book) (rule_tests book r) accepted.book_accepted rule_passes) buffer_passes
 
   pub idle_answer_law : idle_answer book r buffer ≡ idleness_of (head_of book) (first_alone book r)
   unfolding idle_answer
-  idle_answer_law = answered_passed (idle_tests book r buffer) Refused (idleness_of (head_of book) (first_alone book r)) idle_passes
+  idle_answer_law = answered_passed (idle_tests book r buffer) Err (idleness_of (head_of book) (first_alone book r)) idle_passes
 
   pub idle_buffer_law : idle_buffer book r buffer ≡ written (head_of book) (first_alone book r) buffer
   unfolding idle_buffer
@@ -167,7 +170,7 @@ module _ (book : List ℕ) (accepted : BookAccepted book) (r : ℕ) (l : r < rul
 
 -- Demand 3
 
-unlike : (user rows : ℕ) → Needed user rows ≡ Idle → ⊥
+unlike : (user rows : ℕ) → needed user rows ≡ idle → ⊥
 unlike user rows e =
     let z : ◌≡◌ {A = ℕ} 0 1 = cc in
     omega arith

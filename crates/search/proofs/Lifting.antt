@@ -24,7 +24,7 @@ use Rattle.verdicts.specs.Breaking.{breaks, some_choice_refused}
 use Rattle.verdicts.proofs.Users.{user_below}
 use Rattle.verdicts.proofs.Accesses.{leaf_set_below, Apart}
 use Rattle.verdicts.proofs.Quantifiers.{any_below}
-use Rattle.verdicts.proofs.Sound.{few_rules_law, rules_sound}
+use Rattle.verdicts.proofs.Sound.{few_rules_law}
 use Rattle.search.specs.Choices.{Candidate, candidate_before, is_choice, lighter}
 use Rattle.search.specs.Alone.{breaks_alone, candidate_alone, first_alone}
 use Rattle.search.specs.Alone as alone
@@ -33,17 +33,17 @@ use Rattle.search.specs.Inner.Table.{CoversHold, HadHolds, TableHolds}
 use Rattle.search.specs.Inner.Search.{NeedsFirst, NeedsUser, candidate, drops, others_for, refuses, solves, solves_for}
 use Rattle.search.specs.Inner.Weight.{lighter_places}
 use Rattle.search.specs.Inner.First.{FirstNeeds, found_of}
-use Rattle.search.specs.declared.users.Needs.{Needs}
-use Rattle.search.specs.declared.users.Needs.TheVariants.{Nobody, User}
+use Rattle.std.specs.Prelude.{Option, Some, None}
+use Rattle.search.specs.declared.users.Witness.{Witness}
 use Rattle.search.proofs.Orders as orders
 use Rattle.search.proofs.AloneLaws.{candidate_members}
 use Rattle.search.proofs.Placements.{drops_refused}
 use Rattle.search.proofs.ChoicePlaces.{Stand, choice_places, lighter_triple, places_choice}
 use Rattle.search.proofs.ChoicePlaces.{stands_most}
 use Rattle.search.proofs.ChoiceTables.{candidate_stands, refused_own, refuses_places}
+use Rattle.search.specs.declared.tables.RuleTable.{RuleTable}
 
-module _ (book : List ℕ) (accepted : BookAccepted book) (bytes : (i : ℕ) → get_or book i 0 < 256)
-    (r : ℕ) (l : r < rule_count book) (t had covered : List ℕ)
+module _ (book : List ℕ) (accepted : BookAccepted book) (r : ℕ) (l : r < rule_count book) (t : List RuleTable) (had covered : List ℕ)
     (tables : TableHolds book (rule_count book) t) (hads : HadHolds (head_of book) had)
     (covers : CoversHold book (rule_count book) covered) where
   -- The rules of the book
@@ -57,7 +57,7 @@ module _ (book : List ℕ) (accepted : BookAccepted book) (bytes : (i : ℕ) →
       (holding q k).apart i j d li lj (leaf_set_below (head_of book) (rule_at book q) i d h) h
 
   sound : (q : ℕ) → q < rule_count book → RuleSound (head_of book) (rule_at book q)
-  sound q k = rules_sound book accepted bytes q k
+  sound q k = tables.sound q k
 
   covers_rule : (u : ℕ) → u < 32 → has (get_or covered r 0) u ≡ covers_user (head_of book) (rule_at book r) u
   covers_rule u lu =
@@ -239,14 +239,18 @@ module _ (book : List ℕ) (accepted : BookAccepted book) (bytes : (i : ℕ) →
       (or_either (ltb c.user u) (eqb c.user u && lighter c.choice (choice_at a y x)) before)
 
   pub lifted :
-      (found : Needs)
+      (found : Option Witness)
       → NeedsFirst lighter_places t r (reference_count (rule_at book r)) had covered found
       → FirstNeeds book r found
   unfolding NeedsFirst FirstNeeds found_of
-  lifted Nobody h =
+  lifted None h =
       orders.first_none book accepted r l
       (λ c user choice. fails c user choice (λ b z w below e s. h c.user b z w below))
-  lifted (User u a y x) h =
+  lifted (Some w) h =
+      let u = w.user in
+      let a = w.places.first in
+      let y = w.places.second in
+      let x = w.places.third in
       let p = solves_parts u a y x h.below h.found.solution in
       orders.first_shown book accepted r l (orders.candidate u (choice_at a y x)) p.0 (stand_choice a y x p.1)
       (sym (solves_alone a y x p.1 u h.below) ∙ h.found.solution)

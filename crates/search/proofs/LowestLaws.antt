@@ -5,6 +5,8 @@ use native.Mathlib.Omega.{arith}
 use mathlib.Core.Path.{◌≡◌, refl}
 use mathlib.Core.Logic.{⊎_elim}
 use mathlib.Core.Bool.{Bool, true, false, ◌||◌, cond, false≢true}
+use Rattle.std.specs.Option.{MatchOption, unwrap_or}
+use Rattle.std.specs.Prelude.{Option, None, Some}
 use Rattle.book.specs.Lists.{any, from, up_to}
 use Rattle.search.specs.Shown.{lowest}
 
@@ -65,3 +67,13 @@ module _ (f : ℕ → Bool) where
   pub lowest_none : (n c : ℕ) → n ≤ c → ((j : ℕ) → j < c → f j ≡ false) → 0 ≡ lowest f (up_to n)
   unfolding up_to
   lowest_none n c l none = none_from 0 n (λ j a b. none j (omega arith))
+
+  -- what `find` answers over a range from 0
+  pub lowest_of :
+      (n m : ℕ) (r : Option ℕ)
+      → n ≡ m
+      → MatchOption r ((k : ℕ) → 0 ≤ k → k < n → f k ≡ false)
+      (λ i. (0 ≤ i) × (i < n) × (f i ≡ true) × ((k : ℕ) → 0 ≤ k → k < i → f k ≡ false))
+      → unwrap_or r 0 ≡ lowest f (up_to m)
+  lowest_of n m None e none = lowest_none m n (omega arith) (λ j l. none j (omega arith) l)
+  lowest_of n m (Some i) e found = lowest_found m i (omega (arith, found.1)) found.2 (λ j l. found.3 j (omega arith) l)

@@ -6,12 +6,12 @@ use native.Mathlib.Omega.{arith}
 use mathlib.Core.Path.{◌≡◌, refl, sym, ◌∙◌}
 use mathlib.Core.Bool.{Bool, true, false, false≢true, cond}
 use mathlib.Core.List.{List}
-use lib.ListN.{length, get_or, get_or-eq_default}
-use lib.Seq.{ext_get_or}
+use lib.ListN.{length, replicate, get_or, set, length-set}
+use lib.Seq.{ext_get_or, get_or-set_same, get_or-set_other}
 use lib.Dec.{eqb, ltb}
 use lib.Pow.{pow-add}
 use lib.Count.{count_trailing_zeros, under}
-use borrow.Author.Tests.{ltb-true, ltb-false, lt-ltb, le-ltb, eq-eqb, ne_eqb}
+use borrow.Author.Tests.{eqb-true, eqb-false, ltb-true, ltb-false, lt-ltb, le-ltb, eq-eqb, ne_eqb}
 use Rattle.book.specs.Sets.{has, WordOf}
 use Rattle.book.proofs.Members.{has_low, has_high, has_zero, has_above}
 use Rattle.verdicts.specs.Accesses.{Access}
@@ -68,21 +68,48 @@ word_member f w i r e h l = sym (h ∙ e i ∙ rw (lt-ltb i 64 l))
 
 -- Words of a set
 
--- 33 empty words have nothing past them
-pub empty_words :
-    (a : List ℕ) (w : ℕ) → 33 ≤ w → length a ≡ 33 → ((k : ℕ) → k < w → get_or a k 0 ≡ 0) → (k : ℕ) → get_or a k 0 ≡ 0
-empty_words a w past n h k = go (ltb k w) refl
-  where
-    go : (t : Bool) → ltb k w ≡ t → get_or a k 0 ≡ 0
-    go true e = h k (ltb-true k w e)
-    go false e =
-        let l = ltb-false k w e in
-        get_or-eq_default a 0 (omega arith)
+-- a set with no place
+pub zero_words : (n w : ℕ) → get_or {A = ℕ} (replicate n 0) w 0 ≡ 0
+zero_words zero w = refl
+zero_words (suc n) zero = refl
+zero_words (suc n) (suc w) = zero_words n w
 
 pub same_words :
     (a b : List ℕ) (w : ℕ) → 33 ≤ w → length a ≡ 33 → length b ≡ 33
     → ((k : ℕ) → k < w → get_or a k 0 ≡ get_or b k 0) → a ≡ b
 same_words a b w past m n h = ext_get_or 0 a b (omega arith) (λ k l. h k (omega arith))
+
+-- a set changed in place, as far as word w
+pub record Mapped (f : ℕ → ℕ → ℕ) (old new : List ℕ) (w : ℕ) : Type 0 where
+  pub bound : w ≤ 33
+  pub size : length new ≡ 33
+  pub below : (k : ℕ) → k < w → get_or new k 0 ≡ f k (get_or old k 0)
+  pub above : (k : ℕ) → w ≤ k → get_or new k 0 ≡ get_or old k 0
+
+pub mapped_none : {f : ℕ → ℕ → ℕ} {old : List ℕ} → length old ≡ 33 → Mapped f old old 0
+mapped_none size =
+    record { bound = omega arith; size = size; below = λ k l. absurd (omega arith); above = λ k l. refl }
+
+pub mapped_more :
+    {f : ℕ → ℕ → ℕ} {old new : List ℕ} {w v : ℕ}
+    → Mapped f old new w
+    → w < 33
+    → v ≡ f w (get_or new w 0)
+    → Mapped f old (set new w v) (w + 1)
+mapped_more {f} {old} {new} {w} {v} m l e =
+    record {
+      bound = omega arith;
+      size = length-set new w v ∙ m.size;
+      below = λ k h. go k h (eqb k w) refl;
+      above = λ k h. get_or-set_other new w k v 0 (λ z. omega arith) ∙ m.above k (omega arith);
+    }
+  where
+    go : (k : ℕ) → k < w + 1 → (b : Bool) → eqb k w ≡ b → get_or (set new w v) k 0 ≡ f k (get_or old k 0)
+    go k h true t =
+        rw (eqb-true k w t, get_or-set_same new w v 0 (omega (arith, m.size)), e, m.above w (omega arith))
+    go k h false t =
+        let other : k ≡ w → ⊥ = eqb-false k w t in
+        get_or-set_other new w k v 0 other ∙ m.below k (omega (arith, other))
 
 -- The first place of a set
 
@@ -101,6 +128,22 @@ module _ (set : List ℕ) (p : ℕ) where
       }
 
   -- in the word of p itself
+  pub first_inside :
+      (r : ℕ)
+      → get_or set (p / 64) 0 < 2 ^ 64
+      → has (get_or set (p / 64) 0 / 2 ^ (p % 64)) r ≡ true
+      → p % 64 + r < 64
+  first_inside r f m = within (ltb (p % 64 + r) 64) refl
+    where
+      within : (b : Bool) → ltb (p % 64 + r) 64 ≡ b → p % 64 + r < 64
+      within true e = ltb-true (p % 64 + r) 64 e
+      within false e =
+          absurd
+          (false≢true
+          (sym (has_above 64 (get_or set (p / 64) 0) (p % 64 + r) f (ltb-false (p % 64 + r) 64 e))
+          ∙ sym (has_shift (get_or set (p / 64) 0) (p % 64) r)
+          ∙ m))
+
   pub first_here :
       (r : ℕ)
       → p < 2112
@@ -110,7 +153,7 @@ module _ (set : List ℕ) (p : ℕ) where
       → FirstFrom set p (p + r)
   unfolding in_places
   first_here r l f m n =
-      let inside : p % 64 + r < 64 = within (ltb (p % 64 + r) 64) refl in
+      let inside = first_inside r f m in
       let word : (p + r) / 64 ≡ p / 64 = omega arith in
       let bit : (p + r) % 64 ≡ p % 64 + r = omega arith in
       record {
@@ -122,15 +165,6 @@ module _ (set : List ℕ) (p : ℕ) where
             let i : q % 64 ≡ p % 64 + (q - p) = omega arith in
             rw (w, i) (sym (has_shift (get_or set (p / 64) 0) (p % 64) (q - p)) ∙ n (q - p) (omega arith));
       }
-    where
-      within : (b : Bool) → ltb (p % 64 + r) 64 ≡ b → p % 64 + r < 64
-      within true e = ltb-true (p % 64 + r) 64 e
-      within false e =
-          absurd
-          (false≢true
-          (sym (has_above 64 (get_or set (p / 64) 0) (p % 64 + r) f (ltb-false (p % 64 + r) 64 e))
-          ∙ sym (has_shift (get_or set (p / 64) 0) (p % 64) r)
-          ∙ m))
 
   -- the word of p has none from p on
   pub none_here : get_or set (p / 64) 0 / 2 ^ (p % 64) ≡ 0 → NoneFrom set p (64 * (p / 64 + 1))

@@ -24,6 +24,7 @@ use Rattle.search.specs.Inner.Places.{access_at, chosen_at, choice_at, nowhere}
 use Rattle.search.specs.Inner.Table.{meets, takes_at, takes_operation, TableHolds}
 use Rattle.search.specs.Inner.Closing.{accepted_at, closes_at, closes_by, closes}
 use Rattle.search.specs.Inner.Search.{drops}
+use Rattle.search.specs.declared.tables.RuleTable.{RuleTable}
 
 -- Tests in another order
 
@@ -72,7 +73,7 @@ module _ (a y x : ℕ) where
 
 -- Placements
 
-module _ (t : List ℕ) (q : ℕ) where
+module _ (t : List RuleTable) (q : ℕ) where
   -- each reference is met by its place, and no restriction takes all three
   unfoldable pub placement : ℕ → ℕ → ℕ → Bool
   placement p0 p1 p2 = meets t q 0 p0 && (meets t q 1 p1 && (meets t q 2 p2 && not (accepted_at t q 0 1 2 p1 p2 p0)))
@@ -224,7 +225,7 @@ data Which : Type 0 where
 module _
     (book : List ℕ)
     (n : ℕ)
-    (t : List ℕ)
+    (t : List RuleTable)
     (tables : TableHolds book n t)
     (q : ℕ)
     (l : q < n)

@@ -1,48 +1,20 @@
 -- Laws of a plan as it is written: row by row into 36 bytes, and its first bytes into a buffer. Assumes nothing.
-use Prim.Native.Nat.{ℕ, suc, ◌+◌, ◌*◌, ◌/◌, ◌%◌, ◌≤◌, ◌<◌, min}
+use Prim.Native.Nat.{ℕ, suc, ◌+◌, ◌*◌, ◌/◌, ◌%◌, ◌≤◌, ◌<◌}
 use native.Mathlib.Nat.{add-zero, zero-add}
 use native.Mathlib.Numerals.{add-one}
 use native.Mathlib.Omega.{arith}
-use mathlib.Core.Path.{◌≡◌, refl, sym, ◌∙◌}
-use mathlib.Core.Bool.{Bool, true, false, ◌&&◌, ◌||◌, cond, false≢true}
+use mathlib.Core.Path.{◌≡◌, sym}
+use mathlib.Core.Bool.{Bool, true, false, cond}
 use mathlib.Core.List.{List, [], ◌∷◌, ◌++◌, append_assoc, append-nil}
-use lib.ListN.{length, get_or, take, drop, set, length-set}
-use lib.Seq.{take-suc-set, paste, paste-suc}
-use lib.Dec.{eqb, ltb, leb}
-use borrow.Author.Tests.{ltb-true, ltb-false, lt-ltb, le-ltb, leb-true, leb-false, lt-leb, eq-eqb, ne_eqb}
-use Rattle.book.proofs.Lists.{and_true, and_left, or_rest, or_neither}
+use lib.ListN.{take}
+use lib.Dec.{eqb, ltb}
+use borrow.Author.Tests.{lt-ltb, le-ltb, eq-eqb, ne_eqb}
 use Rattle.verdicts.specs.Accesses.{Access}
 use Rattle.search.specs.Inner.Places.{access_at, chosen_at, choice_at, rows_at, rows_for}
 use Rattle.search.specs.Inner.First.{WithAccess}
 use Rattle.search.specs.Shown.{column_for, function_for, column_row, apply_row, last_row, rows_of, access_rows}
 use Rattle.search.specs.Shown.{shown_from, shown_plan}
 use Rattle.search.proofs.PlaceLaws.{rows_nowhere, rows_plain, rows_applied, rows_some, rows_most}
-
--- One row
-
-take_set_more : (l : List ℕ) (i j a : ℕ) → i < length l → j ≡ suc i → take j (set l i a) ≡ take i l ++ (a ∷ [])
-take_set_more l i j a h e = rw (e, take-suc-set l i a h)
-
-pub row_written :
-    (plan : List ℕ) (n kind a b c : ℕ)
-    → length plan ≡ 36
-    → n < 9
-    → take (4 * n + 4) (set (set (set (set plan (4 * n) kind) (4 * n + 1) a) (4 * n + 2) b) (4 * n + 3) c)
-    ≡ take (4 * n) plan ++ (kind ∷ a ∷ b ∷ c ∷ [])
-row_written plan n kind a b c l h =
-    let one = set plan (4 * n) kind in
-    let two = set one (4 * n + 1) a in
-    let three = set two (4 * n + 2) b in
-    let m : length one ≡ 36 = length-set plan (4 * n) kind ∙ l in
-    let k : length two ≡ 36 = length-set one (4 * n + 1) a ∙ m in
-    let i : length three ≡ 36 = length-set two (4 * n + 2) b ∙ k in
-    take_set_more three (4 * n + 3) (4 * n + 4) c (omega arith) (omega arith)
-    ∙ rw (
-      take_set_more two (4 * n + 2) (4 * n + 3) b (omega arith) (omega arith),
-      take_set_more one (4 * n + 1) (4 * n + 2) a (omega arith) (omega arith),
-      take_set_more plan (4 * n) (4 * n + 1) kind (omega arith) (omega arith),
-    )
-    (simp append_assoc)
 
 -- The last row, which names the row before it
 
@@ -59,12 +31,6 @@ last_written plan r n kind s h e l =
     rw (long, short, e) (h (omega arith))
 
 -- The rows for one place
-
--- the code goes on where the place has an access and two rows have room
-pub access_room : (n p : ℕ) → (leb 2048 p || leb 8 n) ≡ false → (p < 2048) × (n < 8)
-access_room n p h =
-    let b = or_neither (leb 2048 p) (leb 8 n) h in
-    (leb-false 2048 p b.0, leb-false 8 n b.1)
 
 module _ (head : List ℕ) (n p : ℕ) where
   shown_nowhere : 2048 ≤ p → shown_from head n (chosen_at p) ≡ []
@@ -89,25 +55,13 @@ module _ (head : List ℕ) (n p : ℕ) where
       (append-nil (column_row head (p / 16 % 64) ++ (apply_row head n (p % 16) ++ last_row (suc n) (p / 1024))))
 
   -- a place without an access, or no room for its rows
-  pub access_kept :
-      (plan : List ℕ)
-      → (leb 2048 p || leb 8 n) ≡ true
-      → WithAccess head n p plan plan
-  access_kept plan h few = go (ltb p 2048) refl
-    where
-      go :
-          (b : Bool)
-          → ltb p 2048 ≡ b
-          → take (4 * (n + rows_at p)) plan ≡ take (4 * n) plan ++ shown_from head n (chosen_at p)
-      go true e =
-          let l = ltb-true p 2048 e in
-          let m : 8 ≤ n = leb-true 8 n (or_rest (leb 2048 p) (leb 8 n) h (lt-leb 2048 p l)) in
-          let some : 2 ≤ rows_at p = rows_some p l in
-          absurd (omega arith)
-      go false e =
-          let l = ltb-false p 2048 e in
-          let z : n + rows_at p ≡ n = omega (arith, rows_nowhere p l) in
-          rw (z, shown_nowhere l) (sym (append-nil (take (4 * n) plan)))
+  pub access_nowhere : (plan : List ℕ) → 2048 ≤ p → WithAccess head n p plan plan
+  access_nowhere plan l few =
+      let z : n + rows_at p ≡ n = omega (arith, rows_nowhere p l) in
+      rw (z, shown_nowhere l) (sym (append-nil (take (4 * n) plan)))
+
+  pub access_full : (plan : List ℕ) → p < 2048 → 8 ≤ n → WithAccess head n p plan plan
+  access_full plan l full few = absurd (omega (arith, rows_some p l))
 
   pub access_plain :
       (plan first r : List ℕ) (column : ℕ)
@@ -177,52 +131,3 @@ plan_shown head first second r a y x one more e d h i j =
     let sum : 4 * (rows_at a + (rows_at y + rows_at x)) ≡ 4 * (rows_at a + rows_at y + rows_at x) = omega arith in
     let zero : 4 * rows_at a ≡ 4 * (0 + rows_at a) = omega arith in
     rw (sum, l, k, zero, h (omega arith), shown_then head 0 a, zero-add, shown_then head (rows_at a) y) (simp append_assoc)
-
--- The first bytes of a plan into a buffer
-
--- a buffer whose first n bytes are those of the plan
-abbrev pub Copied : List ℕ → List ℕ → ℕ → List ℕ → Type 0
-Copied old plan n buffer = buffer ≡ take n plan ++ drop n old
-
-pub copied_none : (old plan : List ℕ) (count : ℕ) → Copied old plan (min 0 count) old
-copied_none old plan count =
-    let e : min 0 count ≡ 0 = omega arith in
-    rw e
-
--- room for a whole plan, and a count of its bytes
-module _ (old plan buffer : List ℕ) (i count : ℕ) (room : 36 ≤ length old) (few : count ≤ 36) where
-  pub copied_more :
-      length plan ≡ 36
-      → (ltb i count && ltb i (length buffer)) ≡ true
-      → Copied old plan (min i count) buffer
-      → Copied old plan (min (i + 1) count) (set buffer i (get_or plan i 0))
-  copied_more long t h =
-      let l : i < count = ltb-true i count (and_left (ltb i count) (ltb i (length buffer)) t) in
-      let here : min i count ≡ i = omega arith in
-      let next : min (i + 1) count ≡ suc i = omega arith in
-      let e : set (paste old 0 plan i) (0 + i) (get_or plan i 0) ≡ paste old 0 plan (suc i) =
-      paste-suc old 0 plan i 0 (omega arith) (omega arith) in
-      rw (h, here, next) (rw (zero-add, zero-add) at e)
-
-  pub copied_kept :
-      length buffer ≡ length old
-      → i < 36
-      → (ltb i count && ltb i (length buffer)) ≡ false
-      → Copied old plan (min i count) buffer
-      → Copied old plan (min (i + 1) count) buffer
-  copied_kept long l t h = go (ltb i count) refl
-    where
-      go : (b : Bool) → ltb i count ≡ b → Copied old plan (min (i + 1) count) buffer
-      go true e =
-          absurd
-          (false≢true
-          (sym t ∙ and_true (ltb i count) (ltb i (length buffer)) e (lt-ltb i (length buffer) (omega arith))))
-      go false e =
-          let m = ltb-false i count e in
-          let same : min (i + 1) count ≡ min i count = omega arith in
-          rw same h
-
-  pub copied_all : 36 ≤ i → Copied old plan (min i count) buffer → Copied old plan count buffer
-  copied_all l h =
-      let e : min i count ≡ count = omega arith in
-      rw e at h

@@ -5,27 +5,27 @@ use native.Mathlib.Omega.{arith}
 use mathlib.Core.Path.{◌≡◌, refl, sym, ap, ◌∙◌}
 use mathlib.Core.Logic.{⊎_elim}
 use mathlib.Core.Bool.{Bool, true, false, ◌&&◌, cond}
-use mathlib.Core.List.{List}
-use lib.ListN.{length, get_or, set, length-set}
+use mathlib.Core.List.{List, []}
+use lib.ListN.{length, get_or, set, length-set, replicate, get_or-replicate}
 use lib.Seq.{get_or-set_same, get_or-set_other}
 use lib.Dec.{eqb, ltb}
 use borrow.Author.Tests.{eqb-true, eqb-false, lt-ltb, le-ltb, ltb-true, ltb-false}
 use Rattle.book.specs.Sets.{has, WordOf}
 use Rattle.book.specs.Blocks.{head_of, rule_at}
-use Rattle.book.specs.Rule.{action, reference_count, restriction_count, restriction_mask, in_leaf_set}
-use Rattle.book.specs.declared.ActionByte.{ActionByte}
-use Rattle.book.specs.declared.ActionByte.TheVariants.{Names, NamesNone}
+use Rattle.book.specs.Rule.{action, reference_count, restriction_count, restriction_mask, covers_user, in_leaf_set}
+use Rattle.book.specs.declared.Action.{Action}
+use Rattle.std.specs.Prelude.{Option, Some, None}
 use Rattle.book.proofs.Lists.{and_end}
 use Rattle.book.proofs.Members.{has_cond, has_below, has_low, has_zero}
-use Rattle.lineage.proofs.Tables.{Filled}
 use Rattle.verdicts.specs.Actions.{channel_fits}
 use Rattle.verdicts.specs.Accesses.{fits}
-use Rattle.verdicts.specs.Inner.Words.{mask_takes}
+use Rattle.verdicts.specs.Inner.Words.{mask_takes, RuleSound}
 use Rattle.verdicts.proofs.Marks.{has_if}
 use Rattle.search.specs.Inner.Places.{access_at, nowhere}
 use Rattle.search.specs.Inner.Table.{meets, takes_at, meets_reference, takes_operation, TableHolds}
-use Rattle.search.specs.Inner.Table.{in_channels, ChannelWord, ChannelWords, ReferenceWords, RestrictionWord}
-use Rattle.search.specs.Inner.Table.{RuleWord, RuleWords, LeafSets}
+use Rattle.search.specs.Inner.Table.{in_channels, ChannelWord, ChannelWords, ReferenceWords}
+use Rattle.search.specs.Inner.Table.{no_table, CoveredWord, CoversHold, ReferenceHolds, RuleHolds}
+use Rattle.search.specs.declared.tables.RuleTable.{RuleTable}
 use Rattle.search.proofs.PlaceLaws.{has_shift}
 use Rattle.search.proofs.Fours.{four_masks, four_tests}
 
@@ -90,18 +90,20 @@ pub all_ones : (i : ℕ) → i < 64 → has 18446744073709551615 i ≡ true
 all_ones i l = has_below 64 i ∙ lt-ltb i 64 l
 
 -- the channels whose accesses fit an action
-channels : (byte : ActionByte) (s : ℕ) → in_channels (channel_fits 0 byte) (channel_fits 1 byte) s ≡ channel_fits s byte
+channels : (named : Option Action) (s : ℕ) → in_channels (channel_fits 0 named) (channel_fits 1 named) s ≡ channel_fits s named
 unfolding in_channels channel_fits
-channels byte zero = refl
-channels byte (suc zero) = refl
-channels (Names action) (suc (suc s)) = refl
-channels NamesNone (suc (suc s)) = refl
+channels None zero = refl
+channels (Some action) zero = refl
+channels None (suc zero) = refl
+channels (Some action) (suc zero) = refl
+channels (Some action) (suc (suc s)) = refl
+channels None (suc (suc s)) = refl
 
 -- there are two
-no_channel : (byte : ActionByte) → channel_fits 2 byte ≡ false
+no_channel : (named : Option Action) → channel_fits 2 named ≡ false
 unfolding channel_fits
-no_channel (Names action) = refl
-no_channel NamesNone = refl
+no_channel (Some action) = refl
+no_channel None = refl
 
 -- the words of both channels, as far as w, and the last one
 pub record Channels (leaves : ℕ) (projected tested : Bool) (words : List ℕ) (w : ℕ) : Type 0 where
@@ -216,18 +218,18 @@ module _ (rule : List ℕ) (leaves i p : ℕ) where
 
   -- the place of an absent reference meets none that is there
   pub meets_word :
-      (word w : ℕ) (byte : ActionByte) (projected tested : Bool)
+      (word w : ℕ) (named : Option Action) (projected tested : Bool)
       → i < reference_count rule
-      → byte ≡ action rule i
-      → projected ≡ channel_fits 0 byte
-      → tested ≡ channel_fits 1 byte
+      → named ≡ action rule i
+      → projected ≡ channel_fits 0 named
+      → tested ≡ channel_fits 1 named
       → p ≤ nowhere
       → p / 64 ≡ w
       → ChannelWord leaves projected tested w word
       → has word (p % 64) ≡ meets_reference rule leaves i p
   unfolding meets_reference
-  meets_word word w byte projected tested h e ep et l at said =
-      said (p % 64) (omega arith) ∙ rw (ep, et, channels byte (w / 16), e) (go (ltb p nowhere) refl)
+  meets_word word w named projected tested h e ep et l at said =
+      said (p % 64) (omega arith) ∙ rw (ep, et, channels named (w / 16), e) (go (ltb p nowhere) refl)
     where
       go :
           (b : Bool)
@@ -262,134 +264,152 @@ module _ (rule : List ℕ) (i j p : ℕ) where
       said
       ∙ rw (k, taken (p % 16), lt-ltb (p % 16) 16 (omega arith), e, lt-ltb j (restriction_count rule) h)
 
--- The words of a rule
+-- The tables
 
-module _ (rule sets : List ℕ) (q : ℕ) where
-  -- word k of rule q
-  abbrev pub RulePart : ℕ → ℕ → Type 0
-  RulePart k word = RuleWord rule (get_or sets (3 * q + k / 33) 0) k word
+-- the words of the places that meet a reference, by its leaf set
+pub reference_meets :
+    (head rule : List ℕ) (i leaves : ℕ) (places : List ℕ)
+    → WordOf (in_leaf_set head rule i) leaves
+    → ReferenceWords rule leaves i places
+    → (p : ℕ)
+    → p ≤ nowhere
+    → has (get_or places (p / 64) 0) (p % 64)
+    ≡ cond (ltb i (reference_count rule)) (ltb p nowhere && fits head rule i (access_at p)) true
+unfolding meets_reference fits access_at
+reference_meets head rule i leaves places word told p h =
+    told (p / 64) (omega arith) p h refl ∙ rw (word (p / 16 % 64), lt-ltb (p / 16 % 64) 64 (omega arith))
 
-  pub places_part :
-      (i w leaves : ℕ) (places : List ℕ)
-      → i < 3
-      → w < 33
-      → leaves ≡ get_or sets (3 * q + i) 0
-      → ReferenceWords rule leaves i places
-      → RulePart (33 * i + w) (get_or places w 0)
-  places_part i w leaves places s l e told =
-      let d : (33 * i + w) / 33 ≡ i = omega arith in
-      let f : (33 * i + w) % 33 ≡ w = omega arith in
-      record {
-        meeting = λ low. rw (d, f, ← e) (told w l);
-        taking = λ high short. absurd (omega arith);
-      }
+-- the words of the first references, and what follows with those of one more
+pub record References (head rule : List ℕ) (table : RuleTable) (i : ℕ) : Type 0 where
+  pub bound : i ≤ 3
+  pub places : length table.meets ≡ 3
+  pub restrictions : length table.takes ≡ 3
+  pub at : (k : ℕ) → k < i → ReferenceHolds head rule k (get_or table.meets k []) (get_or table.takes k [])
 
-  pub restriction_part :
-      (k word : ℕ) → k < 24 → RestrictionWord rule (k / 8) (k % 8) word → RulePart (99 + k) word
-  restriction_part k word l told =
-      let d : 99 + k - 99 ≡ k = omega arith in
-      record {
-        meeting = λ low. absurd (omega arith);
-        taking = λ high short. rw d told;
-      }
-
-  -- the last five words say nothing
-  pub parts_whole : (words : List ℕ) (n : ℕ) → 123 ≤ n → Filled 128 RulePart words n → RuleWords rule sets q words
-  parts_whole words n past filled k l = go (ltb k 123) refl
-    where
-      go : (b : Bool) → ltb k 123 ≡ b → RulePart k (get_or words k 0)
-      go true e =
-          let low = ltb-true k 123 e in
-          filled.at k (omega arith)
-      go false e =
-          let high = ltb-false k 123 e in
-          record {
-            meeting = λ low. absurd (omega arith);
-            taking = λ low short. absurd (omega arith);
-          }
-
--- as far as one count or an equal one
-pub fill_to :
-    (n : ℕ) (P : ℕ → ℕ → Type 0) (words : List ℕ) (k j : ℕ) → k ≡ j → Filled n P words k → Filled n P words j
-fill_to n P words k j e filled = rw (← e) filled
-
--- Tables
-
--- word m of the tables
-abbrev pub TableWord : List ℕ → List ℕ → ℕ → ℕ → Type 0
-TableWord book sets m word = RulePart (rule_at book (m / 128)) sets (m / 128) (m % 128) word
-
-pub table_part :
-    (book sets : List ℕ) (q k : ℕ) (words : List ℕ)
-    → k < 128
-    → RuleWords (rule_at book q) sets q words
-    → TableWord book sets (128 * q + k) (get_or words k 0)
-table_part book sets q k words l told =
-    let d : (128 * q + k) / 128 ≡ q = omega arith in
-    let f : (128 * q + k) % 128 ≡ k = omega arith in
-    rw (d, f) (told k l)
-
-module _
-    (book : List ℕ)
-    (n : ℕ)
-    (sets t : List ℕ)
-    (count : ℕ)
-    (leaves : LeafSets book n sets)
-    (b : Filled 4096 (TableWord book sets) t count)
-    (whole : 128 * n ≤ count)
+pub references_more :
+    (head rule : List ℕ) (table : RuleTable) (i : ℕ) (met taken : List ℕ)
+    → References head rule table i
+    → i < 3
+    → ReferenceHolds head rule i met taken
+    → References head rule (record { meets = set table.meets i met; takes = set table.takes i taken }) (i + 1)
+references_more head rule table i met taken old l new =
+    record {
+      bound = omega arith;
+      places = length-set table.meets i met ∙ old.places;
+      restrictions = length-set table.takes i taken ∙ old.restrictions;
+      at = λ k m. go k m (eqb k i) refl;
+    }
   where
-    -- what meets a reference, by the leaf set's word and by the leaf set
-    meets_fits :
-        (q i p : ℕ)
-        → q < n
-        → i < 3
-        → meets_reference (rule_at book q) (get_or sets (3 * q + i) 0) i p
-        ≡ cond (ltb i (reference_count (rule_at book q)))
-        (ltb p nowhere && fits (head_of book) (rule_at book q) i (access_at p)) true
-    unfolding meets_reference fits access_at
-    meets_fits q i p l s =
-        let e : (3 * q + i) / 3 ≡ q = omega arith in
-        let f : (3 * q + i) % 3 ≡ i = omega arith in
-        let word : WordOf (in_leaf_set (head_of book) (rule_at book q) i) (get_or sets (3 * q + i) 0) =
-        rw (e, f) at (leaves (3 * q + i) (omega arith)) in
-        rw (word (p / 16 % 64), lt-ltb (p / 16 % 64) 64 (omega arith))
+    go :
+        (k : ℕ)
+        → k < i + 1
+        → (b : Bool)
+        → eqb k i ≡ b
+        → ReferenceHolds head rule k (get_or (set table.meets i met) k []) (get_or (set table.takes i taken) k [])
+    go k m true e =
+        rw (
+          eqb-true k i e,
+          get_or-set_same table.meets i met [] (omega (arith, old.places)),
+          get_or-set_same table.takes i taken [] (omega (arith, old.restrictions)),
+        )
+        new
+    go k m false e =
+        let other : k ≡ i → ⊥ = eqb-false k i e in
+        rw (get_or-set_other table.meets i k met [] other, get_or-set_other table.takes i k taken [] other)
+        (old.at k (omega (arith, other)))
 
-    pub table_holds : TableHolds book n t
-    unfolding meets takes_at
-    table_holds =
-        record {
-          references = λ q i p l s h. meeting q i p l s h ∙ meets_fits q i p l s;
-          restrictions = taking;
-        }
-      where
-        meeting :
-            (q i p : ℕ)
-            → q < n
-            → i < 3
-            → p ≤ nowhere
-            → has (get_or t (128 * q + 33 * i + p / 64) 0) (p % 64)
-            ≡ meets_reference (rule_at book q) (get_or sets (3 * q + i) 0) i p
-        meeting q i p l s h =
-            let m = 128 * q + 33 * i + p / 64 in
-            let e : m / 128 ≡ q = omega arith in
-            let f : m % 128 ≡ 33 * i + p / 64 = omega arith in
-            let g : (33 * i + p / 64) / 33 ≡ i = omega arith in
-            let w : RuleWord (rule_at book q) (get_or sets (3 * q + (33 * i + p / 64) / 33) 0) (33 * i + p / 64) (get_or t m 0) =
-            rw (e, f) at (b.at m (omega arith)) in
-            rw g at (w.meeting (omega arith) p h (omega arith))
+-- the tables of the first rules
+pub record Rules (book : List ℕ) (t : List RuleTable) (q : ℕ) : Type 0 where
+  pub size : length t ≡ 32
+  pub sound : (k : ℕ) → k < q → RuleSound (head_of book) (rule_at book k)
+  pub at : (k : ℕ) → k < q → RuleHolds (head_of book) (rule_at book k) (get_or t k no_table)
 
-        taking :
-            (q i j p : ℕ)
-            → q < n
-            → i < 3
-            → j < 8
-            → has (get_or t (128 * q + 99 + 8 * i + j) 0) (p % 64) ≡ takes_operation (rule_at book q) i j p
-        taking q i j p l s h =
-            let m = 128 * q + 99 + 8 * i + j in
-            let e : m / 128 ≡ q = omega arith in
-            let f : m % 128 ≡ 99 + 8 * i + j = omega arith in
-            let g : (99 + 8 * i + j - 99) / 8 ≡ i = omega arith in
-            let k : (99 + 8 * i + j - 99) % 8 ≡ j = omega arith in
-            let w : RuleWord (rule_at book q) (get_or sets (3 * q + (99 + 8 * i + j) / 33) 0) (99 + 8 * i + j) (get_or t m 0) =
-            rw (e, f) at (b.at m (omega arith)) in
-            rw (g, k) at (w.taking (omega arith) (omega arith) p)
+pub rules_none : (book : List ℕ) (t : List RuleTable) → length t ≡ 32 → Rules book t 0
+rules_none book t size =
+    record { size = size; sound = λ k l. absurd (omega arith); at = λ k l. absurd (omega arith) }
+
+pub rules_more :
+    (book : List ℕ) (t : List RuleTable) (q : ℕ) (table : RuleTable)
+    → q < 32
+    → RuleSound (head_of book) (rule_at book q)
+    → RuleHolds (head_of book) (rule_at book q) table
+    → Rules book t q
+    → Rules book (set t q table) (q + 1)
+rules_more book t q table l fit new old =
+    record {
+      size = length-set t q table ∙ old.size;
+      sound = λ k m. whole k m (eqb k q) refl;
+      at = λ k m. go k m (eqb k q) refl;
+    }
+  where
+    whole : (k : ℕ) → k < q + 1 → (b : Bool) → eqb k q ≡ b → RuleSound (head_of book) (rule_at book k)
+    whole k m true e = rw (eqb-true k q e) fit
+    whole k m false e =
+        let other : k ≡ q → ⊥ = eqb-false k q e in
+        old.sound k (omega (arith, other))
+
+    go :
+        (k : ℕ)
+        → k < q + 1
+        → (b : Bool)
+        → eqb k q ≡ b
+        → RuleHolds (head_of book) (rule_at book k) (get_or (set t q table) k no_table)
+    go k m true e = rw (eqb-true k q e, get_or-set_same t q table no_table (omega (arith, old.size))) new
+    go k m false e =
+        let other : k ≡ q → ⊥ = eqb-false k q e in
+        rw (get_or-set_other t q k table no_table other) (old.at k (omega (arith, other)))
+
+pub table_holds : (book : List ℕ) (n : ℕ) (t : List RuleTable) (q : ℕ) → Rules book t q → n ≤ q → TableHolds book n t
+unfolding meets takes_at
+table_holds book n t q rules few =
+    record {
+      sound = λ q l. rules.sound q (omega arith);
+      references = λ q i p l s h. (rules.at q (omega arith) i s).meeting p h;
+      restrictions = λ q i j p l s h. (rules.at q (omega arith) i s).taking j h p;
+    }
+
+-- The users
+
+-- the users that the first r rules cover, and those that one more does
+pub record Covers (book : List ℕ) (covered : List ℕ) (r : ℕ) : Type 0 where
+  pub size : length covered ≡ 32
+  pub at : CoversHold book r covered
+
+pub covers_none : (book : List ℕ) → Covers book (replicate 32 0) 0
+covers_none book =
+    record {
+      size = refl;
+      at = λ k l u m. rw (get_or-replicate {A = ℕ} 32 k 0 0 l, le-ltb k 0 (omega arith)) (has_zero u);
+    }
+
+-- a number that is not the next stands where it stood
+not_next : (k r : ℕ) → (k ≡ r → ⊥) → ltb k (r + 1) ≡ ltb k r
+not_next k r other = go (ltb k r) refl
+  where
+    go : (b : Bool) → ltb k r ≡ b → ltb k (r + 1) ≡ b
+    go true e = let low = ltb-true k r e in lt-ltb k (r + 1) (omega arith)
+    go false e = let high = ltb-false k r e in le-ltb k (r + 1) (omega (arith, other))
+
+pub covers_more :
+    (book covered : List ℕ) (r word : ℕ)
+    → r < 32
+    → WordOf (covers_user (head_of book) (rule_at book r)) word
+    → Covers book covered r
+    → Covers book (set covered r word) (r + 1)
+covers_more book covered r word l new old =
+    record {
+      size = length-set covered r word ∙ old.size;
+      at = λ k s. go k s (eqb k r) refl;
+    }
+  where
+    go : (k : ℕ) → k < 32 → (b : Bool) → eqb k r ≡ b → CoveredWord book (r + 1) k (get_or (set covered r word) k 0)
+    go k s true e u m =
+        rw (
+          eqb-true k r e,
+          get_or-set_same covered r word 0 (omega (arith, old.size)),
+          lt-ltb r (r + 1) (omega arith),
+        )
+        (new u ∙ rw (lt-ltb u 64 (omega arith)))
+    go k s false e u m =
+        let other : k ≡ r → ⊥ = eqb-false k r e in
+        rw (get_or-set_other covered r k word 0 other, not_next k r other) (old.at k s u m)

@@ -16,16 +16,17 @@ use Rattle.search.specs.Inner.Places.{FirstFrom, in_places}
 use Rattle.search.specs.Inner.Closing.{closes, Within, Sifted}
 use Rattle.search.specs.Inner.Search.{refuses, solves_in, solves_first, solves_beside, solves_pair}
 use Rattle.search.specs.Inner.Search.{Solved, Unsolved, Thirds, SettledBy}
-use Rattle.search.specs.declared.sifting.Remaining.{Remaining}
+use Rattle.search.specs.Inner.Closing.{Remaining}
 use Rattle.search.proofs.Sieves.{both}
 use Rattle.search.proofs.Solutions.{before_cases, beside_fewer, drop_in, fails, grown_join, grown_within}
 use Rattle.search.proofs.Solutions.{in_fewer, passes, passing, place_below, unmarked}
 use Rattle.search.proofs.Solutions.{Seeking, seeking_fewer, still, place_none, place_found}
+use Rattle.search.specs.declared.tables.RuleTable.{RuleTable}
 
 -- The third place, beside the first and the second
 
 module _
-    (t : List ℕ)
+    (t : List RuleTable)
     (r n rules a y : ℕ)
     (before rest : Remaining)
     (size : length before.places ≡ 33)
@@ -114,7 +115,7 @@ module _
 
 -- The second place, beside the first
 
-module _ (t : List ℕ) (r n a : ℕ) (seconds thirds : List ℕ) where
+module _ (t : List RuleTable) (r n a : ℕ) (seconds thirds : List ℕ) where
   pub beside_inside :
       (marked : ℕ → Bool) (b z w : ℕ)
       → solves_beside t r n a seconds thirds marked b z w ≡ true
@@ -252,7 +253,7 @@ module _ (t : List ℕ) (r n a : ℕ) (seconds thirds : List ℕ) where
 -- The set without what breaks a rule beside the first place
 
 module _
-    (t : List ℕ)
+    (t : List RuleTable)
     (rules b c : ℕ)
     (done : ℕ → Bool)
     (before after : Remaining)
@@ -275,7 +276,7 @@ module _
             absurd (unmarked (has after.rules) marked (λ q. closes t q b c p) within free (sifted.gone p l h e))
 
 module _
-    (t : List ℕ)
+    (t : List RuleTable)
     (r n rules f : ℕ)
     (before second next third : Remaining)
     (two : Sifted t rules (has rules) f 2048 before second)
@@ -344,7 +345,7 @@ module _
 
 -- The first place
 
-module _ (t : List ℕ) (r n : ℕ) (firsts seconds thirds : List ℕ) where
+module _ (t : List RuleTable) (r n : ℕ) (firsts seconds thirds : List ℕ) where
   pub in_inside :
       (marked : ℕ → Bool) (a y x : ℕ)
       → solves_in t r n firsts seconds thirds marked a y x ≡ true

@@ -4,7 +4,7 @@ use Prim.Native.Nat.{ℕ, ◌-◌, ◌/◌, ◌%◌, ◌^◌, ◌<◌}
 use native.Mathlib.Nat.{lt_of_le_of_lt}
 use native.Mathlib.Omega.{arith}
 use mathlib.Core.Path.{◌≡◌, refl, sym, ap, ◌∙◌}
-use mathlib.Core.Bool.{Bool, true, false, ◌&&◌, ◌||◌, not, false≢true}
+use mathlib.Core.Bool.{Bool, true, false, ◌&&◌, not, false≢true}
 use mathlib.Core.List.{List}
 use lib.ListN.{get_or}
 use lib.Dec.{eqb, ltb}
@@ -12,15 +12,15 @@ use lib.Bits.{bit_and, bit_or, and_le_l}
 use borrow.Author.Tests.{not-true, eqb-true, eqb-false, eq-eqb, ne_eqb, lt-ltb, ltb-true, ltb-false}
 use Rattle.book.specs.Lists.{any, up_to}
 use Rattle.book.specs.Sets.{has, WordOf}
-use Rattle.book.proofs.Lists.{and_true, and_left, and_right, and_end, and_false, or_neither, or_rest, or_true}
+use Rattle.book.proofs.Lists.{and_true, and_left, and_right, and_end, and_false, or_rest, or_true}
 use Rattle.book.proofs.Lists.{any_wider}
 use Rattle.book.proofs.Members.{has_zero, has_or, has_minus, has_above, has_and}
 use Rattle.verdicts.proofs.Quantifiers.{at_any}
 use Rattle.search.specs.Inner.Places.{in_places, PlacesOf}
 use Rattle.search.specs.Inner.Closing.{closes, meets_with, Masked, Within, Turned, Sifted}
-use Rattle.search.specs.declared.closing.Masks.{Masks}
-use Rattle.search.specs.declared.sifting.Remaining.{Remaining}
+use Rattle.search.specs.Inner.Closing.{Remaining}
 use Rattle.search.proofs.Fours.{has_cut}
+use Rattle.search.specs.declared.tables.RuleTable.{RuleTable}
 
 -- Tests
 
@@ -30,26 +30,19 @@ both h n = absurd (false≢true (sym n ∙ h))
 
 -- One rule's turn
 
-module _ (t : List ℕ) (q b c : ℕ) (masks : Masks) (made : Masked t q b c masks) where
+module _ (t : List RuleTable) (q b c : ℕ) (masks : List ℕ) (made : Masked t q b c masks) where
   -- masks with no operation: no place breaks the rule
-  pub none_closes :
-      bit_or (bit_or masks.first masks.second) masks.third ≡ 0 → (p : ℕ) → closes t q b c p ≡ false
+  pub none_closes : ((i : ℕ) → get_or masks i 0 ≡ 0) → (p : ℕ) → closes t q b c p ≡ false
   unfolding closes
   none_closes e p =
-      let first = has masks.first (p % 64) in
-      let second = has masks.second (p % 64) in
-      let third = has masks.third (p % 64) in
-      let all : (has (bit_or masks.first masks.second) (p % 64) || third) ≡ false =
-      sym (has_or (bit_or masks.first masks.second) masks.third (p % 64)) ∙ rw (e, has_zero) in
-      let two = or_neither (has (bit_or masks.first masks.second) (p % 64)) third all in
-      let one = or_neither first second (sym (has_or masks.first masks.second (p % 64)) ∙ two.0) in
       rw (
         ← (made.first p),
         ← (made.second p),
         ← (made.third p),
-        one.0,
-        one.1,
-        two.1,
+        e 0,
+        e 1,
+        e 2,
+        has_zero,
         and_false,
         and_false,
         and_false,
@@ -58,31 +51,31 @@ module _ (t : List ℕ) (q b c : ℕ) (masks : Masks) (made : Masked t q b c mas
   -- the set without what breaks the rule
   pub kept_closes :
       (old new : List ℕ)
-      → PlacesOf (λ p. in_places old p && not (meets_with t q masks.first masks.second masks.third p)) new
+      → PlacesOf (λ p. in_places old p && not (meets_with t q masks p)) new
       → PlacesOf (λ p. in_places old p && not (closes t q b c p)) new
   unfolding closes
   kept_closes old new h p l = rw (← (made.first p), ← (made.second p), ← (made.third p)) (h p l)
 
 -- nothing was taken
 pub turn_none :
-    (t : List ℕ) (q b c : ℕ) (rest : Remaining) (places : List ℕ)
+    (t : List RuleTable) (q b c : ℕ) (rest : Remaining) (places : List ℕ)
     → places ≡ rest.places
     → PlacesOf (λ p. in_places rest.places p && not (closes t q b c p)) places
-    → Turned t q b c rest rest
+    → Turned t q b c rest (record { places = places; rules = rest.rules; last = rest.last })
 turn_none t q b c rest places e h =
     record {
-      kept = λ p l. ap (λ (s : List ℕ). in_places s p) (sym e) ∙ h p l;
+      kept = h;
       more = λ j m. m;
       only = λ j m n. both m n;
-      marked = λ p l m n. both m n;
+      marked = λ p l m n. both m (ap (λ (s : List ℕ). in_places s p) (sym e) ∙ n);
     }
 
 pub turn_idle :
-    (t : List ℕ) (q b c : ℕ) (rest : Remaining) → ((p : ℕ) → closes t q b c p ≡ false) → Turned t q b c rest rest
+    (t : List RuleTable) (q b c : ℕ) (rest : Remaining) → ((p : ℕ) → closes t q b c p ≡ false) → Turned t q b c rest rest
 turn_idle t q b c rest h = turn_none t q b c rest rest.places refl (λ p l. rw (h p, and_end))
 
 pub turn_some :
-    (t : List ℕ) (q b c one last : ℕ) (before : Remaining) (places : List ℕ)
+    (t : List RuleTable) (q b c one last : ℕ) (before : Remaining) (places : List ℕ)
     → q < 32
     → WordOf (λ j. eqb j q) one
     → PlacesOf (λ p. in_places before.places p && not (closes t q b c p)) places
@@ -101,7 +94,7 @@ turn_some t q b c one last before places small single h =
 
 -- The sieve
 
-module _ (t : List ℕ) (rules b c : ℕ) where
+module _ (t : List RuleTable) (rules b c : ℕ) where
   pub sifted_start : (rest : Remaining) → Sifted t rules (λ q. false) b c rest rest
   sifted_start rest =
       record {
@@ -308,7 +301,7 @@ later_member word out q h =
 -- The loop
 
 -- the rules of a set that do not wait are done
-pub record Sieving (t : List ℕ) (rules b c : ℕ) (before rest : Remaining) (waiting : ℕ) : Type 0 where
+pub record Sieving (t : List RuleTable) (rules b c : ℕ) (before rest : Remaining) (waiting : ℕ) : Type 0 where
   pub fits : waiting < 2 ^ 64
   pub members : (q : ℕ) → has waiting q ≡ true → (q < 32) × (has rules q ≡ true)
   pub sifted : Sifted t rules (λ q. has rules q && not (has waiting q)) b c before rest
@@ -324,7 +317,7 @@ low_rules rules q h = go (ltb q 32) refl
         (l, sym (has_cut 32 rules q l) ∙ h)
     go false e = both h (has_above 32 (rules % 4294967296) q (omega arith) (ltb-false q 32 e))
 
-module _ (t : List ℕ) (rules b c : ℕ) where
+module _ (t : List RuleTable) (rules b c : ℕ) where
   -- all wait first
   pub sieving_start : (rest : Remaining) → Sieving t rules b c rest rest (rules % 4294967296)
   sieving_start rest =

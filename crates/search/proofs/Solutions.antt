@@ -19,9 +19,10 @@ use Rattle.search.specs.Inner.Places.{FirstFrom, in_places}
 use Rattle.search.specs.Inner.Closing.{closes, Within, Grown}
 use Rattle.search.specs.Inner.Search.{candidate, refuses, drops, solves, solves_in, solves_beside}
 use Rattle.search.specs.Inner.Search.{triple_before, Solved, Unsolved, Searched}
-use Rattle.search.specs.declared.searching.Sought.{Sought}
-use Rattle.search.specs.declared.searching.Sought.TheVariants.{Found, Nothing}
+use Rattle.std.specs.Prelude.{Option, Some, None}
+use Rattle.search.specs.declared.places.Places.{Places}
 use Rattle.search.proofs.Sieves.{both}
+use Rattle.search.specs.declared.tables.RuleTable.{RuleTable}
 
 -- Tests
 
@@ -117,11 +118,11 @@ fewer i j k refused some rules drop within h =
     })
 
 -- what drops at the same places
-abbrev pub drop_in : List ℕ → ℕ → ℕ → ℕ → ℕ → Bool
+abbrev pub drop_in : List RuleTable → ℕ → ℕ → ℕ → ℕ → Bool
 drop_in t a y x q = (closes t q a 2048 y || closes t q a 2048 x) || closes t q a y x
 
 module _
-    (t : List ℕ)
+    (t : List RuleTable)
     (r n : ℕ)
     (some rules : ℕ → Bool)
     (within : (q : ℕ) → q < 32 → some q ≡ true → rules q ≡ true)
@@ -185,17 +186,18 @@ pub searched_through :
     → Within (has before) (has rest)
     → Grown (has rules) (has before) (has rest)
     → Within (has rest) (has rules)
-    → (s : Sought)
-    → Searched inner rules rest s
-    → Searched outer rules before s
+    → (marked : ℕ)
+    → (found : Option Places)
+    → Searched inner rules rest marked found
+    → Searched outer rules before marked found
 unfolding Searched
-searched_through inner outer rules before rest there back more only inside (Found a y x) h =
+searched_through inner outer rules before rest there back more only inside marked (Some found) h =
     record {
-      solution = back a y x h.solution;
+      solution = back found.first found.second found.third h.solution;
       earliest = λ b z w e.
           fails (outer (has rules) b z w) (λ o. both (there (has rules) inside b z w o) (h.earliest b z w e));
     }
-searched_through inner outer rules before rest there back more only inside (Nothing marked last) h =
+searched_through inner outer rules before rest there back more only inside marked None h =
     record {
       more = λ q e. h.more q (more q e);
       only = grown_join (has rules) (has before) (has rest) (has marked) only h.only;
@@ -204,17 +206,19 @@ searched_through inner outer rules before rest there back more only inside (Noth
     }
 
 -- what an answer says
-module _ (of : (ℕ → Bool) → ℕ → ℕ → ℕ → Bool) (rules before : ℕ) (s : Sought) where
+module _ (of : (ℕ → Bool) → ℕ → ℕ → ℕ → Bool) (rules before marked : ℕ) (s : Option Places) where
   pub found_solved :
-      (a y x : ℕ) → s ≡ Found a y x → Searched of rules before s → Solved (of (has rules)) a y x
+      (found : Places)
+      → s ≡ Some found
+      → Searched of rules before marked s
+      → Solved (of (has rules)) found.first found.second found.third
   unfolding Searched
-  found_solved a y x e h = rw e at h
+  found_solved found e h = rw e at h
 
   pub nothing_unsolved :
-      (marked last : ℕ) → s ≡ Nothing marked last → Searched of rules before s → Unsolved of (has rules) (has before)
-      (has marked)
+      s ≡ None → Searched of rules before marked s → Unsolved of (has rules) (has before) (has marked)
   unfolding Searched
-  nothing_unsolved marked last e h = rw e at h
+  nothing_unsolved e h = rw e at h
 
 -- A loop over the places of a set
 

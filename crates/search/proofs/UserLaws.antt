@@ -9,19 +9,21 @@ use lib.ListN.{length, get_or, set, length-set, get_or-eq_default}
 use lib.Seq.{get_or-set_same, get_or-set_other}
 use lib.Dec.{eqb, ltb}
 use lib.Bits.{bit_and}
-use borrow.Author.Tests.{eqb-true, eqb-false, ltb-true, lt-ltb}
+use borrow.Author.Tests.{eqb-true, eqb-false, ltb-true, ltb-false, lt-ltb}
+use Rattle.std.specs.List.{list_any}
+use Rattle.std.proofs.lemmas.List.{get_or_default}
+use Rattle.std.proofs.lemmas.List.Folds.{Any-from_list_any}
 use Rattle.book.specs.Sets.{has}
-use Rattle.book.proofs.Lists.{and_true, and_left, and_right, and_second, same_test}
+use Rattle.book.proofs.Lists.{and_true, and_right, same_test}
 use Rattle.book.proofs.Members.{has_zero, has_minus}
-use Rattle.verdicts.proofs.Marks.{Marks}
 use Rattle.search.specs.Inner.Closing.{Within}
 use Rattle.search.specs.Inner.Search.{covers_in, others_for, solves, solves_for, Settles, Searched, SearchedFor}
 use Rattle.search.specs.Inner.Search.{triple_before, AllSettle, NeedsFirst}
-use Rattle.search.specs.declared.searching.Sought.{Sought}
-use Rattle.search.specs.declared.searching.Sought.TheVariants.{Found, Nothing}
-use Rattle.search.specs.declared.users.Needs.TheVariants.{Nobody, User}
+use Rattle.std.specs.Prelude.{Option, Some, None}
+use Rattle.search.specs.declared.places.Places.{Places}
 use Rattle.search.proofs.Sieves.{both}
 use Rattle.search.proofs.Solutions.{fails, solves_fewer}
+use Rattle.search.specs.declared.tables.RuleTable.{RuleTable}
 
 -- The rules that cover a user
 
@@ -29,20 +31,18 @@ pub covers_past : (covered : List ℕ) (q u : ℕ) → length covered ≡ 32 →
 covers_past covered q u size past =
     sym (ap (λ (w : ℕ). has w u) (get_or-eq_default covered 0 (omega arith)) ∙ has_zero u)
 
-pub other_test :
-    (covered : List ℕ) (r u q : ℕ) (b : Bool)
-    → b ≡ covers_in covered q u
-    → (b && not (eqb q r)) ≡ others_for r covered u q
-unfolding others_for
-other_test covered r u q b e = rw e
-
-pub others_end :
-    (f : ℕ → Bool) (n word q : ℕ) → n ≡ 32 → Marks f n word → has word q ≡ (ltb q 32 && f q)
-others_end f n word q e marks =
-    marks q
-    ∙ rw e
-    (and_second (ltb q 64) (ltb q 32 && f q)
-    (λ h. lt-ltb q 64 (omega (arith, ltb-true q 32 (and_left (ltb q 32) (f q) h)))))
+-- a set of what passes below n, and of nothing from there on
+pub members_below :
+    (f : ℕ → Bool) (n word : ℕ)
+    → ((q : ℕ) → q < n → has word q ≡ f q)
+    → ((q : ℕ) → n ≤ q → has word q ≡ false)
+    → (q : ℕ)
+    → has word q ≡ (ltb q n && f q)
+members_below f n word below above q = go (ltb q n) refl
+  where
+    go : (b : Bool) → ltb q n ≡ b → has word q ≡ (b && f q)
+    go true e = below q (ltb-true q n e)
+    go false e = above q (ltb-false q n e)
 
 -- Masks
 
@@ -60,7 +60,24 @@ mask_within_law mask rules lm lr e q h =
     go true n = refl
     go false n = sym n
 
-module _ (t : List ℕ) (r n : ℕ) (had : List ℕ) where
+-- some mask of 32 has nothing outside the set
+pub some_mask_within :
+    (masks : List ℕ) (rules : ℕ)
+    → length masks ≡ 32
+    → ((i : ℕ) → get_or masks i 0 < 2 ^ 64)
+    → rules < 2 ^ 64
+    → list_any (λ m. eqb (bit_and m ((2 ^ 64 - 1) - rules)) 0) masks ≡ true
+    → (i : ℕ) × (i < 32) × Within (has (get_or masks i 0)) (has rules)
+some_mask_within masks rules size fits small e =
+    let some = Any-from_list_any (λ m. eqb (bit_and m ((2 ^ 64 - 1) - rules)) 0) masks e in
+    let at : get_or masks some.0 0 ≡ some.1 = get_or_default masks some.0 0 some.1 some.2 ∙ some.3 in
+    let word = get_or masks some.0 0 in (
+      some.0,
+      omega (arith, some.2, size),
+      mask_within_law word rules (fits some.0) small (rw at (eqb-true (bit_and some.1 ((2 ^ 64 - 1) - rules)) 0 some.4)),
+    )
+
+module _ (t : List RuleTable) (r n : ℕ) (had : List ℕ) where
   -- a mask with all bits
   pub unsettled : Settles t r n had 18446744073709551615
   unfolding has
@@ -113,16 +130,17 @@ module _ (t : List ℕ) (r n : ℕ) (had : List ℕ) where
           (settles (fails (has mask 63) (λ m. both (within 63 m) (others 63))) a y x))
 
       pub searched_for :
-          (s : Sought)
+          (marked : ℕ) (s : Option Places)
           → covers_in covered r u ≡ true
-          → Searched (solves t r n had) rules 0 s
-          → SearchedFor t r n had covered u s
+          → Searched (solves t r n had) rules 0 marked s
+          → SearchedFor t r n had covered u marked s
       unfolding Searched SearchedFor solves_for
-      searched_for (Found a y x) covers found =
+      searched_for marked (Some at) covers found =
           record {
             solution =
-                and_true (covers_in covered r u) (solves t r n had (others_for r covered u) a y x) covers
-                (there a y x found.solution);
+                and_true (covers_in covered r u)
+                (solves t r n had (others_for r covered u) at.first at.second at.third) covers
+                (there at.first at.second at.third found.solution);
             earliest = λ b z w h.
                 fails (solves_for t r n had covered u b z w)
                 (λ s.
@@ -130,7 +148,7 @@ module _ (t : List ℕ) (r n : ℕ) (had : List ℕ) where
                 s))
                 (found.earliest b z w h));
           }
-      searched_for (Nothing marked last) covers none =
+      searched_for marked None covers none =
           let settles : Settles t r n had marked = λ h. none.none in (
             λ a y x.
                 fails (solves_for t r n had covered u a y x)
@@ -144,22 +162,22 @@ module _ (t : List ℕ) (r n : ℕ) (had : List ℕ) where
 
   -- nothing to search for
   pub nothing_for :
-      (covered : List ℕ) (u last : ℕ)
+      (covered : List ℕ) (u : ℕ)
       → ((a y x : ℕ) → solves_for t r n had covered u a y x ≡ false)
-      → SearchedFor t r n had covered u (Nothing 18446744073709551615 last)
+      → SearchedFor t r n had covered u 18446744073709551615 None
   unfolding SearchedFor
-  nothing_for covered u last none = (none, unsettled)
+  nothing_for covered u none = (none, unsettled)
 
 -- One user after the other
 
 -- no user before u has a solution, and the masks say what they found
-pub record Users (t : List ℕ) (r n : ℕ) (had covered masks : List ℕ) (u : ℕ) : Type 0 where
+pub record Users (t : List RuleTable) (r n : ℕ) (had covered masks : List ℕ) (u : ℕ) : Type 0 where
   pub bound : u ≤ 32
   pub size : length masks ≡ 32
   pub settle : AllSettle t r n had masks
   pub none : (v a y x : ℕ) → v < u → solves_for t r n had covered v a y x ≡ false
 
-module _ (t : List ℕ) (r n : ℕ) (had covered : List ℕ) where
+module _ (t : List RuleTable) (r n : ℕ) (had covered : List ℕ) where
   pub users_none :
       (masks : List ℕ)
       → length masks ≡ 32
@@ -176,15 +194,15 @@ module _ (t : List ℕ) (r n : ℕ) (had covered : List ℕ) where
   module _
       (masks : List ℕ)
       (u : ℕ)
-      (s : Sought)
+      (marked : ℕ)
+      (s : Option Places)
       (small : u < 32)
       (old : Users t r n had covered masks u)
-      (searched : SearchedFor t r n had covered u s)
+      (searched : SearchedFor t r n had covered u marked s)
     where
-      pub users_more :
-          (marked last : ℕ) → s ≡ Nothing marked last → Users t r n had covered (set masks u marked) (u + 1)
+      pub users_more : s ≡ None → Users t r n had covered (set masks u marked) (u + 1)
       unfolding SearchedFor
-      users_more marked last e =
+      users_more e =
           let answer = rw e at searched in
           let size : length masks ≡ 32 = old.size in
           record {
@@ -219,12 +237,14 @@ module _ (t : List ℕ) (r n : ℕ) (had covered : List ℕ) where
               old.none v a y x (omega arith)
 
       pub users_found :
-          (a y x : ℕ) → s ≡ Found a y x → NeedsFirst triple_before t r n had covered (User u a y x)
+          (at : Places)
+          → s ≡ Some at
+          → NeedsFirst triple_before t r n had covered (Some (record { user = u; places = at }))
       unfolding SearchedFor NeedsFirst
-      users_found a y x e =
+      users_found at e =
           record { below = small; found = rw e at searched; users = λ v b z w l. old.none v b z w l }
 
   pub users_end :
-      (masks : List ℕ) (u : ℕ) → 32 ≤ u → Users t r n had covered masks u → NeedsFirst triple_before t r n had covered Nobody
+      (masks : List ℕ) (u : ℕ) → 32 ≤ u → Users t r n had covered masks u → NeedsFirst triple_before t r n had covered None
   unfolding NeedsFirst
   users_end masks u past old v a y x l = old.none v a y x (omega arith)

@@ -4,6 +4,7 @@ use Prim.Native.Nat.{ℕ, ◌-◌}
 use mathlib.Core.Path.{◌≡◌, refl, ◌∙◌}
 use mathlib.Core.List.{List, [], ◌∷◌, ◌++◌, map}
 use lib.ListN.{length, replicate}
+use Rattle.std.specs.Prelude.{Err}
 use Rattle.book.specs.Lists.{flat, all, any, up_to, from, keep}
 use Rattle.book.specs.Sets.{has, less}
 use Rattle.book.specs.Hierarchies.{upward_in, upward, under, leaf, covers, support_along, support}
@@ -13,7 +14,6 @@ use Rattle.book.specs.Blocks.{head_of, weighted, check_sum}
 use Rattle.book.specs.Tests.{first_failing, refused_or, answered}
 use Rattle.book.specs.Refusals.{BookAccepted, book_tests, seal_tests}
 use Rattle.book.specs.Answers.{with_check, seal_bytes}
-use Rattle.book.specs.Inner.Testing.{or_else}
 use Rattle.book.specs.Shop.{padded, block, users, categories, columns, functions, rule, rule0, rule1, rule2, shop}
 use Rattle.book.proofs.Answers.{first_append}
 use Rattle.book.proofs.Vectors.{shop_passes}
@@ -29,10 +29,10 @@ use Rattle.search.specs.Choices.{Candidate, choices_of, weight, choices_by_weigh
 use Rattle.search.specs.Shown.{lowest, column_for, function_for, column_row, apply_row, last_row, rows_of, access_rows}
 use Rattle.search.specs.Shown.{shown_from, shown_plan}
 use Rattle.search.specs.Alone.{First, none, shown, breaks_alone, plan_breaks_alone, candidate_alone, first_in, first_alone}
-use Rattle.search.specs.Answers.{rule_tests, buffer_tests, idle_tests, idleness_of, idle_answer, written, idle_buffer}
-use Rattle.search.specs.declared.Idleness.{Idleness}
+use Rattle.search.specs.Answers.{rule_tests, buffer_tests, idle_tests, Idleness, idle, needed, idleness_of, idle_answer}
+use Rattle.search.specs.Answers.{written, idle_buffer}
 use Rattle.search.proofs.Unaffected.{first_in_turn}
-use Rattle.search.specs.declared.Idleness.TheVariants as idleness
+use Rattle.book.specs.declared.refusal.Refusal.TheVariants.{NoRule, BufferLength}
 
 -- Books near the small shop, with two other rules
 
@@ -94,7 +94,7 @@ ones n = replicate n 1
 unfoldable outcome : List ℕ → ℕ → List ℕ → Idleness × List ℕ
 outcome book r buffer =
     let tests = rule_tests book r ++ buffer_tests buffer in (
-      answered tests idleness.Refused (idleness_of (head_of book) (first_alone book r)),
+      answered tests Err (idleness_of (head_of book) (first_alone book r)),
       answered tests (λ refusal. buffer) (written (head_of book) (first_alone book r) buffer),
     )
 
@@ -102,7 +102,7 @@ after_check :
     (book : List ℕ) (r : ℕ) (buffer : List ℕ)
     → BookAccepted book
     → ◌≡◌ {A = Idleness × List ℕ} (idle_answer book r buffer, idle_buffer book r buffer) (outcome book r buffer)
-unfolding idle_answer idle_buffer idle_tests answered or_else outcome
+unfolding idle_answer idle_buffer idle_tests answered outcome
 after_check book r buffer accepted =
     rw (
       first_append (book_tests book ++ rule_tests book r) (buffer_tests buffer),
@@ -118,16 +118,16 @@ map_same f g (x ∷ l) h = rw (h x, map_same f g l h)
 -- the rule, the buffer's length, what is answered, and the bytes that are written
 unfoldable pub cases : List (ℕ × ℕ × Idleness × List ℕ)
 cases =
-    (0, 40, idleness.Idle, [])
-    ∷ (1, 40, idleness.Needed 1 2, 1 ∷ 2 ∷ 0 ∷ 0 ∷ 4 ∷ 0 ∷ 0 ∷ 0 ∷ [])
-    ∷ (2, 40, idleness.Idle, [])
+    (0, 40, idle, [])
+    ∷ (1, 40, needed 1 2, 1 ∷ 2 ∷ 0 ∷ 0 ∷ 4 ∷ 0 ∷ 0 ∷ 0 ∷ [])
+    ∷ (2, 40, idle, [])
     -- 24: "no such rule"
-    ∷ (3, 40, idleness.Refused (record { number = 24; place = 0 }), [])
+    ∷ (3, 40, Err NoRule, [])
     -- 25: "buffer under 36 bytes"
-    ∷ (1, 36, idleness.Needed 1 2, 1 ∷ 2 ∷ 0 ∷ 0 ∷ 4 ∷ 0 ∷ 0 ∷ 0 ∷ [])
-    ∷ (1, 35, idleness.Refused (record { number = 25; place = 0 }), [])
+    ∷ (1, 36, needed 1 2, 1 ∷ 2 ∷ 0 ∷ 0 ∷ 4 ∷ 0 ∷ 0 ∷ 0 ∷ [])
+    ∷ (1, 35, Err BufferLength, [])
     -- 24 comes first
-    ∷ (3, 35, idleness.Refused (record { number = 24; place = 0 }), [])
+    ∷ (3, 35, Err NoRule, [])
     ∷ []
 
 shop_outcomes :

@@ -4,7 +4,7 @@ use Prim.Native.Nat.{ℕ, ◌+◌, ◌-◌, ◌*◌, ◌/◌, ◌%◌, ◌^◌, 
 use native.Mathlib.Omega.{arith}
 use mathlib.Core.Path.{◌≡◌, refl, sym, ap, ◌∙◌}
 use mathlib.Core.Logic.{⊎_elim}
-use mathlib.Core.Bool.{Bool, true, false, ◌&&◌, ◌||◌, not, cond}
+use mathlib.Core.Bool.{Bool, true, false, ◌&&◌, ◌||◌, not, cond, false≢true}
 use mathlib.Core.List.{List}
 use lib.ListN.{length}
 use lib.Dec.{eqb, ltb}
@@ -15,17 +15,15 @@ use Rattle.book.proofs.Lists.{and_true, and_both, and_end, and_false, and_left, 
 use Rattle.book.proofs.Lists.{or_right, or_true, all_at, ltb_more, same_test}
 use Rattle.book.proofs.Members.{has_not, has_zero}
 use Rattle.search.specs.Inner.Places.{in_places, PlacesOf}
-use Rattle.search.specs.Inner.Search.{Earliest, NeedsFirst, NeedsUser, Possible, Searched, Solved, covers_in}
+use Rattle.search.specs.Inner.Search.{Earliest, NeedsFirst, NeedsUser, Possible, Searched, covers_in}
 use Rattle.search.specs.Inner.Search.{others_for, refuses, solves, solves_for, solves_in, triple_before}
 use Rattle.search.specs.Inner.Weight.{functions_at, weight_at, lighter_places, pattern_at, pattern_weight, solves_among}
 use Rattle.search.specs.Inner.Weight.{PartOf, SetsFor, FirstOf, LightestOf}
-use Rattle.search.specs.declared.sifting.Remaining.{Remaining}
-use Rattle.search.specs.declared.searching.Sought.{Sought}
-use Rattle.search.specs.declared.searching.Sought.TheVariants.{Found, Nothing}
-use Rattle.search.specs.declared.users.Needs.{Needs}
-use Rattle.search.specs.declared.users.Needs.TheVariants.{Nobody, User}
-use Rattle.search.specs.declared.weighing.FirstPlaces.{FirstPlaces}
-use Rattle.search.specs.declared.weighing.FirstPlaces.TheVariants.{NoPlaces, At}
+use Rattle.search.specs.Inner.Closing.{Remaining}
+use Rattle.std.specs.Prelude.{Option, Some, None}
+use Rattle.std.specs.Option.{is_some, unwrap_or}
+use Rattle.search.specs.declared.places.Places.{Places}
+use Rattle.search.specs.declared.users.Witness.{Witness}
 use Rattle.search.specs.declared.weighing.Sets.{Sets}
 use Rattle.search.proofs.Sieves.{both}
 use Rattle.search.proofs.Solutions.{drop_in, fails, found_solved, nothing_unsolved, place_below}
@@ -33,6 +31,7 @@ use Rattle.search.proofs.Solutions.{triple_after, triple_until}
 use Rattle.search.proofs.SearchSteps.{in_lessen}
 use Rattle.search.proofs.Candidates.{solves_back, solves_there, solves_within}
 use Rattle.search.proofs.UserLaws.{solves_for_law}
+use Rattle.search.specs.declared.tables.RuleTable.{RuleTable}
 
 -- Functions of places
 
@@ -149,18 +148,18 @@ raw_only p =
 
 module _ (p q : ℕ → ℕ → ℕ → Bool) (same : (a y x : ℕ) → p a y x ≡ q a y x) where
   -- tests that agree have one answer
-  pub first_same : (f : FirstPlaces) → FirstOf p f → FirstOf q f
+  pub first_same : (f : Option Places) → FirstOf p f → FirstOf q f
   unfolding FirstOf
-  first_same NoPlaces h = λ a y x. sym (same a y x) ∙ h a y x
-  first_same (At a y x) h =
+  first_same None h = λ a y x. sym (same a y x) ∙ h a y x
+  first_same (Some p) h =
       record {
-        solution = sym (same a y x) ∙ h.solution;
+        solution = sym (same p.first p.second p.third) ∙ h.solution;
         earliest = λ b z w e. sym (same b z w) ∙ h.earliest b z w e;
       }
 
 -- The same places in sets and in their parts
 
-module _ (t : List ℕ) (r n k : ℕ) (few : k ≤ 7) (sets : Sets) (firsts seconds thirds : List ℕ)
+module _ (t : List RuleTable) (r n k : ℕ) (few : k ≤ 7) (sets : Sets) (firsts seconds thirds : List ℕ)
     (of_firsts : PartOf sets.firsts (k / 4) firsts)
     (of_seconds : PartOf sets.seconds (k / 2) seconds)
     (of_thirds : PartOf sets.thirds k thirds) where
@@ -187,60 +186,63 @@ module _ (t : List ℕ) (r n k : ℕ) (few : k ≤ 7) (sets : Sets) (firsts seco
       (refuses t r n a y x && not (any (λ q. has rules q && drop_in t a y x q) (up_to 32))))
 
   -- what the search in the parts says
-  module _ (rules : ℕ) (s : Sought) (searched : Searched (solves_in t r n firsts seconds thirds) rules 0 s) where
-    pub pattern_found :
-        (a y x : ℕ)
-        → s ≡ Found a y x
-        → FirstOf (λ b z w. solves_among t r n rules sets b z w && eqb (pattern_at b z w) k) (At a y x)
-    unfolding FirstOf
-    pattern_found a y x e =
-        first_same (solves_in t r n firsts seconds thirds (has rules))
-        (λ b z w. solves_among t r n rules sets b z w && eqb (pattern_at b z w) k) (solves_pattern rules) (At a y x)
-        (found_solved (solves_in t r n firsts seconds thirds) rules 0 s a y x e searched)
-
-    pub pattern_nothing :
-        (marked last : ℕ)
-        → s ≡ Nothing marked last
-        → FirstOf (λ b z w. solves_among t r n rules sets b z w && eqb (pattern_at b z w) k) NoPlaces
-    unfolding FirstOf
-    pattern_nothing marked last e a y x =
-        let none = nothing_unsolved (solves_in t r n firsts seconds thirds) rules 0 s marked last e searched in
-        sym (solves_pattern rules a y x)
-        ∙ fails (solves_in t r n firsts seconds thirds (has rules) a y x)
-        (λ h.
-        both
-        (in_lessen t r n firsts seconds thirds (has marked) (has rules) (λ q m. none.only q m (has_zero q)) a y x h)
-        (none.none a y x))
+  pub pattern_answers :
+      (rules marked : ℕ) (s : Option Places)
+      → Searched (solves_in t r n firsts seconds thirds) rules 0 marked s
+      → FirstOf (λ b z w. solves_among t r n rules sets b z w && eqb (pattern_at b z w) k) s
+  unfolding FirstOf
+  pattern_answers rules marked (Some at) searched =
+      first_same (solves_in t r n firsts seconds thirds (has rules))
+      (λ b z w. solves_among t r n rules sets b z w && eqb (pattern_at b z w) k) (solves_pattern rules) (Some at)
+      (found_solved (solves_in t r n firsts seconds thirds) rules 0 marked (Some at) at refl searched)
+  pattern_answers rules marked None searched = λ a y x.
+      let none = nothing_unsolved (solves_in t r n firsts seconds thirds) rules 0 marked None refl searched in
+      sym (solves_pattern rules a y x)
+      ∙ fails (solves_in t r n firsts seconds thirds (has rules) a y x)
+      (λ h.
+      both
+      (in_lessen t r n firsts seconds thirds (has marked) (has rules) (λ q m. none.only q m (has_zero q)) a y x h)
+      (none.none a y x))
 
 -- The earlier of two
 
 module _ (p q : ℕ → ℕ → ℕ → Bool) where
-  pub earlier_other : (f : FirstPlaces) → FirstOf p NoPlaces → FirstOf q f → FirstOf (λ a y x. p a y x || q a y x) f
+  pub earlier_other : (f : Option Places) → FirstOf p None → FirstOf q f → FirstOf (λ a y x. p a y x || q a y x) f
   unfolding FirstOf
   earlier_other f none = first_same q (λ a y x. p a y x || q a y x) (λ a y x. rw (none a y x)) f
 
-  pub earlier_one : (f : FirstPlaces) → FirstOf p f → FirstOf q NoPlaces → FirstOf (λ a y x. p a y x || q a y x) f
+  pub earlier_one : (f : Option Places) → FirstOf p f → FirstOf q None → FirstOf (λ a y x. p a y x || q a y x) f
   unfolding FirstOf
   earlier_one f h none =
       first_same p (λ a y x. p a y x || q a y x) (λ a y x. rw (none a y x) (sym (or_end (p a y x)))) f h
 
-  module _ (a y x b z w : ℕ) (one : Solved p a y x) (other : Solved q b z w) where
+  module _ (a b : Places) where
     pub earlier_second :
-        triple_before b z w a y x ≡ true → Solved (λ a y x. p a y x || q a y x) b z w
-    earlier_second before =
+        triple_before b.first b.second b.third a.first a.second a.third ≡ true
+        → FirstOf p (Some a)
+        → FirstOf q (Some b)
+        → FirstOf (λ a y x. p a y x || q a y x) (Some b)
+    unfolding FirstOf
+    earlier_second before one other =
         record {
-          solution = or_right (p b z w) (q b z w) other.solution;
+          solution = or_right (p b.first b.second b.third) (q b.first b.second b.third) other.solution;
           earliest = λ c v u e.
-              rw (one.earliest c v u (triple_after c v u b z w a y x e before)) (other.earliest c v u e);
+              rw (one.earliest c v u (triple_after c v u b.first b.second b.third a.first a.second a.third e before))
+              (other.earliest c v u e);
         }
 
     pub earlier_first :
-        triple_before b z w a y x ≡ false → Solved (λ a y x. p a y x || q a y x) a y x
-    earlier_first after =
+        triple_before b.first b.second b.third a.first a.second a.third ≡ false
+        → FirstOf p (Some a)
+        → FirstOf q (Some b)
+        → FirstOf (λ a y x. p a y x || q a y x) (Some a)
+    unfolding FirstOf
+    earlier_first after one other =
         record {
-          solution = or_left (p a y x) (q a y x) one.solution;
+          solution = or_left (p a.first a.second a.third) (q a.first a.second a.third) one.solution;
           earliest = λ c v u e.
-              rw (one.earliest c v u e) (other.earliest c v u (triple_until c v u a y x b z w e after));
+              rw (one.earliest c v u e)
+              (other.earliest c v u (triple_until c v u a.first a.second a.third b.first b.second b.third e after));
         }
 
 -- Pattern by pattern
@@ -250,7 +252,7 @@ module _ (test : ℕ → ℕ → ℕ → Bool) (weight : ℕ) where
   abbrev pub weighed : ℕ → ℕ → ℕ → ℕ → Bool
   weighed k a y x = test a y x && (ltb (pattern_at a y x) k && eqb (weight_at a y x) weight)
 
-  pub weighed_none : FirstOf (weighed 0) NoPlaces
+  pub weighed_none : FirstOf (weighed 0) None
   unfolding FirstOf
   weighed_none a y x =
       fails (weighed 0 a y x)
@@ -261,7 +263,7 @@ module _ (test : ℕ → ℕ → ℕ → Bool) (weight : ℕ) where
 
   -- a pattern with another number of functions
   pub weighed_skip :
-      (k : ℕ) (f : FirstPlaces) → (pattern_weight k ≡ weight → ⊥) → FirstOf (weighed k) f → FirstOf (weighed (k + 1)) f
+      (k : ℕ) (f : Option Places) → (pattern_weight k ≡ weight → ⊥) → FirstOf (weighed k) f → FirstOf (weighed (k + 1)) f
   weighed_skip k f other = first_same (weighed k) (weighed (k + 1)) same f
     where
       same : (a y x : ℕ) → weighed k a y x ≡ weighed (k + 1) a y x
@@ -279,7 +281,7 @@ module _ (test : ℕ → ℕ → ℕ → Bool) (weight : ℕ) where
 
   -- one with as many
   pub weighed_more :
-      (k : ℕ) (f : FirstPlaces)
+      (k : ℕ) (f : Option Places)
       → pattern_weight k ≡ weight
       → FirstOf (λ a y x. weighed k a y x || (test a y x && eqb (pattern_at a y x) k)) f
       → FirstOf (weighed (k + 1)) f
@@ -317,7 +319,7 @@ module _ (test : ℕ → ℕ → ℕ → Bool) (weight : ℕ) where
               )
 
   pub weighed_all :
-      (k : ℕ) (f : FirstPlaces)
+      (k : ℕ) (f : Option Places)
       → 8 ≤ k
       → FirstOf (weighed k) f
       → FirstOf (λ a y x. test a y x && eqb (weight_at a y x) weight) f
@@ -328,24 +330,26 @@ module _ (test : ℕ → ℕ → ℕ → Bool) (weight : ℕ) where
 -- Weight by weight
 
 module _ (test : ℕ → ℕ → ℕ → Bool) where
-  pub lightest_none : LightestOf test 0 NoPlaces
+  pub lightest_none : LightestOf test 0 None
   unfolding LightestOf
   lightest_none a y x l = absurd (omega arith)
 
   -- none has as many functions
   pub lightest_more :
-      (weight : ℕ)
-      → FirstOf (λ a y x. test a y x && eqb (weight_at a y x) weight) NoPlaces
-      → LightestOf test weight NoPlaces
-      → LightestOf test (weight + 1) NoPlaces
+      (weight : ℕ) (found : Option Places)
+      → is_some found ≡ false
+      → FirstOf (λ a y x. test a y x && eqb (weight_at a y x) weight) found
+      → LightestOf test weight None
+      → LightestOf test (weight + 1) None
   unfolding LightestOf FirstOf
-  lightest_more weight none old a y x l = go (eqb (weight_at a y x) weight) refl
+  lightest_more weight (Some p) e none old = absurd (false≢true (sym e))
+  lightest_more weight None h none old = λ a y x l. go a y x l (eqb (weight_at a y x) weight) refl
     where
-      go : (b : Bool) → eqb (weight_at a y x) weight ≡ b → test a y x ≡ false
-      go true e =
+      go : (a y x : ℕ) → weight_at a y x < weight + 1 → (b : Bool) → eqb (weight_at a y x) weight ≡ b → test a y x ≡ false
+      go a y x l true e =
           fails (test a y x)
           (λ h. both (and_true (test a y x) (eqb (weight_at a y x) weight) h e) (none a y x))
-      go false e =
+      go a y x l false e =
           let n = eqb-false (weight_at a y x) weight e in
           old a y x (omega arith)
 
@@ -355,7 +359,7 @@ module _ (test : ℕ → ℕ → ℕ → Bool) where
       → test a y x ≡ true
       → weight_at a y x ≡ weight
       → ((b z w : ℕ) → triple_before b z w a y x ≡ true → weight_at b z w ≡ weight → test b z w ≡ false)
-      → LightestOf test weight NoPlaces
+      → LightestOf test weight None
       → Earliest lighter_places test a y x
   unfolding LightestOf lighter_places
   light_first weight a y x here e first none =
@@ -375,14 +379,19 @@ module _ (test : ℕ → ℕ → ℕ → Bool) where
 
   -- some have, and none has fewer
   pub lightest_found :
-      (weight a y x : ℕ)
-      → FirstOf (λ a y x. test a y x && eqb (weight_at a y x) weight) (At a y x)
-      → LightestOf test weight NoPlaces
-      → Earliest lighter_places test a y x
+      (weight most : ℕ) (found : Option Places)
+      → is_some found ≡ true
+      → FirstOf (λ a y x. test a y x && eqb (weight_at a y x) weight) found
+      → LightestOf test weight None
+      → LightestOf test most found
   unfolding LightestOf FirstOf
-  lightest_found weight a y x first none =
-      let p = and_both (test a y x) (eqb (weight_at a y x) weight) first.solution in
-      light_first weight a y x p.0 (eqb-true (weight_at a y x) weight p.1)
+  lightest_found weight most None e first none = absurd (false≢true e)
+  lightest_found weight most (Some p) e first none =
+      let a = p.first in
+      let y = p.second in
+      let x = p.third in
+      let h = and_both (test a y x) (eqb (weight_at a y x) weight) first.solution in
+      light_first weight a y x h.0 (eqb-true (weight_at a y x) weight h.1)
       (λ b z w e q.
       fails (test b z w)
       (λ h.
@@ -394,7 +403,7 @@ module _ (test : ℕ → ℕ → ℕ → Bool) where
 
 -- what is left when each lost what breaks a rule by itself
 pub sets_for :
-    (t : List ℕ) (r n : ℕ) (had : List ℕ) (rules : ℕ) (first second third : Remaining) (sets : Sets)
+    (t : List RuleTable) (r n : ℕ) (had : List ℕ) (rules : ℕ) (first second third : Remaining) (sets : Sets)
     → Possible t r n had rules 0 0 first
     → Possible t r n had rules 1 first.rules second
     → Possible t r n had rules 2 second.rules third
@@ -417,61 +426,70 @@ sets_for t r n had rules first second third sets one two three la lb lc ea eb ec
 -- The lightest for the user that was found
 
 pub nobody_lighter :
-    (t : List ℕ) (r n : ℕ) (had covered : List ℕ) (found : Needs)
-    → found ≡ Nobody
+    (t : List RuleTable) (r n : ℕ) (had covered : List ℕ) (found : Option Witness)
+    → found ≡ None
     → NeedsFirst triple_before t r n had covered found
-    → NeedsFirst lighter_places t r n had covered found
+    → NeedsFirst lighter_places t r n had covered None
 unfolding NeedsFirst
-nobody_lighter t r n had covered found e h = rw e (rw e at h)
+nobody_lighter t r n had covered found e h = rw e at h
 
-module _ (t : List ℕ) (r n : ℕ) (had covered : List ℕ) (found : Needs) (u a y x : ℕ) (e : found ≡ User u a y x)
-    (needs : NeedsFirst triple_before t r n had covered found) where
-  user_needs : NeedsUser triple_before t r n had covered u a y x
-  unfolding NeedsFirst
-  user_needs = rw e at needs
+module _
+    (t : List RuleTable)
+    (r n : ℕ)
+    (had covered : List ℕ)
+    (found : Option Witness)
+    (w : Witness)
+    (e : found ≡ Some w)
+    (needs : NeedsFirst triple_before t r n had covered found)
+  where
+    abbrev places : Places
+    places = w.places
 
-  -- none is lighter
-  pub fewest_kept :
-      LightestOf (solves_for t r n had covered u) (weight_at a y x) NoPlaces
-      → NeedsFirst lighter_places t r n had covered (User u a y x)
-  unfolding NeedsFirst
-  fewest_kept none =
-      let found = user_needs.found in
-      record {
-        below = user_needs.below;
-        found =
-            light_first (solves_for t r n had covered u) (weight_at a y x) a y x found.solution refl
-            (λ b z w before equal. found.earliest b z w before) none;
-        users = user_needs.users;
-      }
+    abbrev weight : ℕ
+    weight = weight_at places.first places.second places.third
 
-  module _ (rules : ℕ) (others : (q : ℕ) → has rules q ≡ (ltb q 32 && others_for r covered u q)) (sets : Sets)
-      (of : SetsFor t r n had rules sets) (lighter : FirstPlaces)
-      (lightest : LightestOf (solves_among t r n rules sets) (weight_at a y x) lighter) where
-    same_for : (b z w : ℕ) → solves_among t r n rules sets b z w ≡ solves_for t r n had covered u b z w
-    unfolding solves_for
-    same_for b z w =
-        let covers =
-        and_left (covers_in covered r u) (solves t r n had (others_for r covered u) a y x) user_needs.found.solution in
-        sym (of b z w) ∙ solves_for_law t r n had covered u rules others covers b z w
+    user_needs : NeedsUser triple_before t r n had covered w.user places.first places.second places.third
+    unfolding NeedsFirst
+    user_needs = rw e at needs
 
-    pub fewest_none : lighter ≡ NoPlaces → NeedsFirst lighter_places t r n had covered (User u a y x)
-    unfolding LightestOf
-    fewest_none none =
-        let least = rw none at lightest in
-        fewest_kept (λ b z w l. sym (same_for b z w) ∙ least b z w l)
-
-    pub fewest_found :
-        (b z w : ℕ) → lighter ≡ At b z w → NeedsFirst lighter_places t r n had covered (User u b z w)
-    unfolding NeedsFirst LightestOf
-    fewest_found b z w some =
-        let light = rw some at lightest in
+    -- none is lighter
+    pub fewest_kept :
+        LightestOf (solves_for t r n had covered w.user) weight None → NeedsFirst lighter_places t r n had covered (Some w)
+    unfolding NeedsFirst
+    fewest_kept none =
+        let found = user_needs.found in
         record {
           below = user_needs.below;
           found =
-              record {
-                solution = sym (same_for b z w) ∙ light.solution;
-                earliest = λ c v i before. sym (same_for c v i) ∙ light.earliest c v i before;
-              };
+              light_first (solves_for t r n had covered w.user) weight places.first places.second places.third
+              found.solution refl (λ b z v before equal. found.earliest b z v before) none;
           users = user_needs.users;
         }
+
+    module _ (rules : ℕ) (others : (q : ℕ) → has rules q ≡ (ltb q 32 && others_for r covered w.user q)) (sets : Sets)
+        (of : SetsFor t r n had rules sets) where
+      same_for : (b z v : ℕ) → solves_among t r n rules sets b z v ≡ solves_for t r n had covered w.user b z v
+      unfolding solves_for
+      same_for b z v =
+          let covers =
+          and_left (covers_in covered r w.user)
+          (solves t r n had (others_for r covered w.user) places.first places.second places.third)
+          user_needs.found.solution in
+          sym (of b z v) ∙ solves_for_law t r n had covered w.user rules others covers b z v
+
+      pub fewest_found :
+          (lighter : Option Places)
+          → LightestOf (solves_among t r n rules sets) weight lighter
+          → NeedsFirst lighter_places t r n had covered (Some (record { user = w.user; places = unwrap_or lighter places }))
+      unfolding NeedsFirst LightestOf
+      fewest_found None least = fewest_kept (λ b z v l. sym (same_for b z v) ∙ least b z v l)
+      fewest_found (Some p) light =
+          record {
+            below = user_needs.below;
+            found =
+                record {
+                  solution = sym (same_for p.first p.second p.third) ∙ light.solution;
+                  earliest = λ c v i before. sym (same_for c v i) ∙ light.earliest c v i before;
+                };
+            users = user_needs.users;
+          }

@@ -7,13 +7,11 @@ use Rattle.book.specs.Refusals.{BookAccepted}
 use Rattle.lineage.specs.Rows.{Plan}
 use Rattle.lineage.specs.Answers.{PlanAccepted}
 use Rattle.verdicts.specs.Accesses.{Access}
-use Rattle.verdicts.specs.Answers.{judge_answer}
-use Rattle.verdicts.specs.declared.Judged.TheVariants.{Broken}
+use Rattle.verdicts.specs.Answers.{broken, judge_answer}
 use Rattle.search.specs.Choices.{is_choice, candidate_before}
 use Rattle.search.specs.Shown.{shown_plan}
 use Rattle.search.specs.Alone.{plan_breaks_alone}
-use Rattle.search.specs.declared.Idleness.{Idleness}
-use Rattle.search.specs.declared.Idleness.TheVariants.{Idle, Needed}
+use Rattle.search.specs.Answers.{Idleness, idle, needed}
 
 -- what Idle has to be given: an accepted book, a rule of it, a buffer of 36 bytes or more
 pub record IdleAccepted (book : Book) (r : ℕ) (buffer : List ℕ) : Type 0 where
@@ -59,7 +57,7 @@ pub record ShownFirst (book : Book) (r user : ℕ) (plan : Plan) : Type 0 where
       → plan_breaks_alone book r other later ≡ true
       → ((other ≡ user) × (later ≡ plan)) ⊎ Before (head_of book) (rule_at book r) user plan form other later form'
   -- "Judge [..] then accepts, and its mask is 2 to the power r"
-  pub judged : judge_answer book user plan ≡ Broken (2 ^ r)
+  pub judged : judge_answer book user plan ≡ broken (2 ^ r)
 
 -- the answer when a user and a plan are shown: at most nine rows at the buffer's front, "and the rest unchanged"
 pub record ShownIn (book : Book) (r : ℕ) (before after : List ℕ) (user rows : ℕ) : Type 0 where
@@ -70,8 +68,8 @@ pub record ShownIn (book : Book) (r : ℕ) (before after : List ℕ) (user rows 
 
 pub record Demand3 (book : Book) (r : ℕ) (before after : List ℕ) (answer : Idleness) : Type 0 where
   -- "Idle is answered exactly when no user and accepted plan of 0 to 64 rows break r alone"
-  pub idle_nobody : answer ≡ Idle → NobodyAlone book r
-  pub nobody_idle : NobodyAlone book r → answer ≡ Idle
-  pub idle_keeps : answer ≡ Idle → after ≡ before
+  pub idle_nobody : answer ≡ idle → NobodyAlone book r
+  pub nobody_idle : NobodyAlone book r → answer ≡ idle
+  pub idle_keeps : answer ≡ idle → after ≡ before
   pub otherwise :
-      (answer ≡ Idle → ⊥) → (user rows : ℕ) × (answer ≡ Needed user rows) × ShownIn book r before after user rows
+      (answer ≡ idle → ⊥) → (user rows : ℕ) × (answer ≡ needed user rows) × ShownIn book r before after user rows

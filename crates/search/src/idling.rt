@@ -1,95 +1,76 @@
-// Idle: whether a rule is idle, or the first user and plan that break it alone.
-ghost use Rattle.std.specs.Prelude.{◌≡◌, ◌<◌};
-ghost use Rattle.book.specs.Blocks.{head_of, rule_count};
+//! Idle: whether a rule is idle, or the first user and plan that break it alone.
+ghost use Rattle.std.specs.Prelude.{◌≡◌, ◌≤◌, ◌<◌, length, Ok};
+ghost use Rattle.book.specs.Blocks.{rule_count};
 ghost use Rattle.book.specs.Tests.{first_failing};
-ghost use Rattle.book.specs.Refusals.{BookAccepted};
-ghost use Rattle.book.specs.Inner.Words.{HeadWords};
-ghost use Rattle.search.specs.Answers.{idle_answer, idle_buffer, idle_tests, rule_tests};
+ghost use Rattle.search.specs.Answers.{idle_answer, idle_buffer, rule_tests};
 ghost use Rattle.search.specs.Demand.{Demand3, IdleAccepted};
-ghost use Rattle.search.specs.Inner.First.{FirstNeeds, ShownAs};
+ghost use Rattle.search.specs.Inner.First.{FirstNeeds, answer_of, buffer_of};
 
+use crate::Shown;
 use crate::obtaining::obtainable;
 use crate::showing::{row_count, shown_plan, write_plan};
-use crate::tables::{covered_by, fill_table};
-use crate::users::{Needs, first_user};
+use crate::tables::{NO_TABLE, Question, covered_by, fill_table};
+use crate::users::{Witness, first_user};
 use crate::weighing::fewest;
-use crate::{BUFFER_LENGTH, Idleness, NO_RULE};
-use book::Tested;
-use book::bytes::saturating_sub;
-use book::checking::test_book;
-use book::fields::{head_of, reference_count, rule_at, rule_count};
-use book::testing::{or_else, test};
-use book::words::head_words;
+use book::fields::reference_count;
+use book::testing::ensure;
+use book::{Book, Refusal};
 
-// The test 24.
-pub fn test_rule(book: &[u8], rule: u32) -> Tested
+/// The test 24.
+#[tactic(auto, unfolding(crate::specs::Answers::rule_tests))]
+pub fn test_rule(book: &[u8], rule: u32) -> Result<(), Refusal>
     ensures { result ≡ first_failing (rule_tests book.now rule) }
 {
-    let n = saturating_sub(book.len() / 512, 4);
-    test(NO_RULE, 0, (rule as usize) < n)
+    let n = (book.len() / 512).saturating_sub(4);
+    // `as`: `usize` has no `From<u32>`.
+    ensure((rule as usize) < n, Refusal::NoRule)
 }
 
-// The tests of the book, of the rule, of the buffer.
-fn test_idle(book: &[u8], head: &[u64], rule: u32, buffer: &[u8]) -> Tested
-    ensures { HeadWords (head_of book.now) head.now
-        → result ≡ first_failing (idle_tests book.now rule buffer.now) }
+/// The first user and choice that break a rule alone.
+fn needs(book: &Book, rule: u8) -> Option<Witness>
+    ensures { rule < rule_count book.now.bytes.now → FirstNeeds book.now.bytes.now rule result }
 {
-    let both = or_else(test_book(book, head), test_rule(book, rule));
-    or_else(both, test(BUFFER_LENGTH, 0, 36 <= buffer.len()))
+    let mut tables = [NO_TABLE; 32];
+    fill_table(&mut tables, book);
+    // A count is a byte: the check proves that `as u8` fits.
+    let ask = Question {
+        tables: &tables,
+        rule,
+        references: reference_count(book.rule(rule)) as u8,
+    };
+    let had = obtainable(book.head());
+    let covered = covered_by(book);
+    let found = first_user(&ask, had, &covered);
+    fewest(&ask, had, &covered, found)
 }
 
-// The first user and choice that break a rule of an accepted book alone.
-fn needs(book: &[u8], head: &[u64], rule: u8) -> Needs
-    ensures { HeadWords (head_of book.now) head.now → BookAccepted book.now
-        → rule < rule_count book.now → FirstNeeds book.now rule result }
+/// What Idle says of what was found, with the plan in the buffer.
+fn shown(head: &[u8], found: Option<Witness>, buffer: &mut [u8]) -> Option<Shown>
+    ensures answer { Ok result ≡ answer_of head.now found }
+    ensures buffer { 36 ≤ length buffer.old → buffer.new ≡ buffer_of head.now found buffer.old }
 {
-    let n = rule_count(book);
-    let mut t = [0u64; 4096];
-    fill_table(&mut t, book, head, n);
-    let references = reference_count(rule_at(book, rule)) as u8;
-    let had = obtainable(head_of(book));
-    let covered = covered_by(book, head, n);
-    let found = first_user(&t, rule, references, had, covered);
-    fewest(&t, rule, references, had, covered, found)
+    let Witness { user, places } = found?;
+    let rows = row_count(places);
+    write_plan(buffer, &shown_plan(head, places), 4 * rows);
+    // At most 9 rows: the cast is proved to fit, and `try_from` would be a branch.
+    Some(Shown {
+        user: u32::from(user),
+        rows: rows as u32,
+    })
 }
 
-// The answer for what was found, with the plan in the buffer.
-fn shown(head: &[u8], found: Needs, buffer: &mut [u8]) -> Idleness
-    ensures { ShownAs head.now found buffer.old buffer.new result }
+/// Idle: whether no user and accepted plan break the rule alone; otherwise the first user and plan
+/// that do, the plan at the buffer's front. A refusal leaves the buffer as it was.
+pub fn idle(book: &[u8], rule: u32, buffer: &mut [u8]) -> Result<Option<Shown>, Refusal>
+    ensures answer { result ≡ idle_answer book.now rule buffer.old }
+    ensures buffer { buffer.new ≡ idle_buffer book.now rule buffer.old }
+    ensures demand { IdleAccepted book.now rule buffer.old
+        → Demand3 book.now rule buffer.old buffer.new result }
 {
-    match found {
-        Needs::Nobody => Idleness::Idle,
-        Needs::User {
-            user,
-            first,
-            second,
-            third,
-        } => {
-            let rows = row_count(first, second, third);
-            write_plan(buffer, shown_plan(head, first, second, third), 4 * rows);
-            Idleness::Needed {
-                user: user as u32,
-                rows: rows as u32,
-            }
-        }
-    }
-}
-
-// Idle: whether no user and accepted plan break the rule alone; otherwise the first user and plan
-// that do, the plan at the buffer's front. A refusal leaves the buffer as it was.
-pub fn idle(book: &[u8], rule: u32, buffer: &mut [u8]) -> Idleness
-    ensures { (result ≡ idle_answer book.now rule buffer.old)
-        × (buffer.new ≡ idle_buffer book.now rule buffer.old)
-        × (IdleAccepted book.now rule buffer.old
-        → Demand3 book.now rule buffer.old buffer.new result) }
-{
-    let head = head_words(head_of(book));
-    let outcome = test_idle(book, &head, rule, buffer);
-    match outcome {
-        Tested::Refused(refusal) => Idleness::Refused(refusal),
-        Tested::Passed => {
-            let found = needs(book, &head, (rule % 256) as u8);
-            shown(head_of(book), found, buffer)
-        }
-    }
+    let book = Book::new(book)?;
+    test_rule(book.bytes, rule)?;
+    ensure(36 <= buffer.len(), Refusal::BufferLength)?;
+    // The low byte: the number of a rule that is there is below 32.
+    let found = needs(&book, (rule % 256) as u8);
+    Ok(shown(book.head(), found, buffer))
 }

@@ -1,258 +1,179 @@
-// The first three places, one for each reference of rule r, that break r and no rule of a set. The
-// references stand in their order with absent ones first, so the last one always stands third and
-// is never looped over.
+//! The first three places, one for each reference of a rule, that break it and no rule of a set. The
+//! references stand in their order with absent ones first, so the last one always stands third and
+//! is never looped over.
 ghost use Rattle.std.specs.Prelude.{◌&&◌, not, ◌%◌};
 ghost use Rattle.book.specs.Sets.{has};
 ghost use Rattle.search.specs.Inner.Places.{in_places, PlacesOf};
-ghost use Rattle.search.specs.Inner.Search.{candidate, solves, solves_in, solves_first, solves_beside, solves_pair};
-ghost use Rattle.search.specs.Inner.Search.{Searched, SearchedFrom, SearchedSince, Thirds, Possible};
+ghost use Rattle.search.specs.Inner.Closing.{remaining};
+ghost use Rattle.search.specs.Inner.Search.{asked, candidate, solves, solves_in, solves_first, solves_beside, solves_pair};
+ghost use Rattle.search.specs.Inner.Search.{Searched, SearchedSince, Thirds, Possible};
 
 use crate::closing::{accepted_third, reference_at};
-use crate::places::{NOWHERE, PAST_PLACES, first_from, is_empty};
+use crate::places::{NOWHERE, Places, first_from, is_empty};
 use crate::settling::{SETTLING, settle};
-use crate::sifting::{Remaining, sift};
-use book::sets::word_at;
+use crate::sifting::{Takers, sift};
+use crate::tables::{Question, met_words};
 
-// The first three places; or the rules that took places away, and which of them did so last.
-#[derive(Clone, Copy)]
-pub enum Sought {
-    Found {
-        first: usize,
-        second: usize,
-        third: usize,
-    },
-    Nothing {
-        rules: u64,
-        last: u8,
-    },
-}
-
-// The places that can be chosen for the reference that stands i-th.
-pub fn candidates(t: &[u64], r: u8, n: u8, had: [u64; 32], i: u8) -> [u64; 33]
-    ensures { PlacesOf (candidate t.now r n had i) result }
+// `had` by value, here and below: a form that document 01 names.
+/// The places that can be chosen for the reference that stands i-th.
+pub fn candidates(ask: &Question, had: [u64; 32], i: u8) -> [u64; 33]
+    ensures { PlacesOf (asked candidate ask.now had i) result }
 {
-    let reference = reference_at(n, i);
+    let reference = reference_at(ask.references, i);
     let mut found = [0u64; 33];
-    if n <= reference {
+    if ask.references <= reference {
         found[32] = 1;
         return found;
     }
-    let at = 128 * (r as usize) + 33 * (reference as usize);
+    let met = met_words(ask.tables, ask.rule, reference);
+    // By index: three arrays go in step.
     for w in 0..32usize {
-        found[w] = had[w] & word_at(t, at + w);
+        found[w] = had[w] & met[w];
     }
     found
 }
 
-// A set without the places with some operations.
-pub fn without_operations(set: [u64; 33], operations: u64) -> [u64; 33]
-    ensures { PlacesOf (λ p. in_places set p && not (has operations (p % 64))) result }
+/// Takes out of a set the places with some operations.
+pub fn take_operations(set: &mut [u64; 33], operations: u64)
+    ensures { PlacesOf (λ p. in_places set.old p && not (has operations (p % 64))) set.new }
 {
-    let mut rest = set;
-    for w in 0..33usize {
-        rest[w] = set[w] & !operations;
+    for word in set.iter_mut() {
+        *word &= !operations;
     }
-    rest
 }
 
-// Of the third places those that break r beside a and y, and no rule of the set.
-fn thirds(t: &[u64], r: u8, n: u8, rules: u64, a: usize, y: usize, before: Remaining) -> Remaining
-    ensures { Thirds t.now r n rules a y before result }
-{
-    let accepted = accepted_third(t, r, n, a, y);
-    let all = before.places;
-    let places = without_operations(all, accepted);
-    let refused = Remaining {
-        places,
-        rules: before.rules,
-        last: before.last,
-    };
-    sift(t, rules, a, y, refused)
-}
-
-// The first third place beside a and y.
-fn beside_both(
-    t: &[u64],
-    r: u8,
-    n: u8,
+/// Takes out of the third places those that don't break the rule beside a and y, or break one of the
+/// set.
+fn take_thirds(
+    ask: &Question,
     rules: u64,
     a: usize,
     y: usize,
-    places: [u64; 33],
-    seen: u64,
-    last: u8,
-) -> Sought
-    ensures { SearchedSince (solves_pair t.now r n a y places) rules seen result }
+    places: &mut [u64; 33],
+    takers: &mut Takers,
+)
+    ensures { asked Thirds ask.now rules a y (remaining places.old takers.old) (remaining places.new takers.new) }
 {
-    let from = Remaining {
-        places,
-        rules: seen,
-        last,
-    };
-    let rest = thirds(t, r, n, rules, a, y, from);
-    let open = rest.places;
-    let x = first_from(open, 0);
-    if x < PAST_PLACES {
-        return Sought::Found {
-            first: a,
-            second: y,
-            third: x,
-        };
-    }
-    Sought::Nothing {
-        rules: rest.rules,
-        last: rest.last,
-    }
+    take_operations(places, accepted_third(ask, a, y));
+    sift(ask.tables, rules, a, y, places, takers);
 }
 
-// How often in a row the same rule took last. Nothing is promised of it: it only says when to ask
-// what that rule settles.
+/// The first third place beside a and y.
+fn beside_both(
+    ask: &Question,
+    rules: u64,
+    a: usize,
+    y: usize,
+    thirds: &[u64; 33],
+    takers: &mut Takers,
+) -> Option<Places>
+    ensures { SearchedSince (asked solves_pair ask.now a y thirds.now) rules takers.old.rules takers.new.rules result }
+{
+    let mut open = *thirds;
+    take_thirds(ask, rules, a, y, &mut open, takers);
+    let x = first_from(&open, 0)?;
+    Some(Places {
+        first: a,
+        second: y,
+        third: x,
+    })
+}
+
+/// How often in a row the same rule took last. Nothing is promised of it: it only says when to ask
+/// what that rule settles.
 fn in_a_row(turns: u8, again: bool) -> u8 {
     if !again {
         return 0;
     }
-    if turns <= SETTLING {
-        return turns + 1;
-    }
-    turns
+    turns.min(SETTLING) + 1
 }
 
-// The first second and third place beside first place a.
+/// The first second and third place beside first place a.
 fn beside(
-    t: &[u64],
-    r: u8,
-    n: u8,
+    ask: &Question,
     rules: u64,
     a: usize,
-    seconds: [u64; 33],
-    before: Remaining,
-) -> Sought
-    ensures { SearchedFrom (solves_beside t.now r n a seconds) rules before result }
+    seconds: &mut [u64; 33],
+    thirds: &[u64; 33],
+    takers: &mut Takers,
+) -> Option<Places>
+    ensures { SearchedSince (asked solves_beside ask.now a seconds.old thirds.now) rules takers.old.rules takers.new.rules result }
 {
-    let places = before.places;
-    let mut seen = before.rules;
-    let mut last = before.last;
-    if is_empty(places) {
-        return Sought::Nothing { rules: seen, last };
+    if is_empty(thirds) {
+        return None;
     }
-    let mut waiting = seconds;
     let mut turns = 0u8;
-    let mut y = first_from(waiting, 0);
-    while y < PAST_PLACES {
-        let sought = beside_both(t, r, n, rules, a, y, places, seen, last);
-        let Sought::Nothing {
-            rules: more,
-            last: next,
-        } = sought
-        else {
-            return sought;
-        };
-        turns = in_a_row(turns, last == next);
-        let rest = settle(t, r, n, rules, a, places, turns, waiting, more, next);
-        waiting = rest.places;
-        seen = rest.rules;
-        last = rest.last;
-        y = first_from(waiting, y + 1);
+    let mut next = first_from(seconds, 0);
+    // `while`: a turn takes places out of the set, and the next is asked for after it.
+    while let Some(y) = next {
+        let last = takers.last;
+        if let Some(found) = beside_both(ask, rules, a, y, thirds, takers) {
+            return Some(found);
+        }
+        turns = in_a_row(turns, last == takers.last);
+        settle(ask, rules, a, thirds, turns, seconds, takers);
+        next = first_from(seconds, y + 1);
     }
-    Sought::Nothing { rules: seen, last }
+    None
 }
 
-// The same where the sets still hold what breaks a rule beside a: it is dropped once.
+/// The same where the sets still hold what breaks a rule beside a: it is dropped once.
 fn beside_first(
-    t: &[u64],
-    r: u8,
-    n: u8,
+    ask: &Question,
     rules: u64,
     a: usize,
-    seconds: [u64; 33],
-    before: Remaining,
-) -> Sought
-    ensures { SearchedFrom (solves_first t.now r n a seconds) rules before result }
+    seconds: &[u64; 33],
+    thirds: &[u64; 33],
+    takers: &mut Takers,
+) -> Option<Places>
+    ensures { SearchedSince (asked solves_first ask.now a seconds.now thirds.now) rules takers.old.rules takers.new.rules result }
 {
-    let from = Remaining {
-        places: seconds,
-        rules: before.rules,
-        last: before.last,
-    };
-    let second = sift(t, rules, a, NOWHERE, from);
-    let places = before.places;
-    let next = Remaining {
-        places,
-        rules: second.rules,
-        last: second.last,
-    };
-    let third = sift(t, rules, a, NOWHERE, next);
-    let kept = second.places;
-    beside(t, r, n, rules, a, kept, third)
+    let mut second = *seconds;
+    sift(ask.tables, rules, a, NOWHERE, &mut second, takers);
+    let mut third = *thirds;
+    sift(ask.tables, rules, a, NOWHERE, &mut third, takers);
+    beside(ask, rules, a, &mut second, &third, takers)
 }
 
-// The first three places in three sets.
+/// The first three places in three sets.
 pub fn among(
-    t: &[u64],
-    r: u8,
-    n: u8,
+    ask: &Question,
     rules: u64,
-    firsts: [u64; 33],
-    seconds: [u64; 33],
-    before: Remaining,
-) -> Sought
-    ensures { SearchedFrom (solves_in t.now r n firsts seconds) rules before result }
+    firsts: &[u64; 33],
+    seconds: &[u64; 33],
+    thirds: &[u64; 33],
+    takers: &mut Takers,
+) -> Option<Places>
+    ensures { SearchedSince (asked solves_in ask.now firsts.now seconds.now thirds.now) rules takers.old.rules takers.new.rules result }
 {
-    let places = before.places;
-    let mut seen = before.rules;
-    let mut last = before.last;
-    let mut a = first_from(firsts, 0);
-    while a < PAST_PLACES {
-        let from = Remaining {
-            places,
-            rules: seen,
-            last,
-        };
-        let sought = beside_first(t, r, n, rules, a, seconds, from);
-        let Sought::Nothing {
-            rules: more,
-            last: next,
-        } = sought
-        else {
-            return sought;
-        };
-        seen = more;
-        last = next;
-        a = first_from(firsts, a + 1);
+    let mut next = first_from(firsts, 0);
+    // `while`: an iterator over a set would be one of our own, and longer than this.
+    while let Some(a) = next {
+        if let Some(found) = beside_first(ask, rules, a, seconds, thirds, takers) {
+            return Some(found);
+        }
+        next = first_from(firsts, a + 1);
     }
-    Sought::Nothing { rules: seen, last }
+    None
 }
 
-// The candidates of the reference that stands i-th, less what breaks a rule by itself.
-pub fn alone(
-    t: &[u64],
-    r: u8,
-    n: u8,
-    had: [u64; 32],
-    rules: u64,
-    i: u8,
-    seen: u64,
-    last: u8,
-) -> Remaining
-    ensures { Possible t.now r n had rules i seen result }
+/// The candidates of the reference that stands i-th, less what breaks a rule by itself.
+pub fn alone(ask: &Question, had: [u64; 32], rules: u64, i: u8, takers: &mut Takers) -> [u64; 33]
+    ensures { asked Possible ask.now had rules i takers.old.rules (remaining result takers.new) }
 {
-    let places = candidates(t, r, n, had, i);
-    let from = Remaining {
-        places,
-        rules: seen,
-        last,
-    };
-    sift(t, rules, NOWHERE, NOWHERE, from)
+    let mut places = candidates(ask, had, i);
+    sift(ask.tables, rules, NOWHERE, NOWHERE, &mut places, takers);
+    places
 }
 
-// The first three places that break r and no rule of a set; rule `last` has its turn first.
-pub fn search(t: &[u64], r: u8, n: u8, had: [u64; 32], rules: u64, last: u8) -> Sought
-    ensures { Searched (solves t.now r n had) rules 0 result }
+/// The first three places that break the rule and none of a set; the one that took last has its
+/// turn first.
+pub fn search(ask: &Question, had: [u64; 32], rules: u64, takers: &mut Takers) -> Option<Places>
+    ensures { Searched (asked solves ask.now had) rules 0 takers.new.rules result }
 {
-    let first = alone(t, r, n, had, rules, 0, 0, last);
-    let second = alone(t, r, n, had, rules, 1, first.rules, first.last);
-    let third = alone(t, r, n, had, rules, 2, second.rules, second.last);
-    let firsts = first.places;
-    let seconds = second.places;
-    among(t, r, n, rules, firsts, seconds, third)
+    takers.rules = 0;
+    let firsts = alone(ask, had, rules, 0, takers);
+    let seconds = alone(ask, had, rules, 1, takers);
+    let thirds = alone(ask, had, rules, 2, takers);
+    among(ask, rules, &firsts, &seconds, &thirds, takers)
 }

@@ -1,21 +1,72 @@
-// The rules of a book as words, made once a call from the words of its head: for each rule and
-// reference the places that meet it, and for each restriction the operations that it takes there,
-// four times over.
-ghost use Rattle.std.specs.Prelude.{◌≡◌, ℕ, ◌/◌, ◌≤◌, ◌<◌, length};
-ghost use Rattle.book.specs.Blocks.{head_of};
+//! The rules of a book as words, made once a call from the words of its head.
+ghost use Rattle.std.specs.Prelude.{◌≡◌, ℕ, List, [], IfSome, IfNone, ◌/◌, ◌<◌, get_or};
+ghost use Rattle.book.specs.Blocks.{rule_count};
 ghost use Rattle.book.specs.Inner.Words.{HeadWords};
 ghost use Rattle.book.specs.Sets.{has};
-ghost use Rattle.search.specs.Inner.Table.{ChannelWords, ReferenceWords, RestrictionWord, RuleWords, LeafSets};
-ghost use Rattle.search.specs.Inner.Table.{TableHolds, CoveredWord, CoversHold};
+ghost use Rattle.search.specs.Inner.Table.{ChannelWords, ReferenceWords, RestrictionWord, RuleHolds};
+ghost use Rattle.search.specs.Inner.Table.{meets_words, takes_words, TableHolds, CoversHold};
 
 use crate::obtaining::four;
-use book::fields::{action, reference_count, restriction_count, restriction_mask, rule_at};
+use book::Book;
+use book::fields::{action, reference_count, restriction_count, restriction_mask};
 use book::rules::{covered_users, leaf_set};
-use book::sets::{word_at, word_if};
+use book::sets::word_if;
+use book::words::Words;
 use verdicts::actions::{Channel, channel_fits};
 use verdicts::breaking::all_if_zero;
 
-// The first four leaves of a set, each with every operation.
+/// What the search reads of a rule: for each reference the places that meet it and, for each of eight
+/// restrictions, the operations that it takes there, four times over.
+#[derive(Clone, Copy)]
+pub struct RuleTable {
+    pub meets: [[u64; 33]; 3],
+    pub takes: [[u64; 8]; 3],
+}
+
+/// No place meets it, and no restriction takes.
+pub const NO_TABLE: RuleTable = RuleTable {
+    meets: [[0; 33]; 3],
+    takes: [[0; 8]; 3],
+};
+
+/// What is searched for: choices that break a rule of the tables. The references that it has stand
+/// last, absent ones before them.
+#[derive(Clone, Copy)]
+pub struct Question<'a> {
+    pub tables: &'a [RuleTable; 32],
+    pub rule: u8,
+    pub references: u8,
+}
+
+// Two functions: one for both would take the width as a const and the field as a closure.
+
+/// The words of the places that meet reference i of rule q: none past the last.
+pub fn met_words(t: &[RuleTable; 32], q: u8, i: u8) -> &[u64; 33]
+    ensures { (w : ℕ) → get_or result.now w 0 ≡ get_or (meets_words t.now q i) w 0 }
+{
+    match t.get(usize::from(q)) {
+        Some(table) => match table.meets.get(usize::from(i)) {
+            Some(words) => words,
+            None => &[0; 33],
+        },
+        None => &[0; 33],
+    }
+}
+
+/// The operations that each restriction of rule q takes at reference i: none past the last.
+pub fn taken_words(t: &[RuleTable; 32], q: u8, i: u8) -> &[u64; 8]
+    ensures { (j : ℕ) → get_or result.now j 0 ≡ get_or (takes_words t.now q i) j 0 }
+{
+    match t.get(usize::from(q)) {
+        Some(table) => match table.takes.get(usize::from(i)) {
+            Some(words) => words,
+            None => &[0; 8],
+        },
+        None => &[0; 8],
+    }
+}
+
+/// The first four leaves of a set, each with every operation.
 pub fn spread(leaves: u64) -> u64
     ensures { (i : ℕ) → i < 64 → has result i ≡ has leaves (i / 16) }
 {
@@ -26,11 +77,12 @@ pub fn spread(leaves: u64) -> u64
     65535 * marks
 }
 
-// The words of the places of some leaves, with every operation: of projections, of conditions.
+/// The words of the places of some leaves, with every operation: of projections, of conditions.
 fn channel_words(leaves: u64, projected: bool, tested: bool) -> [u64; 33]
     ensures { ChannelWords leaves projected tested result }
 {
     let mut words = [0u64; 33];
+    // By index: a turn writes two words, sixteen apart.
     for w in 0..16usize {
         let word = spread(leaves >> (4 * w));
         words[w] = word_if(projected, word);
@@ -39,12 +91,12 @@ fn channel_words(leaves: u64, projected: bool, tested: bool) -> [u64; 33]
     words
 }
 
-// The words of the places that meet reference i, all of them where it is absent.
+/// The words of the places that meet reference i, all of them where it is absent.
 fn reference_words(rule: &[u8], leaves: u64, i: u8) -> [u64; 33]
     ensures { ReferenceWords rule.now leaves i result }
 {
-    if reference_count(rule) <= i as usize {
-        return [18446744073709551615; 33];
+    if reference_count(rule) <= usize::from(i) {
+        return [u64::MAX; 33];
     }
     let named = action(rule, i);
     let projected = channel_fits(Channel::Projection, named);
@@ -52,88 +104,58 @@ fn reference_words(rule: &[u8], leaves: u64, i: u8) -> [u64; 33]
     channel_words(leaves, projected, tested)
 }
 
-// The operations that restriction j takes at reference i, four times over.
+/// The operations that restriction j takes at reference i, four times over.
 fn restriction_word(rule: &[u8], i: u8, j: u8) -> u64
     ensures { RestrictionWord rule.now i j result }
 {
-    if restriction_count(rule) <= j as usize {
+    if restriction_count(rule) <= usize::from(j) {
         return 0;
     }
     let mask = all_if_zero(restriction_mask(rule, j, i));
     four(mask, mask, mask, mask)
 }
 
-// The words of rule q: three times 33 of places, then 24 of restrictions.
-fn rule_words(rule: &[u8], sets: &[u64], q: u8) -> [u64; 128]
-    ensures { RuleWords rule.now sets.now q result }
+/// The operations that the restrictions take at reference i.
+fn restriction_words(rule: &[u8], i: u8) -> [u64; 8]
+    ensures { (j : ℕ) → j < 8 → RestrictionWord rule.now i j (get_or result j 0) }
 {
-    let mut words = [0u64; 128];
-    for i in 0..3usize {
-        let leaves = word_at(sets, 3 * (q as usize) + i);
-        let places = reference_words(rule, leaves, i as u8);
-        for w in 0..33usize {
-            words[33 * i + w] = places[w];
-        }
-    }
-    for k in 0..24usize {
-        words[99 + k] = restriction_word(rule, (k / 8) as u8, (k % 8) as u8);
+    let mut words = [0u64; 8];
+    for j in 0..8u8 {
+        words[usize::from(j)] = restriction_word(rule, i, j);
     }
     words
 }
 
-// The leaf sets of the references of the first n rules, three for each.
-fn leaf_sets(book: &[u8], head: &[u64], n: u8) -> [u64; 96]
-    ensures { HeadWords (head_of book.now) head.now → n ≤ 32
-        → LeafSets book.now n result }
+/// The table of a rule.
+fn rule_table(words: &Words, rule: &[u8]) -> RuleTable
+    ensures { (head : List ℕ) → HeadWords head words.now → RuleHolds head rule.now result }
 {
-    let mut sets = [0u64; 96];
-    if 32 < n {
-        return sets;
+    let mut table = NO_TABLE;
+    for i in 0..3u8 {
+        table.meets[usize::from(i)] = reference_words(rule, leaf_set(words, rule, i), i);
+        table.takes[usize::from(i)] = restriction_words(rule, i);
     }
-    let count = 3 * (n as usize);
-    for m in 0..count {
-        sets[m] = leaf_set(head, rule_at(book, (m / 3) as u8), (m % 3) as u8);
-    }
-    sets
+    table
 }
 
-// The tables of the first n rules, written where the caller keeps them: by value they would be
-// copied.
-pub fn fill_table(t: &mut [u64], book: &[u8], head: &[u64], n: u8)
-    ensures { HeadWords (head_of book.now) head.now → n ≤ 32
-        → length t.old ≡ 4096 → TableHolds book.now n t.new }
+/// The tables of a book's rules, written where the caller keeps them.
+pub fn fill_table(tables: &mut [RuleTable; 32], book: &Book)
+    ensures { TableHolds book.now.bytes.now (rule_count book.now.bytes.now) tables.new }
 {
-    let sets = leaf_sets(book, head, n);
-    if t.len() < 128 * (n as usize) {
-        return;
-    }
-    for q in 0..n {
-        let words = rule_words(rule_at(book, q), &sets, q);
-        for k in 0..128usize {
-            t[128 * (q as usize) + k] = words[k];
-        }
+    for q in 0..book.rule_count() {
+        let rule = book.rule(q);
+        tables[usize::from(q)] = rule_table(&book.words, rule);
     }
 }
 
-// The users that rule r covers, if it is one of the first n.
-fn covered_at(book: &[u8], head: &[u64], n: u8, r: u8) -> u64
-    ensures { HeadWords (head_of book.now) head.now
-        → CoveredWord book.now n r result }
-{
-    if n <= r {
-        return 0;
-    }
-    covered_users(head, rule_at(book, r))
-}
-
-// For each of the first n rules the users that it covers.
-pub fn covered_by(book: &[u8], head: &[u64], n: u8) -> [u64; 32]
-    ensures { HeadWords (head_of book.now) head.now
-        → CoversHold book.now n result }
+// Beside the tables and not in them: a search and its promises read the tables alone.
+/// For each rule of a book the users that it covers; past the last rule none.
+pub fn covered_by(book: &Book) -> [u64; 32]
+    ensures { CoversHold book.now.bytes.now (rule_count book.now.bytes.now) result }
 {
     let mut covered = [0u64; 32];
-    for r in 0..32usize {
-        covered[r] = covered_at(book, head, n, r as u8);
+    for r in 0..book.rule_count() {
+        covered[usize::from(r)] = covered_users(&book.words, book.rule(r));
     }
     covered
 }

@@ -8,14 +8,13 @@ use lib.Seq.{take-append_seam, drop-append_seam}
 use lib.Dec.{leb}
 use borrow.Author.Tests.{leb-true, le-leb, lt-ltb}
 use Rattle.book.specs.Blocks.{head_of}
-use Rattle.book.specs.Tests.{Passes, answered, first_failing, refused_or}
+use Rattle.std.specs.Prelude.{Result, Ok, Err, IfOk}
+use Rattle.book.specs.Tests.{Outcome, Passes, answered, first_failing, refused_or}
 use Rattle.book.specs.Refusals.{book_tests}
-use Rattle.book.specs.declared.Refusal.{Refusal}
-use Rattle.book.specs.declared.Tested.{Tested}
-use Rattle.book.specs.declared.Tested.TheVariants as tested
+use Rattle.book.specs.declared.refusal.Refusal.{Refusal}
+use Rattle.book.specs.declared.refusal.Refusal.TheVariants.{TreeSize}
 use Rattle.book.proofs.Lists.{and_both}
 use Rattle.book.proofs.Answers.{answered_passed, append_passed, first_append, last_passed}
-use Rattle.book.specs.Inner.Testing.{or_else}
 use Rattle.lineage.specs.Rows.{row_count}
 use Rattle.lineage.specs.Answers.{plan_tests}
 use Rattle.lineage.proofs.Accepted.{accepted_plan}
@@ -24,8 +23,7 @@ use Rattle.trees.specs.Text.{tree_text, line_count}
 use Rattle.trees.specs.Answers.{is_value_row, value_tests, tree_fits, room_tests, tree_row_tests, tree_tests, drawn, tree_answer}
 use Rattle.trees.specs.Answers.{written, tree_buffer}
 use Rattle.trees.specs.Demand.{TreeAccepted, Draws}
-use Rattle.trees.specs.declared.Drawn.{Drawn}
-use Rattle.trees.specs.declared.Drawn.TheVariants as drawing
+use Rattle.trees.specs.declared.Written.{Written}
 use Rattle.trees.proofs.TreeLaws.{tree_few, tree_lines, tree_short, tree_some}
 use Rattle.trees.proofs.TreeAnswers.{row_accepted}
 
@@ -38,7 +36,7 @@ module _ (book plan : List ℕ) (i : ℕ) (buffer : List ℕ) where
       let row = row_accepted book plan i parts.0 in
       let room =
       and_both (leb (node_count plan i) 4096) (leb (length (tree_text plan i)) (length buffer))
-      (last_passed 30 0 (tree_fits plan i (length buffer)) parts.1) in
+      (last_passed TreeSize (tree_fits plan i (length buffer)) parts.1) in
       record {
         both = row.0;
         there = row.1;
@@ -48,7 +46,7 @@ module _ (book plan : List ℕ) (i : ℕ) (buffer : List ℕ) where
       }
 
   pub accepted_tree : TreeAccepted book plan i buffer → Passes (tree_tests book plan i buffer)
-  unfolding tree_tests tree_row_tests value_tests is_value_row room_tests tree_fits first_failing or_else
+  unfolding tree_tests tree_row_tests value_tests is_value_row room_tests tree_fits first_failing
   accepted_tree a =
       rw (
         first_append (book_tests book ++ plan_tests (head_of book) plan ++ value_tests plan i) (room_tests plan i buffer),
@@ -96,67 +94,67 @@ module _ (book plan : List ℕ) (i : ℕ) (buffer : List ℕ) where
   -- The answer and the buffer, by the outcome of the tests
 
   by_tests :
-      (P : Drawn → List ℕ → Type 0)
-      → ((x : Refusal) → P (drawing.Refused x) buffer)
-      → (Passes (tree_tests book plan i buffer) → P (drawn plan i) (written (tree_text plan i) buffer))
+      (P : Result Written Refusal → List ℕ → Type 0)
+      → ((x : Refusal) → P (Err x) buffer)
+      → (Passes (tree_tests book plan i buffer) → P (Ok (drawn plan i)) (written (tree_text plan i) buffer))
       → P (tree_answer book plan i buffer) (tree_buffer book plan i buffer)
   unfolding tree_answer tree_buffer answered refused_or
   by_tests P refused passed = go (first_failing (tree_tests book plan i buffer)) refl
     where
       go :
-          (t : Tested)
+          (t : Outcome)
           → first_failing (tree_tests book plan i buffer) ≡ t
-          → P (refused_or t drawing.Refused (drawn plan i))
+          → P (refused_or t Err (Ok (drawn plan i)))
           (refused_or t (λ refusal. buffer) (written (tree_text plan i) buffer))
-      go tested.Passed e = passed e
-      go (tested.Refused x) e = refused x
+      go (Ok done) e = passed e
+      go (Err x) e = refused x
 
   written_told :
       (nodes bytes : ℕ)
-      → tree_answer book plan i buffer ≡ drawing.Written nodes bytes
+      → tree_answer book plan i buffer ≡ Ok (record { nodes = nodes; length = bytes })
       → TreeAccepted book plan i buffer × Draws plan i buffer (tree_buffer book plan i buffer) nodes bytes
   unfolding drawn
   written_told nodes bytes =
       by_tests
-      (λ a b. a ≡ drawing.Written nodes bytes → TreeAccepted book plan i buffer × Draws plan i buffer b nodes bytes)
+      (λ a b. a ≡ Ok (record { nodes = nodes; length = bytes }) → TreeAccepted book plan i buffer × Draws plan i buffer b nodes bytes)
       (λ x e. let z : ◌≡◌ {A = ℕ} 0 1 = cc in absurd (omega arith))
       (λ t e.
-      let n : node_count plan i ≡ nodes = cc in
-      let b : length (tree_text plan i) ≡ bytes = cc in
+      let w : drawn plan i ≡ record { nodes = nodes; length = bytes } = cc in
+      let n : node_count plan i ≡ nodes = ap (λ w. w.nodes) w in
+      let b : length (tree_text plan i) ≡ bytes = ap (λ w. w.length) w in
       (tree_accepted t, rw (sym n, sym b) (accepted_draws (tree_accepted t))))
 
   pub answer_accepted :
-      (nodes bytes : ℕ) → tree_answer book plan i buffer ≡ drawing.Written nodes bytes → TreeAccepted book plan i buffer
+      (nodes bytes : ℕ) → tree_answer book plan i buffer ≡ Ok (record { nodes = nodes; length = bytes }) → TreeAccepted book plan i buffer
   answer_accepted nodes bytes e = (written_told nodes bytes e).0
 
   pub answer_draws :
       (nodes bytes : ℕ)
-      → tree_answer book plan i buffer ≡ drawing.Written nodes bytes
+      → tree_answer book plan i buffer ≡ Ok (record { nodes = nodes; length = bytes })
       → Draws plan i buffer (tree_buffer book plan i buffer) nodes bytes
   answer_draws nodes bytes e = (written_told nodes bytes e).1
 
   pub answer_refused :
-      (x : Refusal) → tree_answer book plan i buffer ≡ drawing.Refused x → tree_buffer book plan i buffer ≡ buffer
+      (x : Refusal) → tree_answer book plan i buffer ≡ Err x → tree_buffer book plan i buffer ≡ buffer
   unfolding drawn
   answer_refused x =
-      by_tests (λ a b. a ≡ drawing.Refused x → b ≡ buffer) (λ y e. refl)
+      by_tests (λ a b. a ≡ Err x → b ≡ buffer) (λ y e. refl)
       (λ t e. let z : ◌≡◌ {A = ℕ} 0 1 = cc in absurd (omega arith))
 
   pub tree_unrefused :
-      TreeAccepted book plan i buffer → (x : Refusal) → tree_answer book plan i buffer ≡ drawing.Refused x → ⊥
+      TreeAccepted book plan i buffer → (x : Refusal) → tree_answer book plan i buffer ≡ Err x → ⊥
   unfolding tree_answer drawn
   tree_unrefused given x h =
       let e =
-      sym (answered_passed (tree_tests book plan i buffer) drawing.Refused (drawn plan i) (accepted_tree given)) ∙ h in
+      sym (answered_passed (tree_tests book plan i buffer) Err (Ok (drawn plan i)) (accepted_tree given)) ∙ h in
       let z : ◌≡◌ {A = ℕ} 0 1 = cc in
       omega arith
 
   -- of the answer itself
   pub tree_draws :
-      (r : Drawn) (after : List ℕ)
+      (r : Result Written Refusal) (after : List ℕ)
       → r ≡ tree_answer book plan i buffer
       → after ≡ tree_buffer book plan i buffer
-      → (nodes bytes : ℕ)
-      → r ≡ drawing.Written nodes bytes
-      → Draws plan i buffer after nodes bytes
-  tree_draws r after er ea nodes bytes e = rw ea (answer_draws nodes bytes (sym er ∙ e))
+      → IfOk r (λ w. Draws plan i buffer after w.nodes w.length)
+  tree_draws (Ok w) after er ea = rw ea (answer_draws w.nodes w.length (sym er))
+  tree_draws (Err x) after er ea = tt

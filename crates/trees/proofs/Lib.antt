@@ -1,5 +1,5 @@
 pub mod Nodes
-pub mod Puts
+pub mod Writing
 pub mod LineLaws
 pub mod TextLaws
 pub mod Walked

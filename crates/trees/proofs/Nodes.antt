@@ -1,19 +1,18 @@
 -- Laws of a tree's nodes: the row, then the trees of its children (`nodes_step`); and in two parts, for the two walks.
 -- Assumes nothing.
-use Prim.Native.Nat.{ℕ, zero, suc, ◌+◌, ◌≤◌, ◌<◌}
+use Prim.Native.Nat.{ℕ, zero, suc, ◌+◌, ◌<◌}
 use native.Mathlib.Omega.{arith}
 use mathlib.Core.Path.{◌≡◌, refl, sym, ap, ◌∙◌}
 use mathlib.Core.Bool.{Bool, true, false, ◌&&◌, cond}
 use mathlib.Core.List.{List, [], ◌∷◌, ◌++◌, append-nil}
 use lib.Dec.{ltb}
-use borrow.Author.Tests.{ltb-true, ne_eqb}
 use Rattle.book.specs.Lists.{flat, keep}
-use Rattle.book.proofs.Lists.{and_false}
 use Rattle.lineage.specs.Rows.{Kind, Column, Apply, Choose, Output, Condition, Unknown}
 use Rattle.lineage.specs.Rows.{kind_byte, kind_of, kind_at, is_value, names, row_a, row_b, row_c}
 use Rattle.lineage.proofs.Accepted.{names_both}
-use Rattle.trees.specs.Trees.{Node, row_bytes, children, nodes_in, nodes_from}
-use Rattle.trees.specs.Inner.Walks.{of_apply, of_choose, is_row, lower_row, apply_nodes, choose_nodes}
+use Rattle.trees.specs.Trees.{row_bytes, children, nodes_in, nodes_from}
+use Rattle.trees.specs.declared.walking.Node.{Node}
+use Rattle.trees.specs.Inner.Walks.{of_apply, of_choose, apply_nodes, choose_nodes}
 
 -- What is kept of a list, and the lists that a function gives for it
 
@@ -105,36 +104,36 @@ parts_by Output ns = refl
 parts_by Condition ns = refl
 parts_by Unknown ns = refl
 
--- 255 is no row, and no row of a plan is 255
-row_is : (r : ℕ) → (r ≡ 255 → ⊥) → is_row r ≡ true
-unfolding is_row
-row_is r h = rw (ne_eqb r 255 h)
-
--- what both walks list for a row that they are passed
-abbrev pub passed : List ℕ → (level row : ℕ) → List Node
-passed plan level r = apply_nodes plan level r ++ choose_nodes plan level r
-
 module _ (plan : List ℕ) (level : ℕ) where
+  -- what both walks list for a row that row i names
+  abbrev pub passed : (i r : ℕ) → List Node
+  passed i r = cond (ltb r i) (apply_nodes plan level r ++ choose_nodes plan level r) []
+
   -- a value row is listed whole
   pub value_parts :
-      (r : ℕ) → (r ≡ 255 → ⊥) → is_value (kind_at plan r) ≡ true → nodes_from plan level r ≡ passed plan level r
+      (r : ℕ) → is_value (kind_at plan r) ≡ true → nodes_from plan level r ≡ apply_nodes plan level r ++ choose_nodes plan level r
   unfolding apply_nodes choose_nodes
-  value_parts r n v =
-      rw (row_is r n) (sym (ap (λ b. cond b (nodes_from plan level r) []) v) ∙ parts_by (kind_at plan r) (nodes_from plan level r))
+  value_parts r v =
+      sym (ap (λ b. cond b (nodes_from plan level r) []) v) ∙ parts_by (kind_at plan r) (nodes_from plan level r)
 
-  pub below_parts : (i r : ℕ) → i ≤ 255 → below plan level i r ≡ passed plan level (lower_row i r)
-  unfolding names lower_row is_row apply_nodes choose_nodes
-  below_parts i r h = by (ltb r i) refl
+  below_parts : (i r : ℕ) → below plan level i r ≡ passed i r
+  unfolding names apply_nodes choose_nodes
+  below_parts i r = by (ltb r i)
     where
       by :
           (b : Bool)
-          → ltb r i ≡ b
           → cond (b && is_value (kind_at plan r)) (nodes_from plan level r) []
-          ≡ passed plan level (cond b r 255)
-      by true t =
-          let l : r < i = ltb-true r i t in
-          rw (ne_eqb r 255 (λ e. omega arith)) (parts_by (kind_at plan r) (nodes_from plan level r))
-      by false t = refl
+          ≡ cond b
+          (cond (of_apply (kind_at plan r)) (nodes_from plan level r) []
+          ++ cond (of_choose (kind_at plan r)) (nodes_from plan level r) [])
+          []
+      by true = parts_by (kind_at plan r) (nodes_from plan level r)
+      by false = refl
+
+  all_passed : (i : ℕ) (rs : List ℕ) → flat (below plan level i) rs ≡ flat (passed i) rs
+  unfolding flat
+  all_passed i [] = refl
+  all_passed i (r ∷ rs) = rw (below_parts i r, all_passed i rs)
 
 -- The parts by the row's kind
 
@@ -159,52 +158,36 @@ not_choose (suc (suc (suc (suc (suc zero))))) a = refl
 not_choose (suc (suc (suc (suc (suc (suc n)))))) a = refl
 
 module _ (plan : List ℕ) (level r : ℕ) where
-  pub apply_absent : r ≡ 255 → apply_nodes plan level r ≡ []
-  unfolding apply_nodes is_row
-  apply_absent e = rw e
-
-  pub choose_absent : r ≡ 255 → choose_nodes plan level r ≡ []
-  unfolding choose_nodes is_row
-  choose_absent e = rw e
-
   pub apply_other : (kind_byte plan r ≡ 1 → ⊥) → (kind_byte plan r ≡ 2 → ⊥) → apply_nodes plan level r ≡ []
   unfolding apply_nodes kind_at
-  apply_other a b = rw (not_apply (kind_byte plan r) a b, and_false (is_row r))
+  apply_other a b = rw (not_apply (kind_byte plan r) a b)
 
   pub choose_other : (kind_byte plan r ≡ 3 → ⊥) → choose_nodes plan level r ≡ []
   unfolding choose_nodes kind_at
-  choose_other a = rw (not_choose (kind_byte plan r) a, and_false (is_row r))
+  choose_other a = rw (not_choose (kind_byte plan r) a)
 
-  module _ (n : r ≡ 255 → ⊥) (low : r ≤ 255) where
-    abbrev top : Node
-    top = record { level = level; row = r }
+  abbrev pub top : Node
+  top = record { level = level; row = r }
 
-    abbrev child : ℕ → List Node
-    child x = passed plan (level + 1) (lower_row r x)
+  pub column_nodes : kind_byte plan r ≡ 1 → apply_nodes plan level r ≡ top ∷ []
+  unfolding apply_nodes row_bytes flat of_apply kind_of kind_at
+  column_nodes k = rw (nodes_named plan level r, k)
 
-    pub column_nodes : kind_byte plan r ≡ 1 → apply_nodes plan level r ≡ top ∷ []
-    unfolding apply_nodes row_bytes flat of_apply kind_of kind_at
-    column_nodes k = rw (row_is r n, nodes_named plan level r, k)
+  pub apply_nodes_law :
+      (b c : ℕ)
+      → kind_byte plan r ≡ 2
+      → b ≡ row_b plan r
+      → c ≡ row_c plan r
+      → apply_nodes plan level r ≡ top ∷ flat (passed plan (level + 1) r) (b ∷ c ∷ [])
+  unfolding apply_nodes row_bytes of_apply kind_of kind_at
+  apply_nodes_law b c k eb ec = rw (nodes_named plan level r, all_passed plan (level + 1) r, k, eb, ec)
 
-    pub apply_nodes_law : kind_byte plan r ≡ 2 → apply_nodes plan level r ≡ top ∷ (child (row_b plan r) ++ child (row_c plan r))
-    unfolding apply_nodes row_bytes flat of_apply kind_of kind_at
-    apply_nodes_law k =
-        rw (row_is r n, nodes_named plan level r, k)
-        (rw (
-          below_parts plan (level + 1) r (row_b plan r) low,
-          below_parts plan (level + 1) r (row_c plan r) low,
-          append-nil (child (row_c plan r)),
-        ))
-
-    pub choose_nodes_law :
-        kind_byte plan r ≡ 3
-        → choose_nodes plan level r ≡ top ∷ (child (row_a plan r) ++ (child (row_b plan r) ++ child (row_c plan r)))
-    unfolding choose_nodes row_bytes flat of_choose kind_of kind_at
-    choose_nodes_law k =
-        rw (row_is r n, nodes_named plan level r, k)
-        (rw (
-          below_parts plan (level + 1) r (row_a plan r) low,
-          below_parts plan (level + 1) r (row_b plan r) low,
-          below_parts plan (level + 1) r (row_c plan r) low,
-          append-nil (child (row_c plan r)),
-        ))
+  pub choose_nodes_law :
+      (a b c : ℕ)
+      → kind_byte plan r ≡ 3
+      → a ≡ row_a plan r
+      → b ≡ row_b plan r
+      → c ≡ row_c plan r
+      → choose_nodes plan level r ≡ top ∷ flat (passed plan (level + 1) r) (a ∷ b ∷ c ∷ [])
+  unfolding choose_nodes row_bytes of_choose kind_of kind_at
+  choose_nodes_law a b c k ea eb ec = rw (nodes_named plan level r, all_passed plan (level + 1) r, k, ea, eb, ec)

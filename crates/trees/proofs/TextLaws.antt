@@ -1,23 +1,23 @@
 -- Laws of a text of several lines: one line more, as many line feeds as nodes, at most 136 bytes a node. Assumes
 -- nothing.
-use Prim.Native.Nat.{ℕ, ◌+◌, ◌*◌, ◌≤◌, ◌<◌}
+use Prim.Native.Nat.{ℕ, ◌+◌, ◌-◌, ◌*◌, ◌≤◌, ◌<◌}
 use native.Mathlib.Numerals.{add-one}
 use native.Mathlib.Omega.{arith}
 use mathlib.Core.Path.{◌≡◌, refl, sym, ap, ◌∙◌}
-use mathlib.Core.Bool.{Bool, true, false, cond}
-use mathlib.Core.List.{List, [], ◌∷◌, ◌++◌, append_assoc, append-nil, map}
-use lib.ListN.{length, length-append, get_or, take}
+use mathlib.Core.Bool.{true}
+use mathlib.Core.List.{List, [], ◌∷◌, ◌++◌, append_assoc, append-nil}
+use lib.ListN.{length, length-append, length-drop, get_or, take, drop}
+use Rattle.std.proofs.lemmas.List.{take-append-drop}
 use lib.Seq.{take_all, take-suc}
-use lib.Dec.{leb, ltb}
+use lib.Dec.{leb}
 use borrow.Author.Tests.{leb-true}
 use Rattle.book.specs.Lists.{all, flat}
 use Rattle.book.proofs.Lists.{and_both}
-use Rattle.trees.specs.Trees.{Node}
+use Rattle.trees.specs.declared.walking.Node.{Node}
 use Rattle.trees.specs.Text.{line_text, text_of, line_count}
-use Rattle.trees.specs.Inner.Walks.{decoded}
-use Rattle.trees.specs.Inner.Writing.{Put}
+use Rattle.trees.specs.Answers.{written}
 use Rattle.trees.proofs.LineLaws.{line_short, feeds_append, feeds_line}
-use Rattle.trees.proofs.Puts.{put_none, put_then}
+use Rattle.trees.proofs.Writing.{with_part, written_rest}
 
 module _ (plan : List ℕ) where
   pub text_none : text_of plan [] ≡ []
@@ -28,62 +28,68 @@ module _ (plan : List ℕ) where
   unfolding text_of flat
   text_cons n ns = refl
 
-  -- the text of nodes as numbers
-  abbrev pub lines_of : List ℕ → List ℕ
-  lines_of xs = text_of plan (map decoded xs)
-
-  lines_append : (xs ys : List ℕ) → lines_of (xs ++ ys) ≡ lines_of xs ++ lines_of ys
+  lines_append : (xs ys : List Node) → text_of plan (xs ++ ys) ≡ text_of plan xs ++ text_of plan ys
   unfolding text_of flat
   lines_append [] ys = refl
   lines_append (x ∷ xs) ys =
-      ap (λ t. line_text plan (decoded x) ++ t) (lines_append xs ys)
-      ∙ sym (append_assoc (line_text plan (decoded x)) (lines_of xs) (lines_of ys))
+      ap (λ t. line_text plan x ++ t) (lines_append xs ys)
+      ∙ sym (append_assoc (line_text plan x) (text_of plan xs) (text_of plan ys))
 
   -- one line more
-  lines_more :
-      (xs : List ℕ) (k : ℕ)
-      → k < length xs
-      → lines_of (take (k + 1) xs) ≡ lines_of (take k xs) ++ line_text plan (decoded (get_or xs k 0))
-  lines_more xs k h =
-      rw (
-        add-one k,
-        take-suc xs k 0 h,
-        lines_append (take k xs) (get_or xs k 0 ∷ []),
-        text_cons (decoded (get_or xs k 0)) [],
-        text_none,
-      )
-      (ap (λ t. lines_of (take k xs) ++ t) (append-nil (line_text plan (decoded (get_or xs k 0)))))
+  module _ (xs : List Node) (k : ℕ) (d : Node) (h : k < length xs) where
+    lines_more : text_of plan (take (k + 1) xs) ≡ text_of plan (take k xs) ++ line_text plan (get_or xs k d)
+    lines_more =
+        rw (
+          add-one k,
+          take-suc xs k d h,
+          lines_append (take k xs) (get_or xs k d ∷ []),
+          text_cons (get_or xs k d) [],
+          text_none,
+        )
+        (ap (λ t. text_of plan (take k xs) ++ t) (append-nil (line_text plan (get_or xs k d))))
 
-  pub lines_put :
-      (xs : List ℕ) (k : ℕ) (b c d : List ℕ) (p q : ℕ)
-      → k < length xs
-      → Put (lines_of (take k xs)) b 0 c p
-      → Put (line_text plan (decoded (get_or xs k 0))) c p d q
-      → Put (lines_of (take (k + 1) xs)) b 0 d q
-  lines_put xs k b c d p q h f g =
-      rw (lines_more xs k h)
-      (put_then (lines_of (take k xs)) (line_text plan (decoded (get_or xs k 0))) b 0 c p d q f g)
+    lines_within : length (text_of plan (take k xs)) + length (line_text plan (get_or xs k d)) ≤ length (text_of plan xs)
+    lines_within =
+        let front = take (k + 1) xs in
+        let e = length-append (text_of plan front) (text_of plan (drop (k + 1) xs)) in
+        let f = ap length (sym (lines_append front (drop (k + 1) xs)) ∙ ap (text_of plan) (take-append-drop (k + 1) xs)) in
+        let g = length-append (text_of plan (take k xs)) (line_text plan (get_or xs k d)) in
+        let h = ap length lines_more in
+        omega arith
 
-  pub lines_none : (b : List ℕ) → Put (lines_of []) b 0 b 0
-  unfolding text_of flat
-  lines_none b = put_none b 0
+    -- one line more, at the front of all that is left
+    pub lines_written :
+        (buffer now line : List ℕ) (at more j : ℕ)
+        → length now ≡ length buffer
+        → at ≤ length now
+        → j ≡ length now - at
+        → length (text_of plan xs) ≤ length buffer
+        → (now ≡ written (text_of plan (take k xs)) buffer) × (at ≡ length (text_of plan (take k xs)))
+        → (length (line_text plan (get_or xs k d)) ≤ length (take j (drop at now))
+        → (line ≡ written (line_text plan (get_or xs k d)) (take j (drop at now)))
+        × (more ≡ length (line_text plan (get_or xs k d))))
+        → (with_part at j now line ≡ written (text_of plan (take (k + 1) xs)) buffer)
+        × (at + more ≡ length (text_of plan (take (k + 1) xs)))
+    lines_written buffer now line at more j same low ej room before step =
+        let l = length-drop at now in
+        let w = lines_within in
+        let rest = ap length (take_all j (drop at now) (omega arith)) in
+        let s = step (omega (arith, rest, before.1)) in
+        let g = length-append (text_of plan (take k xs)) (line_text plan (get_or xs k d)) in
+        let m = ap length lines_more in (
+          rw (s.0, before.0, lines_more)
+              (written_rest (text_of plan (take k xs)) (line_text plan (get_or xs k d)) buffer at j before.1 (omega arith)),
+          omega (arith, s.1, before.1),
+        )
 
-  pub lines_whole :
-      (xs : List ℕ) (k : ℕ) (b c : List ℕ) (p : ℕ)
-      → length xs ≤ k
-      → Put (lines_of (take k xs)) b 0 c p
-      → Put (lines_of xs) b 0 c p
-  lines_whole xs k b c p h f = rw (take_all k xs h) at f
-
-  pub lines_length :
-      (xs : List ℕ) (k sum more : ℕ)
-      → k < length xs
-      → sum ≡ length (lines_of (take k xs))
-      → more ≡ length (line_text plan (decoded (get_or xs k 0)))
-      → sum + more ≡ length (lines_of (take (k + 1) xs))
-  lines_length xs k sum more h e f =
-      let g = length-append (lines_of (take k xs)) (line_text plan (decoded (get_or xs k 0))) in
-      rw (lines_more xs k h) (omega arith)
+    pub lines_length :
+        (sum more : ℕ)
+        → sum ≡ length (text_of plan (take k xs))
+        → more ≡ length (line_text plan (get_or xs k d))
+        → sum + more ≡ length (text_of plan (take (k + 1) xs))
+    lines_length sum more e f =
+        let g = length-append (text_of plan (take k xs)) (line_text plan (get_or xs k d)) in
+        rw lines_more (omega arith)
 
   -- as many lines as nodes
   pub feeds_text : (ns : List Node) → line_count (text_of plan ns) ≡ length ns
@@ -109,16 +115,3 @@ module _ (plan : List ℕ) where
       let f = text_short ns b.1 in
       let g = length-append (line_text plan n) (text_of plan ns) in
       rw (text_cons n ns) (omega arith)
-
--- where there are at most 4,096 nodes, all of them are counted
-pub most_lines :
-    (n count k : ℕ) → count ≡ cond (ltb n 4096) n 4096 → n ≤ 4096 → count ≤ k → n ≤ k
-most_lines n count k e few h = by (ltb n 4096) refl
-  where
-    by : (b : Bool) → ltb n 4096 ≡ b → n ≤ k
-    by true t =
-        let f : count ≡ n = e ∙ rw t in
-        omega arith
-    by false t =
-        let f : count ≡ 4096 = e ∙ rw t in
-        omega arith

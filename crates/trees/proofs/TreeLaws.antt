@@ -1,23 +1,23 @@
--- Laws of trees: at most 3 to the power (i + 1) nodes; each node's level and row, which one number holds. Assumes nothing.
-use Prim.Native.Nat.{ℕ, zero, suc, ◌+◌, ◌*◌, ◌/◌, ◌%◌, ◌^◌, ◌≤◌, ◌<◌}
+-- Laws of trees: at most 3 to the power (i + 1) nodes; how deep they lie. Assumes nothing.
+use Prim.Native.Nat.{ℕ, zero, suc, ◌+◌, ◌*◌, ◌^◌, ◌≤◌, ◌<◌}
 use native.Mathlib.Nat.{pow-suc, pow-le-pow_right, one-le-pow}
 use native.Mathlib.Numerals.{add-one}
 use native.Mathlib.Omega.{arith}
 use mathlib.Core.Path.{◌≡◌, refl}
 use mathlib.Core.Bool.{Bool, true, false, cond}
-use mathlib.Core.List.{List, [], ◌∷◌, ◌++◌, map}
+use mathlib.Core.List.{List, [], ◌∷◌, ◌++◌}
 use lib.ListN.{length, length-append}
 use lib.Dec.{leb}
-use borrow.Author.Tests.{leb-true, le-leb}
+use borrow.Author.Tests.{le-leb}
 use Rattle.book.specs.Lists.{all, flat, keep}
-use Rattle.book.proofs.Lists.{and_both, and_true, append_all}
+use Rattle.book.proofs.Lists.{and_true, append_all}
 use Rattle.lineage.specs.Rows.{Kind, Column, Apply, Choose, Output, Condition, Unknown}
 use Rattle.lineage.specs.Rows.{kind_at, names, row_a, row_b, row_c}
 use Rattle.lineage.proofs.Accepted.{names_both}
-use Rattle.trees.specs.Trees.{Node, row_bytes, children, nodes_in, nodes_from, tree_nodes, node_count}
+use Rattle.trees.specs.Trees.{row_bytes, children, nodes_in, nodes_from, tree_nodes, node_count}
+use Rattle.trees.specs.declared.walking.Node.{Node}
 use Rattle.trees.specs.Text.{tree_text, line_count}
 use Rattle.trees.specs.Demand.{Trees}
-use Rattle.trees.specs.Inner.Walks.{code, codes, decoded}
 use Rattle.trees.proofs.Nodes.{below, nodes_named, nodes_step}
 use Rattle.trees.proofs.TextLaws.{feeds_text, text_short}
 
@@ -139,18 +139,3 @@ module _ (plan : List ℕ) where
   pub every_tree : Trees plan
   every_tree =
       record { tree = nodes_step plan; powers = tree_few plan; lines = tree_lines plan; short = tree_short }
-
--- a node as a number, and back
-code_back : (n : Node) → n.level + n.row ≤ 63 → decoded (code n) ≡ n
-unfolding decoded code
-code_back n h =
-    let e : (256 * n.level + n.row) / 256 ≡ n.level = omega arith in
-    let f : (256 * n.level + n.row) % 256 ≡ n.row = omega arith in
-    rw (e, f)
-
-pub codes_back : (ns : List Node) → all (λ n. leb (n.level + n.row) 63) ns ≡ true → map decoded (codes ns) ≡ ns
-unfolding all
-codes_back [] h = refl
-codes_back (n ∷ ns) h =
-    let b = and_both (leb (n.level + n.row) 63) (all (λ n. leb (n.level + n.row) 63) ns) h in
-    rw (code_back n (leb-true (n.level + n.row) 63 b.0), codes_back ns b.1)

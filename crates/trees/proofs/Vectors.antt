@@ -5,13 +5,15 @@ use mathlib.Core.Path.{◌≡◌, refl}
 use mathlib.Core.List.{List, [], ◌∷◌, ◌++◌, map}
 use lib.ListN.{replicate}
 use Rattle.book.specs.Lists.{flat, keep}
-use Rattle.book.specs.Tests.{first_failing}
-use Rattle.book.specs.declared.Tested.{Tested}
-use Rattle.book.specs.declared.Tested.TheVariants.{Passed, Refused}
+use Rattle.std.specs.Prelude.{Ok, Err}
+use Rattle.book.specs.Tests.{Outcome, first_failing}
+use Rattle.book.specs.declared.refusal.Refusal.{Refusal}
+use Rattle.book.specs.declared.refusal.Refusal.TheVariants.{NoValueRow, TreeSize}
 use Rattle.lineage.specs.Rows.{kind_of, kind_at, is_value, names}
 use Rattle.lineage.proofs.Vectors.{plan, column, apply, apply_both, choose, output, condition}
 use Rattle.lineage.proofs.Vectors.{state, city, price, avg, sum, concat_both}
-use Rattle.trees.specs.Trees.{Node, row_bytes, children, nodes_in, nodes_from, tree_nodes, node_count}
+use Rattle.trees.specs.Trees.{row_bytes, children, nodes_in, nodes_from, tree_nodes, node_count}
+use Rattle.trees.specs.declared.walking.Node.{Node}
 use Rattle.trees.specs.Text.{decimal, kind_word, row_text, line_text, text_of, tree_text}
 use Rattle.trees.specs.Answers.{is_value_row, value_tests, tree_fits, room_tests, written}
 
@@ -118,20 +120,23 @@ doubled_counts = refl
 
 -- Refusals
 
-abbrev refused : ℕ → Tested
-refused n = Refused (record { number = n; place = 0 })
+abbrev passed : Outcome
+passed = Ok tt
+
+abbrev refused : Refusal → Outcome
+refused r = Err r
 
 -- 29: value rows; an Output row and a Condition row; a row that is absent, near and far
 pub shown_rows :
     map (λ i. first_failing (value_tests (shown ++ condition 2) i)) (0 ∷ 3 ∷ 4 ∷ 6 ∷ 7 ∷ 8 ∷ 4294967295 ∷ [])
-    ≡ Passed ∷ Passed ∷ Passed ∷ refused 29 ∷ refused 29 ∷ refused 29 ∷ refused 29 ∷ []
+    ≡ passed ∷ passed ∷ passed ∷ refused NoValueRow ∷ refused NoValueRow ∷ refused NoValueRow ∷ refused NoValueRow ∷ []
 unfolding plan kind_of kind_at is_value is_value_row value_tests first_failing
 shown_rows = refl
 
 -- 30: a buffer as long as the text, and one byte shorter
 pub shown_room :
     map (λ n. first_failing (room_tests shown 5 (replicate n 7))) (84 ∷ 83 ∷ 82 ∷ 0 ∷ [])
-    ≡ Passed ∷ Passed ∷ refused 30 ∷ refused 30 ∷ []
+    ≡ passed ∷ passed ∷ refused TreeSize ∷ refused TreeSize ∷ []
 unfolding plan kind_of kind_at is_value names flat keep row_bytes children nodes_in nodes_from tree_nodes node_count decimal kind_word
     row_text line_text text_of tree_text tree_fits room_tests first_failing
 shown_room = refl

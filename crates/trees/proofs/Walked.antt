@@ -1,36 +1,27 @@
 -- What a walk lists, from what it passes to the walks of the lower rows. Assumes nothing.
-use Prim.Native.Nat.{ℕ, suc, ◌+◌, ◌≤◌, ◌<◌}
+use Prim.Native.Nat.{ℕ, zero, suc, ◌+◌, ◌≤◌, ◌<◌, min}
+use native.Mathlib.Numerals.{add-one}
 use native.Mathlib.Omega.{arith}
-use mathlib.Core.Path.{◌≡◌, refl, sym, ap, ◌∙◌}
+use mathlib.Core.Path.{◌≡◌, refl, sym, ap, subst, ◌∙◌}
 use mathlib.Core.Bool.{true}
-use mathlib.Core.List.{List, [], ◌∷◌, ◌++◌}
+use mathlib.Core.List.{List, [], ◌∷◌, ◌++◌, append_assoc, append-nil}
+use lib.ListN.{length, length-append, get_or, take}
+use lib.Seq.{take_all}
 use borrow.Author.Tests.{lt-ltb, le-ltb, ne_eqb}
-use Rattle.lineage.specs.Rows.{kind_byte, kind_at, is_value, row_a, row_b, row_c}
-use Rattle.trees.specs.Trees.{Node, tree_nodes}
-use Rattle.trees.specs.Inner.Walks.{is_row, lower_row, rank, apply_nodes, choose_nodes, code, codes}
-use Rattle.trees.specs.Inner.Writing.{Put}
-use Rattle.trees.proofs.Nodes.{column_nodes, apply_nodes_law, choose_nodes_law, passed, value_parts}
-use Rattle.trees.proofs.Puts.{put_none, put_then}
+use Rattle.std.specs.Prelude.{Result, Ok, Err}
+use Rattle.book.specs.Lists.{flat}
+use Rattle.lineage.specs.Rows.{kind_at, is_value}
+use Rattle.trees.specs.declared.walking.Node.{Node}
+use Rattle.trees.specs.declared.walking.TooMany.{TooMany}
+use Rattle.trees.specs.Trees.{tree_nodes}
+use Rattle.trees.specs.Inner.Walks.{is_row, rank, apply_nodes, choose_nodes, Listed}
+use Rattle.trees.proofs.Nodes.{passed, top, value_parts}
 
 -- The row number falls
-
-pub rank_none : rank 255 ≡ 0
-unfolding rank is_row
-rank_none = refl
 
 pub rank_row : (r : ℕ) → (r ≡ 255 → ⊥) → rank r ≡ suc r
 unfolding rank is_row
 rank_row r h = rw (ne_eqb r 255 h)
-
-pub lower_row_law : (i r : ℕ) → r < i → i ≤ 255 → (r ≡ lower_row i r) × (rank r ≤ i)
-unfolding lower_row
-lower_row_law i r h l =
-    let k = rank_row r (λ e. omega arith) in
-    (rw (lt-ltb r i h), omega arith)
-
-pub lower_none : (i r : ℕ) → i ≤ r → (255 ≡ lower_row i r) × (rank 255 ≤ i)
-unfolding lower_row
-lower_none i r h = (rw (le-ltb r i h), rw rank_none (omega arith))
 
 -- at each call the row is lower
 pub row_falls : (t r lower : ℕ) → (r ≡ 255 → ⊥) → rank r ≡ t → rank lower ≤ r → rank lower < t
@@ -38,121 +29,180 @@ row_falls t r lower n e l =
     let k = rank_row r n in
     omega arith
 
--- and the level stays within its type
-pub deeper :
-    (level r lower : ℕ) → (r ≡ 255 → ⊥) → level + rank r ≤ 255 → rank lower ≤ r → level + 1 + rank lower ≤ 255
-deeper level r lower n h l =
-    let k = rank_row r n in
+-- of a row that a walk passes on
+pub passed_falls : (r x : ℕ) → r < 255 → x < r → rank x < rank r
+passed_falls r x low l =
+    let k = rank_row x (λ e. omega arith) in
+    row_falls (rank r) r x (λ e. omega arith) refl (omega arith)
+
+-- The lists that a function gives for the members of a list
+
+module _ {A : Type 0} (f : ℕ → List A) where
+  -- one member more
+  flat_more : (xs : List ℕ) (k : ℕ) → k < length xs → flat f (take (suc k) xs) ≡ flat f (take k xs) ++ f (get_or xs k 0)
+  unfolding flat
+  flat_more [] k h = absurd (omega arith)
+  flat_more (x ∷ xs) zero h = append-nil (f x)
+  flat_more (x ∷ xs) (suc k) h =
+      rw (flat_more xs k (omega arith)) (sym (append_assoc (f x) (flat f (take k xs)) (f (get_or xs k 0))))
+
+  flat_within : (xs : List ℕ) (k : ℕ) → length (flat f (take k xs)) ≤ length (flat f xs)
+  unfolding flat
+  flat_within [] zero = omega arith
+  flat_within [] (suc k) = omega arith
+  flat_within (x ∷ xs) zero = omega arith
+  flat_within (x ∷ xs) (suc k) =
+      let e = length-append (f x) (flat f (take k xs)) in
+      let g = length-append (f x) (flat f xs) in
+      let h = flat_within xs k in
+      omega arith
+
+-- Result (Unit {0}) TooManys
+
+pub listed_none : (ns before : List Node) → ns ≡ [] → Listed ns before before (Ok tt)
+listed_none ns before e = rw e (sym (append-nil before))
+
+pub listed_over :
+    (ns before after : List Node) (r : Result (Unit {0}) TooMany) (x : TooMany)
+    → r ≡ Err x
+    → 4096 < length (before ++ ns)
+    → Listed ns before after r
+listed_over ns before after r x e h = rw e h
+
+-- both walks of a row one after the other
+pub listed_then :
+    (ns ms before between after : List Node) (r : Result (Unit {0}) TooMany)
+    → between ≡ before ++ ns
+    → Listed ms between after r
+    → Listed (ns ++ ms) before after r
+listed_then ns ms before between after (Ok u) e h = h ∙ ap (λ xs. xs ++ ms) e ∙ append_assoc before ns ms
+listed_then ns ms before between after (Err x) e h =
+    subst (λ xs. 4096 < length xs) (ap (λ xs. xs ++ ms) e ∙ append_assoc before ns ms) h
+
+over_front : (ns ms before : List Node) → 4096 < length (before ++ ns) → 4096 < length (before ++ (ns ++ ms))
+over_front ns ms before h =
+    let e = length-append before ns in
+    let f = length-append before (ns ++ ms) in
+    let g = length-append ns ms in
     omega arith
 
-pub not_deeper : (level r : ℕ) → (r ≡ 255 → ⊥) → level ≡ 255 → level + rank r ≤ 255 → ⊥
-not_deeper level r n e h =
-    let k = rank_row r n in
-    omega arith
+-- A tree is a value row's
 
--- The nodes as numbers
+pub tree_listed :
+    (plan : List ℕ) (r : ℕ) (before between after : List Node) (told : Result (Unit {0}) TooMany)
+    → is_value (kind_at plan r) ≡ true
+    → between ≡ before ++ apply_nodes plan 0 r
+    → Listed (choose_nodes plan 0 r) between after told
+    → Listed (tree_nodes plan r) before after told
+unfolding tree_nodes
+tree_listed plan r before between after told v e h =
+    rw (value_parts plan 0 r v) (listed_then (apply_nodes plan 0 r) (choose_nodes plan 0 r) before between after told e h)
 
-codes_append : (ns ms : List Node) → codes (ns ++ ms) ≡ codes ns ++ codes ms
-codes_append [] ms = refl
-codes_append (n ∷ ns) ms = ap (λ t. code n ∷ t) (codes_append ns ms)
+pub tree_over :
+    (plan : List ℕ) (r : ℕ) (before after : List Node) (told : Result (Unit {0}) TooMany) (x : TooMany)
+    → is_value (kind_at plan r) ≡ true
+    → told ≡ Err x
+    → 4096 < length (before ++ apply_nodes plan 0 r)
+    → Listed (tree_nodes plan r) before after told
+unfolding tree_nodes
+tree_over plan r before after told x v e h =
+    rw (value_parts plan 0 r v)
+    (listed_over (apply_nodes plan 0 r ++ choose_nodes plan 0 r) before after told x e
+    (over_front (apply_nodes plan 0 r) (choose_nodes plan 0 r) before h))
 
-module _ (plan : List ℕ) (level : ℕ) where
-  -- a row that is passed to both walks
-  both_put :
-      (r : ℕ) (x y z : List ℕ) (p q s : ℕ)
-      → Put (codes (apply_nodes plan level r)) x p y q
-      → Put (codes (choose_nodes plan level r)) y q z s
-      → Put (codes (passed plan level r)) x p z s
-  both_put r x y z p q s h k =
-      rw (codes_append (apply_nodes plan level r) (choose_nodes plan level r))
-      (put_then (codes (apply_nodes plan level r)) (codes (choose_nodes plan level r)) x p y q z s h k)
+-- what is listed in an empty list
+pub listed_whole :
+    (ns before after : List Node) (r : Result (Unit {0}) TooMany) → Listed ns before after r → before ≡ [] → r ≡ Ok tt → after ≡ ns
+listed_whole ns before after r h e ok = rw (ok, e) at h
 
--- nothing is listed for a row that the walk does not take
-pub nothing_put : (ns : List Node) (b : List ℕ) (at : ℕ) → ns ≡ [] → Put (codes ns) b at b at
-nothing_put ns b at e = rw e (put_none b at)
+pub listed_many :
+    (ns before after : List Node) (r : Result (Unit {0}) TooMany) (x : TooMany)
+    → Listed ns before after r
+    → before ≡ []
+    → r ≡ Err x
+    → 4096 < length ns
+listed_many ns before after r x h e err = rw (err, e) at h
+
+-- The loop of a walk
+
+-- a level deeper the row is lower
+pub deeper : (level r x s : ℕ) → level + r ≤ 255 → x < r → s ≡ min (level + 1) 255 → (s ≡ level + 1) × (s + x ≤ 255)
+deeper level r x s h l e = (omega arith, omega arith)
 
 -- the row's own node, then each row that it names by both walks in turn
 module _
-    (plan : List ℕ) (level r : ℕ) (n : r ≡ 255 → ⊥) (deep : level + rank r ≤ 255) (k : ℕ) (e : k ≡ kind_byte plan r)
+    (plan : List ℕ) (level r : ℕ) (before ns : List Node) (rs : List ℕ)
+    (parts : ns ≡ top plan level r ∷ flat (passed plan (level + 1) r) rs)
   where
-    low : r ≤ 255
-    low =
-        let k = rank_row r n in
-        omega arith
+    abbrev pub walked : ℕ → List Node
+    walked k = before ++ top plan level r ∷ flat (passed plan (level + 1) r) (take k rs)
 
-    abbrev top : Node
-    top = record { level = level; row = r }
+    pub walked_all : (now : List Node) (k : ℕ) → length rs ≤ k → now ≡ walked k → now ≡ before ++ ns
+    walked_all now k h e = rw (take_all k rs h, ← parts) at e
 
-    pub column_put :
-        k ≡ 1
-        → (x y : List ℕ) (p q : ℕ)
-        → Put (code top ∷ []) x p y q
-        → Put (codes (apply_nodes plan level r)) x p y q
-    column_put k1 x y p q h = rw (column_nodes plan level r n low (sym e ∙ k1)) h
+    -- what is listed is part of the whole
+    within : (k : ℕ) → length (walked k) ≤ length (before ++ ns)
+    within k =
+        let P = passed plan (level + 1) r in
+        let e = length-append before (top plan level r ∷ flat P (take k rs)) in
+        let f = length-append before (top plan level r ∷ flat P rs) in
+        let g = flat_within P rs k in
+        rw parts (omega arith)
 
-    pub apply_put :
-        k ≡ 2
-        → (b c : ℕ)
-        → b ≡ lower_row r (row_b plan r)
-        → c ≡ lower_row r (row_c plan r)
-        → (x₀ x₁ x₂ x₃ x₄ x₅ : List ℕ) (p₀ p₁ p₂ p₃ p₄ p₅ : ℕ)
-        → Put (code top ∷ []) x₀ p₀ x₁ p₁
-        → Put (codes (apply_nodes plan (level + 1) b)) x₁ p₁ x₂ p₂
-        → Put (codes (choose_nodes plan (level + 1) b)) x₂ p₂ x₃ p₃
-        → Put (codes (apply_nodes plan (level + 1) c)) x₃ p₃ x₄ p₄
-        → Put (codes (choose_nodes plan (level + 1) c)) x₄ p₄ x₅ p₅
-        → Put (codes (apply_nodes plan level r)) x₀ p₀ x₅ p₅
-    apply_put k2 b c eb ec =
-        rw (eb, ec)
-        (λ x₀ x₁ x₂ x₃ x₄ x₅ p₀ p₁ p₂ p₃ p₄ p₅ h₀ h₁ h₂ h₃ h₄.
-        let B = passed plan (level + 1) (lower_row r (row_b plan r)) in
-        let C = passed plan (level + 1) (lower_row r (row_c plan r)) in
-        rw (apply_nodes_law plan level r n low (sym e ∙ k2), codes_append B C)
-        (put_then (code top ∷ []) (codes B ++ codes C) x₀ p₀ x₁ p₁ x₅ p₅ h₀
-        (put_then (codes B) (codes C) x₁ p₁ x₃ p₃ x₅ p₅ (both_put plan (level + 1) _ _ _ _ _ _ _ h₁ h₂)
-        (both_put plan (level + 1) _ _ _ _ _ _ _ h₃ h₄))))
+    module _ (after : List Node) (told : Result (Unit {0}) TooMany) (x : TooMany) (err : told ≡ Err x) where
+      pub over_top : 4096 < length (before ++ top plan level r ∷ []) → Listed ns before after told
+      over_top h =
+          listed_over ns before after told x err
+          (rw parts (over_front (top plan level r ∷ []) (flat (passed plan (level + 1) r) rs) before h))
 
-    pub choose_put :
-        k ≡ 3
-        → (a b c : ℕ)
-        → a ≡ lower_row r (row_a plan r)
-        → b ≡ lower_row r (row_b plan r)
-        → c ≡ lower_row r (row_c plan r)
-        → (x₀ x₁ x₂ x₃ x₄ x₅ x₆ x₇ : List ℕ) (p₀ p₁ p₂ p₃ p₄ p₅ p₆ p₇ : ℕ)
-        → Put (code top ∷ []) x₀ p₀ x₁ p₁
-        → Put (codes (apply_nodes plan (level + 1) a)) x₁ p₁ x₂ p₂
-        → Put (codes (choose_nodes plan (level + 1) a)) x₂ p₂ x₃ p₃
-        → Put (codes (apply_nodes plan (level + 1) b)) x₃ p₃ x₄ p₄
-        → Put (codes (choose_nodes plan (level + 1) b)) x₄ p₄ x₅ p₅
-        → Put (codes (apply_nodes plan (level + 1) c)) x₅ p₅ x₆ p₆
-        → Put (codes (choose_nodes plan (level + 1) c)) x₆ p₆ x₇ p₇
-        → Put (codes (choose_nodes plan level r)) x₀ p₀ x₇ p₇
-    choose_put k3 a b c ea eb ec =
-        rw (ea, eb, ec)
-        (λ x₀ x₁ x₂ x₃ x₄ x₅ x₆ x₇ p₀ p₁ p₂ p₃ p₄ p₅ p₆ p₇ h₀ h₁ h₂ h₃ h₄ h₅ h₆.
-        let A = passed plan (level + 1) (lower_row r (row_a plan r)) in
-        let B = passed plan (level + 1) (lower_row r (row_b plan r)) in
-        let C = passed plan (level + 1) (lower_row r (row_c plan r)) in
-        rw (choose_nodes_law plan level r n low (sym e ∙ k3), codes_append A (B ++ C), codes_append B C)
-        (put_then (code top ∷ []) (codes A ++ (codes B ++ codes C)) x₀ p₀ x₁ p₁ x₇ p₇ h₀
-        (put_then (codes A) (codes B ++ codes C) x₁ p₁ x₃ p₃ x₇ p₇ (both_put plan (level + 1) _ _ _ _ _ _ _ h₁ h₂)
-        (put_then (codes B) (codes C) x₃ p₃ x₅ p₅ x₇ p₇ (both_put plan (level + 1) _ _ _ _ _ _ _ h₃ h₄)
-        (both_put plan (level + 1) _ _ _ _ _ _ _ h₅ h₆)))))
+    module _ (k : ℕ) (h : k < length rs) (now : List Node) (e : now ≡ walked k) where
+      abbrev x : ℕ
+      x = get_or rs k 0
 
--- the top row is no child, and a value row
-pub top_deep : (r : ℕ) → r < 64 → 0 + rank r ≤ 255
-top_deep r h =
-    let k = rank_row r (λ e. omega arith) in
-    omega arith
+      more : (ms : List Node) → passed plan (level + 1) r x ≡ ms → now ++ ms ≡ walked (k + 1)
+      more ms p =
+          let P = passed plan (level + 1) r in
+          rw (add-one k, flat_more P rs k h, p, e)
+          (append_assoc before (top plan level r ∷ flat P (take k rs)) ms)
 
-pub tree_put :
-    (plan : List ℕ) (r : ℕ)
-    → r < 64
-    → is_value (kind_at plan r) ≡ true
-    → (x y z : List ℕ) (p q : ℕ)
-    → Put (codes (apply_nodes plan 0 r)) x 0 y p
-    → Put (codes (choose_nodes plan 0 r)) y p z q
-    → Put (codes (tree_nodes plan r)) x 0 z q
-unfolding tree_nodes
-tree_put plan r h v x y z p q f g =
-    rw (value_parts plan 0 r (λ e. omega arith) v) (both_put plan 0 r x y z 0 p q f g)
+      -- a row that is not lower is none
+      pub walked_past : r ≤ x → now ≡ walked (k + 1)
+      walked_past l = sym (append-nil now) ∙ more [] (rw (le-ltb x r l))
+
+      module _ (s : ℕ) (deep : s ≡ level + 1) (l : x < r) where
+        both : now ++ (apply_nodes plan s x ++ choose_nodes plan s x) ≡ walked (k + 1)
+        both = more (apply_nodes plan s x ++ choose_nodes plan s x) (rw (lt-ltb x r l, deep))
+
+        pub walked_more :
+            (between after : List Node)
+            → between ≡ now ++ apply_nodes plan s x
+            → after ≡ between ++ choose_nodes plan s x
+            → after ≡ walked (k + 1)
+        walked_more between after f g =
+            g
+            ∙ ap (λ ms. ms ++ choose_nodes plan s x) f
+            ∙ append_assoc now (apply_nodes plan s x) (choose_nodes plan s x)
+            ∙ both
+
+        module _ (after : List Node) (told : Result (Unit {0}) TooMany) (y : TooMany) (err : told ≡ Err y) where
+          over_both :
+              4096 < length (now ++ (apply_nodes plan s x ++ choose_nodes plan s x))
+              → Listed ns before after told
+          over_both m =
+              let f = ap length both in
+              let g = within (k + 1) in
+              listed_over ns before after told y err (omega arith)
+
+          pub over_apply : 4096 < length (now ++ apply_nodes plan s x) → Listed ns before after told
+          over_apply m = over_both (over_front (apply_nodes plan s x) (choose_nodes plan s x) now m)
+
+          pub over_choose :
+              (between : List Node)
+              → between ≡ now ++ apply_nodes plan s x
+              → 4096 < length (between ++ choose_nodes plan s x)
+              → Listed ns before after told
+          over_choose between f m =
+              over_both
+              (subst (λ ms. 4096 < length ms)
+              (ap (λ ms. ms ++ choose_nodes plan s x) f ∙ append_assoc now (apply_nodes plan s x) (choose_nodes plan s x))
+              m)

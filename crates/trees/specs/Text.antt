@@ -2,7 +2,8 @@
 use Rattle.std.specs.Prelude.{ℕ, ◌+◌, ◌*◌, ◌/◌, ◌%◌, cond, List, [], ◌∷◌, ◌++◌, replicate, eqb, ltb}
 use Rattle.book.specs.Lists.{flat}
 use Rattle.lineage.specs.Rows.{Plan, Kind, Column, Apply, Choose, Output, Condition, Unknown, kind_at}
-use Rattle.trees.specs.Trees.{Node, tree_nodes}
+use Rattle.trees.specs.Trees.{tree_nodes}
+use Rattle.trees.specs.declared.walking.Node.{Node}
 
 abbrev pub line_feed : ℕ
 line_feed = 10

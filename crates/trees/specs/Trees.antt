@@ -1,8 +1,10 @@
--- The lineage tree of a value row: its nodes, in the order in which they are written. Document 02, N7. Assumes nothing.
+-- The lineage tree of a value row: its nodes, in the order in which they are written. Document 02, N7. A node is a row
+-- at a level below the top, `Node` in src/walking.rt. Assumes nothing.
 use Rattle.std.specs.Prelude.{ℕ, zero, suc, ◌+◌, List, [], ◌∷◌, length}
 use Rattle.book.specs.Lists.{flat, keep}
 use Rattle.lineage.specs.Rows.{Plan, Kind, Column, Apply, Choose, Output, Condition, Unknown}
 use Rattle.lineage.specs.Rows.{kind_at, row_a, row_b, row_c, names}
+use Rattle.trees.specs.declared.walking.Node.{Node}
 
 -- which of a, b, c may be rows: a of Apply is a function
 unfoldable pub row_bytes : Kind → (a b c : ℕ) → List ℕ
@@ -17,11 +19,6 @@ row_bytes Unknown a b c = []
 -- "A named row is lower than the row naming it and of kind 1 to 3".
 unfoldable pub children : Plan → (row : ℕ) → List ℕ
 children plan i = keep (names plan i) (row_bytes (kind_at plan i) (row_a plan i) (row_b plan i) (row_c plan i))
-
--- a node: its level below the top, and its row
-pub record Node : Type 0 where
-  pub level : ℕ
-  pub row : ℕ
 
 -- "a node before its children"; "A row reached twice is written twice." At most `steps` levels.
 unfoldable pub nodes_in : (steps : ℕ) → Plan → (level row : ℕ) → List Node

@@ -1,93 +1,73 @@
-// Tree: the lineage tree of a value row, as text at the front of a lent buffer.
-ghost use Rattle.std.specs.Prelude.{◌≡◌, true, ℕ, ◌<◌};
-ghost use Rattle.book.specs.Blocks.{head_of};
+//! Tree: the lineage tree of a value row, as text at the front of a lent buffer.
+ghost use Rattle.std.specs.Prelude.{◌≡◌, true, ◌<◌, Ok, Err, IfOk};
 ghost use Rattle.book.specs.Tests.{answered, first_failing};
-ghost use Rattle.book.specs.Inner.Words.{HeadWords};
 ghost use Rattle.lineage.specs.Rows.{is_value, kind_at};
 ghost use Rattle.trees.specs.Text.{tree_text};
 ghost use Rattle.trees.specs.Answers.{drawn, room_tests, tree_row_tests, tree_answer, tree_buffer, value_tests, written};
 ghost use Rattle.trees.specs.Demand.{Draws};
 
-use crate::lines::{first, text_length, write_lines};
-use crate::walking::list_tree;
-use crate::{Drawn, NO_VALUE_ROW, TREE_SIZE};
+use crate::Written;
+use crate::lines::{text_length, write_lines};
+use crate::walking::{Nodes, list_tree};
 use book::bytes::byte_at;
-use book::checking::test_book;
-use book::fields::head_of;
-use book::testing::{or_else, test};
-use book::words::head_words;
-use book::{Refusal, Tested};
+use book::testing::ensure;
+use book::{Book, Refusal};
 use lineage::rows::{is_value, test_plan};
 
-// The refusal 30.
-fn too_large() -> Drawn
-    ensures { result ≡ Drawn.Refused (record { number = 30; place = 0 }) }
-{
-    Drawn::Refused(Refusal {
-        number: TREE_SIZE,
-        place: 0,
-    })
-}
-
-// The tree of a value row, or 30. Its nodes are listed, and the text's length is known, before anything
-// is written. The list has one place more than a tree may have nodes.
-fn write_tree(plan: &[u8], row: u8, buffer: &mut [u8]) -> Drawn
+/// The tree of a value row, or 30. Its nodes are listed, and the text's length is known, before anything
+/// is written.
+fn write_tree(plan: &[u8], row: u8, buffer: &mut [u8]) -> Result<Written, Refusal>
     ensures { row < 64
         → is_value (kind_at plan.now row) ≡ true
-        → (result ≡ answered (room_tests plan.now row buffer.old) Drawn.Refused
-        (drawn plan.now row))
+        → (result ≡ answered (room_tests plan.now row buffer.old) Err (Ok (drawn plan.now row)))
         × (buffer.new ≡ answered (room_tests plan.now row buffer.old)
         (λ refusal. buffer.old) (written (tree_text plan.now row) buffer.old)) }
 {
-    let mut list = [0u16; 4097];
-    let count = list_tree(plan, row, &mut list);
-    if 4096 < count {
-        return too_large();
-    }
-    let nodes = first(&list, count);
-    let length = text_length(plan, nodes);
+    let mut nodes = Nodes::new();
+    list_tree(plan, row, &mut nodes).map_err(|_| Refusal::TreeSize)?;
+    let length = text_length(plan, &nodes);
     if buffer.len() < length {
-        return too_large();
+        return Err(Refusal::TreeSize);
     }
-    write_lines(plan, nodes, buffer);
-    Drawn::Written {
-        nodes: count as u32,
+    write_lines(plan, &nodes, buffer);
+    // 4096 nodes and 2129920 bytes at most: the check proves that both casts fit.
+    Ok(Written {
+        nodes: nodes.len() as u32,
         length: length as u32,
-    }
+    })
 }
 
-// The test 29.
-fn test_value(plan: &[u8], row: u32) -> Tested
+/// The test 29.
+fn test_value(plan: &[u8], row: u32) -> Result<(), Refusal>
     ensures { result ≡ first_failing (value_tests plan.now row) }
 {
+    // `as`: `usize` has no `From<u32>`.
     let at = row as usize;
     let there = at < plan.len() / 4;
-    let kind = byte_at(plan, 4 * at);
-    test(NO_VALUE_ROW, 0, there & is_value(kind))
+    // The kind's byte: `Row::read` takes a row's number, and the row asked for may be past 255.
+    let kind = usize::from(byte_at(plan, 4 * at));
+    ensure(there & is_value(kind), Refusal::NoValueRow)
 }
 
-// The tests of the book, of the plan, of the row.
-fn test_row(book: &[u8], t: &[u64], plan: &[u8], row: u32) -> Tested
-    ensures { HeadWords (head_of book.now) t.now
-        → result ≡ first_failing (tree_row_tests book.now plan.now row) }
+/// The tests of the book, of the plan, of the row.
+#[tactic(auto, using(book::proofs::Answers::list_stopped, book::proofs::Answers::list_went_on), unfolding(crate::specs::Answers::tree_row_tests))]
+fn test_row(book: &[u8], plan: &[u8], row: u32) -> Result<(), Refusal>
+    ensures { result ≡ first_failing (tree_row_tests book.now plan.now row) }
 {
-    let both = or_else(test_book(book, t), test_plan(head_of(book), plan));
-    or_else(both, test_value(plan, row))
+    let book = Book::new(book)?;
+    test_plan(book.head(), plan)?;
+    test_value(plan, row)
 }
 
-// Tree: a line for each node at the buffer's front, and how many nodes and bytes that is. A refusal
-// leaves the buffer as it was.
-pub fn tree(book: &[u8], plan: &[u8], row: u32, buffer: &mut [u8]) -> Drawn
-    ensures { (result ≡ tree_answer book.now plan.now row buffer.old)
-        × (buffer.new ≡ tree_buffer book.now plan.now row buffer.old)
-        × ((nodes bytes : ℕ)
-        → result ≡ Drawn.Written nodes bytes
-        → Draws plan.now row buffer.old buffer.new nodes bytes) }
+/// Tree: a line for each node at the buffer's front, and how many nodes and bytes that is. A refusal
+/// leaves the buffer as it was.
+pub fn tree(book: &[u8], plan: &[u8], row: u32, buffer: &mut [u8]) -> Result<Written, Refusal>
+    ensures answer { result ≡ tree_answer book.now plan.now row buffer.old }
+    ensures buffer { buffer.new ≡ tree_buffer book.now plan.now row buffer.old }
+    ensures draws { IfOk result (λ written.
+        Draws plan.now row buffer.old buffer.new written.nodes written.length) }
 {
-    let t = head_words(head_of(book));
-    let outcome = test_row(book, &t, plan, row);
-    match outcome {
-        Tested::Refused(refusal) => Drawn::Refused(refusal),
-        Tested::Passed => write_tree(plan, row as u8, buffer),
-    }
+    test_row(book, plan, row)?;
+    // Tested: the row is one of 64, and the cast is proved to fit.
+    write_tree(plan, row as u8, buffer)
 }

@@ -1,39 +1,38 @@
-// The accesses among 32 words, laid out as in Flows, as text.
-use crate::answers::{Answer, say};
-use book::sets::word_at;
+//! Accesses as text.
+use std::fmt;
 
-// An access as text: p for projection or c for condition, the leaf and the operation.
-fn named(answer: Answer, n: usize) -> Answer {
-    answer
-        .either(n < 1024, b" p", b" c")
-        .number((n / 16 % 64) as u64)
-        .text(b".")
-        .number((n % 16) as u64)
+/// The accesses among 32 words, laid out as in Flows: p for projection or c for condition, the leaf and the
+/// operation. Projections come first, then all goes by leaf, then by operation.
+#[derive(Clone, Copy)]
+pub struct Accesses<'a>(pub &'a [u64]);
+
+/// Those of one channel, whose words go by operation.
+fn write_channel<W: fmt::Write>(
+    f: &mut fmt::Formatter<W>,
+    channel: &str,
+    words: &[u64],
+) -> fmt::Result {
+    // the bits of a word are by number
+    for leaf in 0..64u32 {
+        for (operation, word) in words.iter().enumerate() {
+            if *word >> leaf & 1 == 1 {
+                write!(f, " {channel}{leaf}.{operation}")?;
+            }
+        }
+    }
+    Ok(())
 }
 
-// With access n, where it is among the words from start on: projections come first, then all goes by
-// leaf, then by operation.
-fn with_access(answer: Answer, words: &[u64], start: usize, n: usize) -> Answer {
-    let word = word_at(words, start.wrapping_add(n / 1024 * 16 + n % 16));
-    if (word >> (n / 16 % 64)) % 2 == 0 {
-        return answer;
+impl fmt::Display for Accesses<'_> {
+    fn fmt<W: fmt::Write>(&self, f: &mut fmt::Formatter<W>) -> fmt::Result {
+        let words = self.0;
+        if words.iter().all(|word| *word == 0) {
+            return f.write_str(" no accesses");
+        }
+        if let Some((projections, conditions)) = words.split_at_checked(16) {
+            write_channel(f, "p", projections)?;
+            write_channel(f, "c", conditions)?;
+        }
+        Ok(())
     }
-    named(answer, n)
-}
-
-fn or_none(accesses: Answer) -> Answer {
-    if accesses.is(b"") {
-        return say(b" no accesses");
-    }
-    accesses
-}
-
-// Those among the 32 words from start on.
-pub fn accesses(words: &[u64], start: usize) -> Answer {
-    let mut answer = say(b"");
-    for n in 0..2048usize {
-        let next = with_access(answer, words, start, n);
-        answer = next;
-    }
-    or_none(answer)
 }

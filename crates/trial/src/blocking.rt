@@ -1,40 +1,52 @@
-// Blocked. A case has the rule, and the book's length in bytes where that is not seven blocks. An
-// answer is a refusal, or open, or the user with an action and a leaf for each reference.
-use crate::answers::{Answer, refused, say};
-use crate::numbers::Numbers;
-use blocked::{Blocking, blocked};
-use book::bytes::part;
+//! Blocked. A case has the rule, and the book's length in bytes where that is not seven blocks. An
+//! answer is a refusal, or open, or the user with an action and a leaf for each reference.
+use crate::answers::{Answer, Refused};
+use crate::calls::{Call, Case};
+use crate::records::Records;
+use blocked::blocked;
+use std::fmt;
 
-// With what a reference has, as text; nothing for an absent one.
-fn with_datum(answer: Answer, datum: u32) -> Answer {
-    if datum == 0 {
-        return answer;
-    }
-    let leaf = (datum % 64) as u64;
-    match datum / 64 {
-        2 => answer.text(b" projection ").number(leaf),
-        3 => answer.text(b" condition ").number(leaf),
-        _ => answer.text(b" neither ").number(datum as u64),
-    }
-}
+/// What a reference has, as text; nothing for an absent one.
+#[derive(Clone, Copy)]
+struct Datum(u32);
 
-fn said(found: Blocking) -> Answer {
-    match found {
-        Blocking::Open => say(b" open"),
-        Blocking::Closed {
-            user,
-            first,
-            second,
-            third,
-        } => {
-            let one = with_datum(say(b" user ").number(user as u64), first);
-            with_datum(with_datum(one, second), third)
+impl fmt::Display for Datum {
+    fn fmt<W: fmt::Write>(&self, f: &mut fmt::Formatter<W>) -> fmt::Result {
+        let datum = self.0;
+        let leaf = datum % 64;
+        // By the numbers of `Closed`, which are the C interface's.
+        match datum / 64 {
+            2 => write!(f, " projection {leaf}"),
+            3 => write!(f, " condition {leaf}"),
+            _ if datum == 0 => Ok(()),
+            _ => write!(f, " neither {datum}"),
         }
-        Blocking::Refused(r) => refused(r),
     }
 }
 
-pub fn answered(asked: Numbers, blocks: &[u8]) -> Answer {
-    let book = part(blocks, 0, asked.or(1, 3584) as usize);
-    said(blocked(book, asked.number(0)))
+/// The cases of Blocked.
+pub struct Block;
+
+impl Call for Block {
+    type Kept = Records;
+
+    const ROWS: bool = false;
+
+    const LEAST: usize = 1;
+
+    const MOST: usize = 2;
+
+    fn answered(case: &Case<'_>, _: &mut Records) -> Answer {
+        Ok(match blocked(case.book(1), case.numbers.number(0)) {
+            Ok(None) => format!(in case.alloc; " open")?,
+            Ok(Some(closed)) => {
+                let user = closed.user;
+                let first = Datum(closed.first);
+                let second = Datum(closed.second);
+                let third = Datum(closed.third);
+                format!(in case.alloc; " user {user}{first}{second}{third}")?
+            }
+            Err(refusal) => format!(in case.alloc; "{}", Refused(refusal))?,
+        })
+    }
 }

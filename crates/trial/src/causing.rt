@@ -1,39 +1,47 @@
-// Culprits. A case has the rule, and the book's length in bytes where that is not seven blocks. An
-// answer is a refusal, or unblocked, or the other rules.
-use crate::answers::{Answer, refused, say};
-use crate::numbers::Numbers;
-use blocked::{Causes, culprits};
-use book::bytes::part;
-use book::sets::contains;
+//! Culprits. A case has the rule, and the book's length in bytes where that is not seven blocks. An
+//! answer is a refusal, or unblocked, or the other rules.
+use crate::answers::{Answer, Refused};
+use crate::calls::{Call, Case};
+use crate::records::Records;
+use blocked::culprits;
+use std::fmt;
 
-// With the rules of a mask, as text.
-fn with_rules(answer: Answer, mask: u64) -> Answer {
-    let mut rules = answer;
-    for q in 0..32u64 {
-        if contains(mask, q as usize) {
-            let next = rules.text(b" ").number(q);
-            rules = next;
+/// The rules of a mask as text.
+#[derive(Clone, Copy)]
+struct Rules(u32);
+
+impl fmt::Display for Rules {
+    fn fmt<W: fmt::Write>(&self, f: &mut fmt::Formatter<W>) -> fmt::Result {
+        if self.0 == 0 {
+            return f.write_str(" none");
         }
-    }
-    rules
-}
-
-fn others(mask: u32) -> Answer {
-    if mask == 0 {
-        return say(b" others none");
-    }
-    with_rules(say(b" others"), mask as u64)
-}
-
-fn said(found: Causes) -> Answer {
-    match found {
-        Causes::Unblocked => say(b" unblocked"),
-        Causes::Few(mask) => others(mask),
-        Causes::Refused(r) => refused(r),
+        // the bits of a word are by number
+        for rule in 0..32u32 {
+            if self.0 >> rule & 1 == 1 {
+                write!(f, " {rule}")?;
+            }
+        }
+        Ok(())
     }
 }
 
-pub fn answered(asked: Numbers, blocks: &[u8]) -> Answer {
-    let book = part(blocks, 0, asked.or(1, 3584) as usize);
-    said(culprits(book, asked.number(0)))
+/// The cases of Culprits.
+pub struct Culprits;
+
+impl Call for Culprits {
+    type Kept = Records;
+
+    const ROWS: bool = false;
+
+    const LEAST: usize = 1;
+
+    const MOST: usize = 2;
+
+    fn answered(case: &Case<'_>, _: &mut Records) -> Answer {
+        Ok(match culprits(case.book(1), case.numbers.number(0)) {
+            Ok(None) => format!(in case.alloc; " unblocked")?,
+            Ok(Some(mask)) => format!(in case.alloc; " others{}", Rules(mask))?,
+            Err(refusal) => format!(in case.alloc; "{}", Refused(refusal))?,
+        })
+    }
 }

@@ -1,12 +1,25 @@
-// Book check. A case has the book's length in bytes where that is not seven blocks.
-use crate::answers::{Answer, refused, say};
-use crate::numbers::Numbers;
-use book::bytes::part;
-use book::{Checked, check};
+//! Book check. A case has the book's length in bytes where that is not seven blocks.
+use crate::answers::{Answer, Refused};
+use crate::calls::{Call, Case};
+use crate::records::Records;
+use book::check;
 
-pub fn answered(asked: Numbers, book: &[u8]) -> Answer {
-    match check(part(book, 0, asked.or(0, 3584) as usize)) {
-        Checked::Accepted(rules) => say(b" accepted ").number(rules as u64),
-        Checked::Refused(r) => refused(r),
+/// The cases of Book check.
+pub struct Check;
+
+impl Call for Check {
+    type Kept = Records;
+
+    const ROWS: bool = false;
+
+    const LEAST: usize = 0;
+
+    const MOST: usize = 1;
+
+    fn answered(case: &Case<'_>, _: &mut Records) -> Answer {
+        Ok(match check(case.book(0)) {
+            Ok(rules) => format!(in case.alloc; " accepted {rules}")?,
+            Err(refusal) => format!(in case.alloc; "{}", Refused(refusal))?,
+        })
     }
 }

@@ -1,72 +1,84 @@
-// Tree. A case has the row, the buffer's length where that is not 2000 bytes, the length in bytes at
-// which the plan is cut where it is, and the book's length in bytes where that is not seven blocks. An
-// answer is a refusal, or the nodes, the text's length and the text with / for each line feed: of a
-// text above 400 bytes the first 200 and the last 40. Then whether the buffer's other bytes, which are
-// 255 before the call, and 16 bytes or more after it, are kept.
-use crate::answers::{Answer, malformed, refused, say};
-use crate::numbers::Numbers;
-use book::bytes::{part, saturating_sub, smaller};
-use trees::{Drawn, tree};
+//! Tree. A case has the row, the buffer's length where that is not 2000 bytes, the length in bytes at
+//! which the plan is cut where it is, and the book's length in bytes where that is not seven blocks. An
+//! answer is a refusal, or the nodes, the text's length and the text with / for each line feed: of a
+//! text above 400 bytes the first 200 and the last 40. Then whether the buffer's other bytes, which are
+//! 255 before the call, and 16 bytes or more after it, are kept.
+use crate::answers::{Answer, Fault, Refused, either};
+use crate::calls::{Call, Case};
+use crate::records::Records;
+use crate::text::{front, rest};
+use book::Refusal;
+use std::fmt;
+use trees::{Written, tree};
 
-fn with_text(answer: Answer, text: &[u8]) -> Answer {
-    let mut shown = answer;
-    for i in 0..text.len() {
-        let next = shown.either(text[i] == 10, b"/", part(text, i, 1));
-        shown = next;
+/// A text in one line.
+#[derive(Clone, Copy)]
+struct Lines<'a>(&'a [u8]);
+
+fn write_lines<W: fmt::Write>(f: &mut fmt::Formatter<W>, text: &[u8]) -> fmt::Result {
+    for byte in text {
+        let shown = if *byte == b'\n' { b'/' } else { *byte };
+        f.write_char(char::from(shown))?;
     }
-    shown
+    Ok(())
 }
 
-fn with_lines(answer: Answer, text: &[u8]) -> Answer {
-    if text.len() <= 400 {
-        return with_text(answer, text);
-    }
-    let last = part(text, saturating_sub(text.len(), 40), 40);
-    with_text(with_text(answer, part(text, 0, 200)).text(b" .. "), last)
-}
-
-fn all_ones(bytes: &[u8]) -> bool {
-    let mut ok = true;
-    for i in 0..bytes.len() {
-        ok = ok & (bytes[i] == 255);
-    }
-    ok
-}
-
-fn kept(answer: Answer, buffer: &[u8], start: usize) -> Answer {
-    let rest = part(buffer, start, buffer.len());
-    answer.either(all_ones(rest), b" kept", b" changed")
-}
-
-fn said(drawn: Drawn, buffer: &[u8]) -> Answer {
-    match drawn {
-        Drawn::Refused(r) => kept(refused(r), buffer, 0),
-        Drawn::Written { nodes, length } => {
-            let counts = say(b" nodes ")
-                .number(nodes as u64)
-                .text(b" bytes ")
-                .number(length as u64)
-                .text(b": ");
-            let bytes = length as usize;
-            kept(with_lines(counts, part(buffer, 0, bytes)), buffer, bytes)
+impl fmt::Display for Lines<'_> {
+    fn fmt<W: fmt::Write>(&self, f: &mut fmt::Formatter<W>) -> fmt::Result {
+        let text = self.0;
+        let length = text.len();
+        if length <= 400 {
+            return write_lines(f, text);
         }
+        write_lines(f, front(text, 200))?;
+        f.write_str(" .. ")?;
+        write_lines(f, rest(text, length.saturating_sub(40)))
     }
 }
 
-// Tree, lent the front of a buffer.
-fn tree_in(book: &[u8], plan: &[u8], row: u32, buffer: &mut [u8], length: usize) -> Drawn {
-    let end = smaller(length, buffer.len());
-    tree(book, plan, row, &mut buffer[0..end])
+fn kept(buffer: &[u8], start: usize) -> &'static str {
+    let same = rest(buffer, start).iter().all(|byte| *byte == 255);
+    either(same, " kept", " changed")
 }
 
-pub fn answered(asked: Numbers, blocks: &[u8], plan: &[u8]) -> Answer {
-    let length = asked.or(1, 2000) as usize;
-    if 130000 < length {
-        return malformed();
+fn said(case: &Case<'_>, drawn: Result<Written, Refusal>, buffer: &[u8]) -> Answer {
+    Ok(match drawn {
+        Err(refusal) => {
+            let kept = kept(buffer, 0);
+            format!(in case.alloc; "{}{kept}", Refused(refusal))?
+        }
+        Ok(Written { nodes, length }) => {
+            // `as`: `usize` has no `From<u32>`
+            let length = length as usize;
+            let lines = Lines(front(buffer, length));
+            let kept = kept(buffer, length);
+            format!(in case.alloc; " nodes {nodes} bytes {length}: {lines}{kept}")?
+        }
+    })
+}
+
+/// The cases of Tree.
+pub struct Draw;
+
+impl Call for Draw {
+    type Kept = Records;
+
+    const ROWS: bool = true;
+
+    const LEAST: usize = 1;
+
+    const MOST: usize = 4;
+
+    fn answered(case: &Case<'_>, _: &mut Records) -> Answer {
+        let length = case.numbers.length(1, 2000);
+        if 130_000 < length {
+            return Err(Fault::Malformed);
+        }
+        let mut buffer = vec![in case.alloc; 255; length + 16]?;
+        let Some(lent) = buffer.as_mut_slice().get_mut(..length) else {
+            return Err(Fault::Malformed);
+        };
+        let drawn = tree(case.book(3), case.plan(2), case.numbers.number(0), lent);
+        said(case, drawn, buffer.as_slice())
     }
-    let mut buffer = [255u8; 130016];
-    let rows = part(plan, 0, asked.or(2, 1028) as usize);
-    let book = part(blocks, 0, asked.or(3, 3584) as usize);
-    let drawn = tree_in(book, rows, asked.number(0), &mut buffer, length);
-    said(drawn, &buffer)
 }

@@ -1,68 +1,71 @@
-// Idle. A case has the rule, the book's length in bytes where that is not seven blocks, and the
-// buffer's length and the byte that fills it (0 or 255) where those are not 36 and 255. An answer is a
-// refusal, or idle, or the user and the plan with the mask that Judge gives for both; then whether
-// the buffer's other bytes, and 16 bytes or more after it, are kept.
-use crate::answers::{Answer, malformed, refused, say};
-use crate::numbers::Numbers;
-use crate::text::same;
-use book::bytes::part;
-use search::{Idleness, idle};
-use verdicts::{Judged, judge};
+//! Idle. A case has the rule, the book's length in bytes where that is not seven blocks, and the
+//! buffer's length and the byte that fills it (0 or 255) where those are not 36 and 255. An answer is a
+//! refusal, or idle, or the user and the plan with the mask that Judge gives for both; then whether
+//! the buffer's other bytes, and 16 bytes or more after it, are kept.
+use crate::answers::{Answer, Fault, Refused, either};
+use crate::calls::{Call, Case};
+use crate::records::Records;
+use crate::text::{front, rest};
+use search::{Shown, idle};
+use std::fmt;
+use verdicts::judge;
 
-// With a plan as text: a space and eight hexadecimal digits a row.
-fn with_rows(shown: Answer, plan: &[u8]) -> Answer {
-    let mut answer = shown;
-    for i in 0..plan.len() {
-        let next = answer.either(i % 4 == 0, b" ", b"").hex(plan[i]);
-        answer = next;
-    }
-    answer
-}
+/// A plan as text: a space and eight hexadecimal digits a row.
+// policyreport prints the same, and no plainer in one: it would have to stand in a crate of the engine.
+#[derive(Clone, Copy)]
+struct Rows<'a>(&'a [u8]);
 
-fn with_mask(shown: Answer, judged: Judged) -> Answer {
-    match judged {
-        Judged::Broken(mask) => shown.text(b" judged ").number(mask as u64),
-        Judged::Refused(_) => shown.text(b" judged refused"),
-    }
-}
-
-fn needed(book: &[u8], user: u32, plan: &[u8]) -> Answer {
-    let shown = say(b" user ").number(user as u64).text(b" plan");
-    with_mask(with_rows(shown, plan), judge(book, user, plan))
-}
-
-// Whether the bytes from start on are what they were.
-fn kept(answer: Answer, buffer: [u8; 80], first: [u8; 80], start: usize) -> Answer {
-    answer.either(
-        same(part(&buffer, start, 80), part(&first, start, 80)),
-        b" kept",
-        b" changed",
-    )
-}
-
-fn said(book: &[u8], found: Idleness, buffer: [u8; 80], first: [u8; 80]) -> Answer {
-    match found {
-        Idleness::Idle => kept(say(b" idle"), buffer, first, 0),
-        Idleness::Needed { user, rows } => {
-            let length = 4 * (rows as usize);
-            let shown = needed(book, user, part(&buffer, 0, length));
-            kept(shown, buffer, first, length)
+impl fmt::Display for Rows<'_> {
+    fn fmt<W: fmt::Write>(&self, f: &mut fmt::Formatter<W>) -> fmt::Result {
+        let (rows, _) = self.0.as_chunks::<4>();
+        for row in rows {
+            write!(f, " {:08x}", u32::from_be_bytes(*row))?;
         }
-        Idleness::Refused(r) => kept(refused(r), buffer, first, 0),
+        Ok(())
     }
 }
 
-fn buffered(book: &[u8], rule: u32, length: usize, first: [u8; 80]) -> Answer {
-    if 80 < length {
-        return malformed();
-    }
-    let mut buffer = first;
-    let found = idle(book, rule, &mut buffer[0..length]);
-    said(book, found, buffer, first)
+fn needed(case: &Case<'_>, user: u32, plan: &[u8], kept: &str) -> Answer {
+    let rows = Rows(plan);
+    Ok(match judge(case.book(1), user, plan) {
+        Ok(broken) => {
+            let mask = broken.mask;
+            format!(in case.alloc; " user {user} plan{rows} judged {mask}{kept}")?
+        }
+        Err(_) => format!(in case.alloc; " user {user} plan{rows} judged refused{kept}")?,
+    })
 }
 
-pub fn answered(asked: Numbers, blocks: &[u8]) -> Answer {
-    let book = part(blocks, 0, asked.or(1, 3584) as usize);
-    let fill = (asked.or(3, 255) % 256) as u8;
-    buffered(book, asked.number(0), asked.or(2, 36) as usize, [fill; 80])
+/// The cases of Idle.
+pub struct Idle;
+
+impl Call for Idle {
+    type Kept = Records;
+
+    const ROWS: bool = false;
+
+    const LEAST: usize = 1;
+
+    const MOST: usize = 4;
+
+    fn answered(case: &Case<'_>, _: &mut Records) -> Answer {
+        let [fill, ..] = case.numbers.or(3, 255).to_le_bytes();
+        let mut buffer = [fill; 80];
+        let Some(lent) = buffer.get_mut(..case.numbers.length(2, 36)) else {
+            return Err(Fault::Malformed);
+        };
+        let found = idle(case.book(1), case.numbers.number(0), lent);
+        let length = match found {
+            // `as`: `usize` has no `From<u32>`
+            Ok(Some(Shown { rows, .. })) => 4 * (rows as usize),
+            _ => 0,
+        };
+        let same = rest(&buffer, length).iter().all(|byte| *byte == fill);
+        let kept = either(same, " kept", " changed");
+        match found {
+            Ok(None) => Ok(format!(in case.alloc; " idle{kept}")?),
+            Ok(Some(shown)) => needed(case, shown.user, front(&buffer, length), kept),
+            Err(refusal) => Ok(format!(in case.alloc; "{}{kept}", Refused(refusal))?),
+        }
+    }
 }

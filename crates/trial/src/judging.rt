@@ -1,22 +1,28 @@
-// Judge. A case has the user, the book's length in bytes where that is not seven blocks, and the
-// length at which the plan is cut, where it is. An answer is a refusal, or the mask of the broken
-// rules.
-use crate::answers::{Answer, refused, say};
-use crate::numbers::Numbers;
-use book::bytes::part;
-use verdicts::{Judged, judge};
+//! Judge. A case has the user, the book's length in bytes where that is not seven blocks, and the
+//! length at which the plan is cut, where it is. An answer is a refusal, or the mask of the broken
+//! rules.
+use crate::answers::{Answer, Refused};
+use crate::calls::{Call, Case};
+use crate::records::Records;
+use verdicts::judge;
 
-fn said(judged: Judged) -> Answer {
-    match judged {
-        Judged::Broken(mask) => say(b" broken ").number(mask as u64),
-        Judged::Refused(r) => refused(r),
+/// The cases of Judge.
+pub struct Judge;
+
+impl Call for Judge {
+    type Kept = Records;
+
+    const ROWS: bool = true;
+
+    const LEAST: usize = 1;
+
+    const MOST: usize = 3;
+
+    fn answered(case: &Case<'_>, _: &mut Records) -> Answer {
+        let judged = judge(case.book(1), case.numbers.number(0), case.plan(2));
+        Ok(match judged {
+            Ok(broken) => format!(in case.alloc; " broken {}", broken.mask)?,
+            Err(refusal) => format!(in case.alloc; "{}", Refused(refusal))?,
+        })
     }
-}
-
-pub fn answered(asked: Numbers, book: &[u8], plan: &[u8]) -> Answer {
-    said(judge(
-        part(book, 0, asked.or(1, 3584) as usize),
-        asked.number(0),
-        part(plan, 0, asked.or(2, 1028) as usize),
-    ))
 }

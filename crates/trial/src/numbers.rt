@@ -1,96 +1,74 @@
-// Decimal numbers in a text: at most five, with spaces or line ends between them.
-// More than five, or something else than numbers.
-const MALFORMED: usize = 6;
+//! Decimal numbers in a text: at most five, with spaces or line ends between them.
+ghost use Rattle.std.specs.Prelude.{◌^◌, ◌<◌};
 
+/// Those that there are, then `None`.
 #[derive(Clone, Copy)]
-pub struct Numbers {
-    values: [u32; 5],
-    // How many there are, or MALFORMED.
-    count: usize,
-    // Whether one more is being read.
-    open: bool,
-}
+pub struct Numbers([Option<u32>; 5]);
 
-fn zeros(count: usize) -> Numbers {
-    Numbers {
-        values: [0u32; 5],
-        count: count,
-        open: false,
+// `parse` takes a sign, and a case has none.
+fn number(digits: &[u8]) -> Option<u32> {
+    if digits.starts_with(b"+") {
+        return None;
     }
+    str::from_utf8(digits).ok()?.parse().ok()
 }
 
-// A number with one digit more, which may be too large.
-fn longer(value: u32, digit: u8) -> u64 {
-    10 * (value as u64) + digit as u64
+/// The numbers of a text; `None` where there are more than five, or something else than numbers.
+pub fn read(text: &[u8]) -> Option<Numbers> {
+    let mut words = text
+        .split(|byte| *byte <= b' ')
+        .filter(|word| !word.is_empty());
+    let mut found = [None; 5];
+    for place in &mut found {
+        let Some(word) = words.next() else {
+            break;
+        };
+        *place = Some(number(word)?);
+    }
+    match words.next() {
+        Some(_) => None,
+        None => Some(Numbers(found)),
+    }
 }
 
 impl Numbers {
-    fn with_digit(mut self, digit: u8) -> Numbers {
-        let at = self.count;
-        if 4 < at {
-            return zeros(MALFORMED);
-        }
-        let value = longer(self.values[at], digit);
-        if 4294967295 < value {
-            return zeros(MALFORMED);
-        }
-        self.values[at] = value as u32;
-        self.open = true;
-        self
+    /// Whether there are at least and at most so many.
+    pub fn within(&self, least: usize, most: usize) -> bool {
+        let count = self.0.iter().flatten().count();
+        (least..=most).contains(&count)
     }
 
-    // What is being read ends.
-    fn closed(mut self) -> Numbers {
-        let at = self.count;
-        if self.open {
-            if at < 5 {
-                self.count = at + 1;
-                self.open = false;
-            }
-        }
-        self
+    /// Number i, or the other one where there is none.
+    pub fn or(&self, i: usize, other: u32) -> u32 {
+        self.0.get(i).copied().flatten().unwrap_or(other)
     }
 
-    fn with_byte(self, byte: u8) -> Numbers {
-        if byte <= b' ' {
-            return self.closed();
-        }
-        if byte < b'0' {
-            return zeros(MALFORMED);
-        }
-        if b'9' < byte {
-            return zeros(MALFORMED);
-        }
-        self.with_digit(byte - b'0')
+    /// Number i; 0 where there is none.
+    pub fn number(&self, i: usize) -> u32 {
+        self.or(i, 0)
     }
 
-    // Whether there are at least and at most so many.
-    pub fn within(self, least: usize, most: usize) -> bool {
-        (least <= self.count) & (self.count <= most)
-    }
-
-    // Number i; 0 where there is none.
-    pub fn number(self, i: usize) -> u32 {
-        if i < 5 {
-            return self.values[i];
-        }
-        0
-    }
-
-    // Number i, or the other one where there is none.
-    pub fn or(self, i: usize, other: u32) -> u32 {
-        if i < self.count {
-            return self.number(i);
-        }
-        other
+    /// Number i as a length or an index, or the other one where there is none.
+    pub fn length(&self, i: usize, other: u32) -> usize
+        ensures { result < 2 ^ 32 }
+    {
+        // no plainer without `as`: `usize` has no `From<u32>`
+        self.or(i, other) as usize
     }
 }
 
-pub fn read(s: &[u8]) -> Numbers {
-    let mut found = zeros(0);
-    for i in 0..s.len() {
-        let next = found.with_byte(s[i]);
-        found = next;
+/// Reads what stands between commas and has each part change what is lent, also after one that is malformed.
+/// Where nothing is written nothing changes. Answers whether all of it is well formed.
+// The requires: a closure's type does not say that it may be called.
+pub fn each<T, F: Fn(&mut T, &Numbers) -> bool>(text: &[u8], lent: &mut T, change: F) -> bool
+    requires { F.IsAlwaysCallable change }
+{
+    let mut sound = true;
+    for part in text.split(|byte| *byte == b',') {
+        sound &= match read(part) {
+            Some(numbers) => numbers.within(0, 0) || change(lent, &numbers),
+            None => false,
+        };
     }
-    found.closed()
+    sound
 }

@@ -1,45 +1,78 @@
-// Plans to try.
-//
-// Rows are text: the kind, a, b and c, and commas between the rows. Where a row stands more than
-// once, a star follows, then how many times, and what each row adds to a, b and c of the one before.
+//! Plans to try.
+//!
+//! Rows are text: the kind, a, b and c, and commas between the rows. Where a row stands more than
+//! once, a star follows, then how many times, and what each row adds to a, b and c of the one before.
 use crate::numbers;
 use crate::numbers::Numbers;
-use crate::spaces::{Space, zeros};
-use crate::text::{after, before, piece, starts};
+use crate::text::cut;
+use std::alloc::{AllocError, Global};
 
-// Writes byte k of a row and of those that repeat it.
-fn with_bytes(plan: Space, k: usize, row: Numbers, step: u32, times: u32) -> Space {
-    let start = plan.length.wrapping_add(k);
-    plan.put_times(start, 4, row.number(k), step, times)
+/// As many rows as fit in the blocks of a book to try.
+const ROOM: usize = 4736;
+
+// A flag beside the rows and no `Result`: what is malformed is tried too.
+/// A plan, and whether its rows are well formed.
+#[derive(Drop)]
+pub struct Plan {
+    pub rows: Vec<[u8; 4]>,
+    pub sound: bool,
 }
 
-fn with_rows(plan: Space, row: Numbers, more: Numbers, times: u32) -> Space {
-    let kinds = with_bytes(plan, 0, row, 0, times);
-    let firsts = with_bytes(kinds, 1, row, more.number(1), times);
-    let seconds = with_bytes(firsts, 2, row, more.number(2), times);
-    with_bytes(seconds, 3, row, more.number(3), times).longer(4 * (times as usize))
-}
-
-// Writes what stands between two commas; where nothing is written there is no row.
-fn with_text(plan: Space, rows: &[u8]) -> Space {
-    let row = numbers::read(before(rows, b'*'));
-    let more = numbers::read(after(rows, b'*'));
-    if row.within(0, 0) & more.within(0, 0) {
-        return plan;
+impl Plan {
+    /// What is no byte is malformed, and 0.
+    fn byte(&mut self, value: u32) -> u8 {
+        u8::try_from(value).unwrap_or_else(|_| {
+            self.sound = false;
+            0
+        })
     }
-    if row.within(4, 4) & more.within(0, 4) {
-        return with_rows(plan, row, more, more.or(0, 1));
-    }
-    plan.malformed()
-}
 
-pub fn plan_of(text: &[u8]) -> Space {
-    let mut plan = zeros();
-    for i in 0..text.len() {
-        if starts(text, i, b',') {
-            let next = with_text(plan, piece(text, i, b','));
-            plan = next;
+    /// Adds a row, and those that repeat it. One without room is malformed.
+    fn add(&mut self, row: &Numbers, more: &Numbers) -> Result<(), AllocError> {
+        let mut values = [row.number(1), row.number(2), row.number(3)];
+        // so many times, and each row is made from the one before
+        for _ in 0..more.or(0, 1) {
+            if ROOM <= self.rows.len() {
+                self.sound = false;
+                break;
+            }
+            let [a, b, c] = values;
+            let kind = self.byte(row.number(0));
+            let bytes = [kind, self.byte(a), self.byte(b), self.byte(c)];
+            self.rows.push(bytes)?;
+            values = [
+                a.wrapping_add(more.number(1)),
+                b.wrapping_add(more.number(2)),
+                c.wrapping_add(more.number(3)),
+            ];
+        }
+        Ok(())
+    }
+
+    /// Adds what stands between two commas; where nothing is written there is no row.
+    fn read(&mut self, text: &[u8]) -> Result<(), AllocError> {
+        let (row, more) = cut(text, b'*');
+        match (numbers::read(row), numbers::read(more)) {
+            (Some(row), Some(more)) if row.within(0, 0) && more.within(0, 0) => Ok(()),
+            (Some(row), Some(more)) if row.within(4, 4) && more.within(0, 4) => {
+                self.add(&row, &more)
+            }
+            _ => {
+                self.sound = false;
+                Ok(())
+            }
         }
     }
-    plan
+}
+
+/// The plan of a text.
+pub fn plan_of(alloc: Global, text: &[u8]) -> Result<Plan, AllocError> {
+    let mut plan = Plan {
+        rows: Vec::new(alloc),
+        sound: true,
+    };
+    for part in text.split(|byte| *byte == b',') {
+        plan.read(part)?;
+    }
+    Ok(plan)
 }

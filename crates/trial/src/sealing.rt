@@ -1,90 +1,83 @@
-// Seal. A case has a length and the edits of a space of zeros, of which the first bytes are sealed,
-// twice, and all of it compared with what it was. A check holds where Book check does not refuse
-// block 0 for it: the space has the length of a book.
-use crate::answers::{Answer, refused, say};
-use crate::books::edited;
-use crate::numbers::Numbers;
-use crate::spaces::zeros;
-use crate::text::same;
-use book::bytes::{byte_at, part};
-use book::{Checked, Sealed, check, seal};
-
-#[derive(Clone, Copy)]
-struct Outcome {
-    sealed: Sealed,
-    bytes: [u8; 18944],
-}
+//! Seal. A case has a length and the edits of a space of zeros, of which the first bytes are sealed,
+//! twice, and all of it compared with what it was. A check holds where Book check does not refuse
+//! block 0 for it: the space has the length of a book.
+use crate::answers::{Answer, Fault, Refused, either};
+use crate::books::{ZEROS, edit};
+use crate::calls::{Line, Table};
+use crate::numbers;
+use crate::records::Records;
+use crate::text::{cut, front, rest};
+use book::{Refusal, check, seal};
+use std::alloc::Global;
 
 fn check_holds(space: &[u8]) -> bool {
-    match check(part(space, 0, 2048)) {
-        Checked::Accepted(_) => true,
-        Checked::Refused(r) => (r.number != 2) | (r.place != 0),
-    }
+    check(front(space, 2048)) != Err(Refusal::BlockCheck { block: 0 })
 }
 
-// Whether all is as it was but for the bytes of the check.
+/// Whether all is as it was but for the bytes of the check.
 fn others_kept(space: &[u8], first: &[u8]) -> bool {
-    let low = same(part(space, 0, 510), part(first, 0, 510));
-    low & same(part(space, 512, 18944), part(first, 512, 18944))
+    front(space, 510) == front(first, 510) && rest(space, 512) == rest(first, 512)
 }
 
-fn stored_check(space: &[u8]) -> u64 {
-    (256 * byte_at(space, 510) + byte_at(space, 511)) as u64
-}
-
-fn done(space: &[u8], first: &[u8]) -> Answer {
-    say(b" done, check ")
-        .number(stored_check(space))
-        .either(check_holds(space), b" holds", b" fails")
-        .either(
-            others_kept(space, first),
-            b", other bytes unchanged",
-            b", other bytes changed",
-        )
-}
-
-// What Seal answered, and what became of the space's other bytes.
-fn said(sealed: Sealed, space: &[u8], first: &[u8]) -> Answer {
-    match sealed {
-        Sealed::Done => done(space, first),
-        Sealed::Refused(r) => {
-            refused(r).either(same(space, first), b", unchanged", b", changed")
+/// What Seal answered, and what became of the space's other bytes.
+fn said(
+    alloc: Global,
+    sealed: Result<(), Refusal>,
+    space: &[u8],
+    first: &[u8],
+    again: &str,
+) -> Answer {
+    Ok(match sealed {
+        Ok(()) => {
+            let stored = match rest(space, 510) {
+                [high, low, ..] => u16::from_be_bytes([*high, *low]),
+                _ => 0,
+            };
+            let holds = either(check_holds(space), "holds", "fails");
+            let others = either(others_kept(space, first), "unchanged", "changed");
+            format!(in alloc; " done, check {stored} {holds}, other bytes {others}, {again}")?
         }
-    }
+        Err(refusal) => {
+            let kept = either(space == first, "unchanged", "changed");
+            format!(in alloc; "{}, {kept}, {again}", Refused(refusal))?
+        }
+    })
 }
 
-// The space with its first bytes sealed, and what Seal answered.
-fn sealed(space: [u8; 18944], length: usize) -> Outcome {
-    let mut bytes = space;
-    if 18944 < length {
-        return Outcome {
-            sealed: Sealed::Done,
-            bytes: bytes,
+/// The cases of Seal.
+pub struct Seal;
+
+impl Table for Seal {
+    type Kept = Records;
+
+    fn tried(line: &Line<'_>, _: &mut Records) -> Answer {
+        let (numbers, edits) = cut(line.parts, b'|');
+        let mut blocks = ZEROS;
+        let sound = edit(&mut blocks, edits);
+        let length = match numbers::read(numbers) {
+            Some(numbers) if sound && numbers.within(1, 1) => numbers.length(0, 0),
+            _ => return Err(Fault::Malformed),
         };
+        let first = blocks;
+        let Some(lent) = blocks.as_flattened_mut().get_mut(..length) else {
+            return Err(Fault::Malformed);
+        };
+        let sealed = seal(lent);
+        let once = blocks;
+        if let Some(lent) = blocks.as_flattened_mut().get_mut(..length) {
+            let _ = seal(lent);
+        }
+        let again = either(
+            blocks == once,
+            "the same when sealed again",
+            "not the same when sealed again",
+        );
+        said(
+            line.alloc,
+            sealed,
+            once.as_flattened(),
+            first.as_flattened(),
+            again,
+        )
     }
-    let sealed = seal(&mut bytes[0..length]);
-    Outcome {
-        sealed: sealed,
-        bytes: bytes,
-    }
-}
-
-fn sealed_twice(first: [u8; 18944], length: usize) -> Answer {
-    let once = sealed(first, length);
-    let space = once.bytes;
-    let again = sealed(space, length);
-    let twice = again.bytes;
-    let answer = once.sealed;
-    said(answer, &space, &first).either(
-        same(&twice, &space),
-        b", the same when sealed again",
-        b", not the same when sealed again",
-    )
-}
-
-pub fn answered(asked: Numbers, edits: &[u8]) -> Answer {
-    let space = edited(zeros(), edits);
-    let bytes = space.bytes;
-    let length = asked.number(0) as usize;
-    sealed_twice(bytes, length).if_sound(space.sound & (length <= 18944))
 }

@@ -6,6 +6,7 @@ use mathlib.Core.Path.{◌≡◌, refl, sym, ◌∙◌}
 use mathlib.Core.Logic.{◌⊎◌, inl, inr, ⊎_elim}
 use mathlib.Core.Bool.{Bool, true, false, ◌&&◌, ◌||◌, not, false≢true}
 use mathlib.Core.List.{List, map}
+use Rattle.std.specs.Prelude.{Option, Some, None}
 use lib.Dec.{eqb, ltb}
 use borrow.Author.Tests.{eqb-true, eqb-false, eq-eqb, lt-ltb, ltb-true, ltb-false}
 use Rattle.book.specs.Lists.{flat, any, all, up_to}
@@ -13,11 +14,9 @@ use Rattle.book.specs.Hierarchies.{leaf, covers}
 use Rattle.book.specs.Head.{data_count, data_parent, is_data_leaf}
 use Rattle.book.specs.Rule.{action, data_category, exclusions, in_leaf_set, reference_count}
 use Rattle.book.specs.declared.Action.{Action}
-use Rattle.book.specs.declared.ActionByte.{ActionByte}
-use Rattle.book.specs.declared.ActionByte.TheVariants.{Names, NamesNone}
 use Rattle.book.proofs.Lists.{and_left, and_right, and_both, any_map, map_all, any_found, same_test}
-use Rattle.verdicts.specs.declared.actions.Channel.{Channel}
-use Rattle.verdicts.specs.declared.actions.Channel.TheVariants as done
+use Rattle.lineage.specs.declared.rows.Channel.{Channel}
+use Rattle.lineage.specs.declared.rows.Channel.TheVariants as done
 use Rattle.verdicts.specs.Actions.{action_fits, channel_fits, number_of}
 use Rattle.verdicts.specs.Accesses.{Access, Accesses, same, every_access, fits, fitting}
 use Rattle.verdicts.proofs.Quantifiers.{any_flat, flat_all, any_keep, all_below, at_any}
@@ -100,18 +99,18 @@ in_every head x p k h =
 -- Actions and leaf sets
 
 pub names_fits :
-    (does : Channel) (action : Action) → channel_fits (number_of does) (Names action) ≡ action_fits does action
+    (does : Channel) (action : Action) → channel_fits (number_of does) (Some action) ≡ action_fits does action
 unfolding channel_fits
 names_fits done.Projection action = refl
 names_fits done.Condition action = refl
 
 -- what fits some action is a projection or a condition
-pub action_channel : (s : ℕ) (byte : ActionByte) → channel_fits s byte ≡ true → s < 2
+pub action_channel : (s : ℕ) (names : Option Action) → channel_fits s names ≡ true → s < 2
 unfolding channel_fits
-action_channel zero byte h = omega arith
-action_channel (suc zero) byte h = omega arith
-action_channel (suc (suc s)) (Names action) h = absurd (false≢true h)
-action_channel (suc (suc s)) NamesNone h = absurd (false≢true h)
+action_channel zero names h = omega arith
+action_channel (suc zero) names h = omega arith
+action_channel (suc (suc s)) (Some action) h = absurd (false≢true h)
+action_channel (suc (suc s)) None h = absurd (false≢true h)
 
 pub leaf_below : (head : List ℕ) (d : ℕ) → is_data_leaf head d ≡ true → d < data_count head
 unfolding is_data_leaf leaf

@@ -5,12 +5,12 @@ use native.Mathlib.Omega.{arith}
 use mathlib.Core.Path.{◌≡◌, refl}
 use mathlib.Core.Logic.{◌⊎◌, inl, inr}
 use mathlib.Core.Bool.{true, false≢true}
+use Rattle.std.specs.Prelude.{Option, Some, None}
 use Rattle.book.specs.Refusals.{names_action}
+use Rattle.book.specs.declared.Action.{Action}
 use Rattle.book.specs.declared.Action.TheVariants as named
-use Rattle.book.specs.declared.ActionByte.{ActionByte}
-use Rattle.book.specs.declared.ActionByte.TheVariants.{Names, NamesNone}
 use Rattle.book.proofs.Accepted.{accepted_rule}
-use Rattle.verdicts.specs.declared.actions.Channel.TheVariants as done
+use Rattle.lineage.specs.declared.rows.Channel.TheVariants as done
 use Rattle.verdicts.specs.Actions.{action_fits, channel_fits}
 use Rattle.verdicts.specs.Accesses.{Access, fits}
 use Rattle.verdicts.specs.ActionCases.{Fits, NeverFits, OneOfTwo, OneOfThree, NoOtherCase}
@@ -53,12 +53,12 @@ two_channels x l = by_number x.channel l
     by_number (suc zero) l = inr refl
     by_number (suc (suc s)) l = absurd (omega arith)
 
-three_actions : (byte : ActionByte) → names_action byte ≡ true → OneOfThree byte
+three_actions : (names : Option Action) → names_action names ≡ true → OneOfThree names
 unfolding names_action
-three_actions (Names named.Projection) h = inl refl
-three_actions (Names named.Condition) h = inr (inl refl)
-three_actions (Names named.Access) h = inr (inr refl)
-three_actions NamesNone h = absurd (false≢true h)
+three_actions (Some named.Projection) h = inl refl
+three_actions (Some named.Condition) h = inr (inl refl)
+three_actions (Some named.Access) h = inr (inr refl)
+three_actions None h = absurd (false≢true h)
 
 pub no_other_case : NoOtherCase
 no_other_case =

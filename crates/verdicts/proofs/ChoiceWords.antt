@@ -25,14 +25,14 @@ use Rattle.verdicts.proofs.Choices.{refuses_three, refused_by_operations}
 -- The steps of the code
 
 -- the code's `third & !taken != 0`
-module _ (masks : List ℕ) (a b third taken : ℕ) (lt : third < 2 ^ 64) (lu : taken < 2 ^ 64)
+module _ (masks : List (List ℕ)) (a b third taken : ℕ) (lt : third < 2 ^ 64) (lu : taken < 2 ^ 64)
     (took : Beside masks a b taken) where
-  third_test : not (eqb (bit_and third ((2 ^ 64 - 1) - taken)) 0) ≡ third_refused masks third a b
+  pub third_test : not (eqb (bit_and third ((2 ^ 64 - 1) - taken)) 0) ≡ third_refused masks third a b
   unfolding third_refused
   third_test =
       not_empty 64 (bit_and third ((2 ^ 64 - 1) - taken)) (lt_of_le_of_lt (and_le_l third ((2 ^ 64 - 1) - taken)) lt)
       ∙ any_same (has (bit_and third ((2 ^ 64 - 1) - taken)))
-      (λ c. has third c && not (any (takes masks a b c) (up_to 8)))
+      (λ c. has third c && not (any (takes a b c) masks))
       (λ c. rw (has_minus 64 third taken c lt lu, took c)) (up_to 64)
 
   pub third_taken : bit_and third ((2 ^ 64 - 1) - taken) ≡ 0 → third_refused masks third a b ≡ false
@@ -119,14 +119,14 @@ module _ (head rule : List ℕ) (accesses : Accesses) (sound : RuleSound head ru
       (λ b m. rw (none_offered word (offer 2) offered (refuses_three rule a b) e) (and_false (offer 1 b))))
       ∙ and_false (offer 0 a))
 
-  module _ (masks : List ℕ) (first second third : ℕ) (took : Taken rule masks)
+  module _ (masks : List (List ℕ)) (first second third : ℕ) (took : Taken rule masks)
       (one : Offered head rule accesses 0 first)
       (two : Offered head rule accesses 1 second)
       (three : Offered head rule accesses 2 third) where
     third_words : (a b : ℕ) → a < 16 → b < 16 → third_refused masks third a b ≡ thirds a b
     unfolding third_refused offer thirds refuses_three
     third_words a b la lb =
-        any_offered third (offer 2) three (λ c. not (any (takes masks a b c) (up_to 8))) (refuses_three rule a b) 64
+        any_offered third (offer 2) three (λ c. not (any (takes a b c) masks)) (refuses_three rule a b) 64
         (omega arith)
         (λ c lc. ap not (taken_beside rule masks a b c took sound.restrictions la lb lc))
 

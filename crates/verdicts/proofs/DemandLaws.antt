@@ -13,9 +13,8 @@ use Rattle.lineage.proofs.Accepted.{accepted_plan}
 use Rattle.verdicts.specs.Accesses.{Access, Accesses, accesses_of}
 use Rattle.verdicts.specs.Breaking.{breaks, broken_mask}
 use Rattle.verdicts.specs.Semantics.{SatisfiesRule, SatisfiesPolicy}
-use Rattle.verdicts.specs.Answers.{judge_answer}
+use Rattle.verdicts.specs.Answers.{Judged, judge_answer}
 use Rattle.verdicts.specs.Demand.{JudgeAccepted, Demand2, Judges}
-use Rattle.verdicts.specs.declared.Judged.{Judged}
 use Rattle.verdicts.proofs.Held.{plan_operations}
 use Rattle.verdicts.proofs.Semantic.{satisfies_not_broken, not_broken_satisfies}
 use Rattle.verdicts.proofs.Verdict.{mask_bit, none_broken}
@@ -71,17 +70,15 @@ module _ (book : List ℕ) (user : ℕ) (query : Accesses) (low : (x : Access) �
 pub judge_promises :
     (book : List ℕ) (user : ℕ) (plan : List ℕ) (answer : Judged)
     → answer ≡ judge_answer book user plan
-    → (answer ≡ judge_answer book user plan) × (JudgeAccepted book user plan → Judges book user plan answer)
-judge_promises book user plan answer e = (e, promised)
-  where
-    promised : JudgeAccepted book user plan → Judges book user plan answer
-    promised given =
-        let query = accesses_of (head_of book) plan in
-        record {
-          mask = broken_mask book user query;
-          answers = e ∙ judge_answer_law book user plan (judge_passes book user plan given);
-          demand =
-              query_demand book user query
-              (plan_operations (head_of book) plan (accepted_head book given.book_accepted)
-              (accepted_plan (head_of book) plan given.plan_accepted));
-        }
+    → JudgeAccepted book user plan
+    → Judges book user plan answer
+judge_promises book user plan answer e given =
+    let query = accesses_of (head_of book) plan in
+    record {
+      mask = broken_mask book user query;
+      answers = e ∙ judge_answer_law book user plan (judge_passes book user plan given);
+      demand =
+          query_demand book user query
+          (plan_operations (head_of book) plan (accepted_head book given.book_accepted)
+          (accepted_plan (head_of book) plan given.plan_accepted));
+    }

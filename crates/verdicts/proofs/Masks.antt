@@ -1,25 +1,26 @@
 -- Laws of the masks of restrictions: the operations that one mask takes, all masks of a rule as words, and what some
 -- restriction takes beside two operations. Assumes nothing.
-use Prim.Native.Nat.{ℕ, ◌+◌, ◌*◌, ◌≤◌, ◌<◌}
-use native.Mathlib.Nat.{add-zero}
+use Prim.Native.Nat.{ℕ, zero, suc, ◌+◌, ◌*◌, ◌/◌, ◌≤◌, ◌<◌}
+use native.Mathlib.Nat.{zero-add}
 use native.Mathlib.Omega.{arith}
-use mathlib.Core.Path.{◌≡◌, refl, ◌∙◌}
-use mathlib.Core.Bool.{Bool, true, false, ◌&&◌, cond}
-use mathlib.Core.List.{List}
-use lib.ListN.{length, get_or, set, replicate}
-use lib.Seq.{get_or-set_same, get_or-set_other}
-use lib.Dec.{eqb, ltb}
+use mathlib.Core.Path.{◌≡◌, refl, sym, ap, ◌∙◌}
+use mathlib.Core.Bool.{Bool, true, false, ◌&&◌, ◌||◌}
+use mathlib.Core.List.{List, []}
+use lib.ListN.{length, get_or, take, drop, replicate}
+use lib.Seq.{length-take-le}
+use lib.Dec.{ltb}
 use lib.Bits.{bit_or}
-use borrow.Author.Tests.{ltb-true, ltb-false, lt-ltb, le-ltb, eqb-true, eqb-false, ne_eqb}
+use borrow.Author.Tests.{ltb-true, ltb-false, lt-ltb, ne_eqb}
+use Rattle.std.specs.Simd.{first_chunks}
+use Rattle.std.proofs.lemmas.List.{get_or-take, get_or-drop, length-drop}
 use Rattle.book.specs.Lists.{any, up_to}
 use Rattle.book.specs.Sets.{has}
 use Rattle.book.specs.Rule.{restriction_count, restriction_mask}
-use Rattle.book.proofs.Lists.{and_end, and_assoc, any_none, any_more, any_from_same, ltb_more, same_test}
+use Rattle.book.proofs.Lists.{and_end, and_assoc, or_end, any_from_same}
 use Rattle.book.proofs.Members.{has_zero, has_or, has_above, has_below}
 use Rattle.lineage.proofs.Steps.{get_d_zeros}
-use Rattle.verdicts.specs.Inner.Words.{mask_takes, beside, Taken, takes}
-use Rattle.verdicts.proofs.Marks.{has_if}
-use Rattle.verdicts.proofs.Quantifiers.{any_below}
+use Rattle.verdicts.specs.Inner.Words.{mask_takes, beside, MaskRow, Taken, takes, Beside}
+use Rattle.verdicts.proofs.Quantifiers.{any_below, any_first, any_listed}
 
 -- One mask
 
@@ -37,103 +38,108 @@ mask_other mask k n small = rw (ne_eqb mask 0 n) (go (ltb k 16) refl)
 
 -- The masks of a rule
 
--- mask m of a rule block, three for each restriction
-abbrev mask_in : (rule : List ℕ) (m : ℕ) → ℕ
-mask_in rule m = 256 * get_or rule (64 + 2 * m) 0 + get_or rule (65 + 2 * m) 0
+-- byte i of chunk j
+chunk_at :
+    (k : ℕ) (xs : List ℕ) (j i : ℕ)
+    → j < k
+    → i < 6
+    → get_or (get_or (first_chunks 6 k xs) j []) i 0 ≡ get_or xs (6 * j + i) 0
+chunk_at zero xs j i h l = absurd (omega arith)
+chunk_at (suc k) xs zero i h l = rw (zero-add i) (get_or-take 6 xs i 0 l)
+chunk_at (suc k) xs (suc j) i h l =
+    let e : 6 + (6 * j + i) ≡ 6 * suc j + i = omega arith in
+    chunk_at k (drop 6 xs) j i (omega arith) l ∙ get_or-drop 6 xs (6 * j + i) 0 ∙ ap (λ m. get_or xs m 0) e
 
--- the words below n hold what their masks take, the others nothing
-abbrev pub TakenTo : (rule masks : List ℕ) (n : ℕ) → Type 0
-TakenTo rule masks n =
-    (m k : ℕ) → has (get_or masks m 0) k ≡ (ltb m n && (ltb k 16 && mask_takes (mask_in rule m) k))
+-- the bytes of the masks, in rows of six, and what their words hold
+module _ (rule : List ℕ) (rows masks : List (List ℕ)) (n : ℕ) (count : n ≡ restriction_count rule) where
+  abbrev front : List ℕ
+  front = take 48 (drop 64 rule)
 
-module _ (rule : List ℕ) where
-  pub taken_none : (n : ℕ) → TakenTo rule (replicate n 0) 0
-  taken_none n m k = rw (get_d_zeros n m, has_zero, le-ltb m 0 (omega arith))
-
-  pub taken_more :
-      (masks : List ℕ) (n word : ℕ)
-      → TakenTo rule masks n
-      → n < length masks
-      → ((k : ℕ) → has word k ≡ (ltb k 16 && mask_takes (mask_in rule n) k))
-      → TakenTo rule (set masks n word) (n + 1)
-  taken_more masks n word old small new m k = go (eqb m n) refl
+  pub taken_row :
+      (j i k : ℕ)
+      → 112 ≤ length rule
+      → rows ≡ first_chunks 6 (length front / 6) front
+      → j < 8
+      → i < 3
+      → (j < n → MaskRow (get_or rows j []) (get_or masks j []))
+      → (n ≤ j → get_or masks j [] ≡ replicate 3 0)
+      → has (get_or (get_or masks j []) i 0) k
+      ≡ (ltb j (restriction_count rule) && (ltb k 16 && mask_takes (restriction_mask rule j i) k))
+  taken_row j i k whole e lj li there absent = rw (← count) (go (ltb j n) refl)
     where
+      byte : (m : ℕ) → m < 6 → get_or (get_or rows j []) m 0 ≡ get_or rule (64 + 6 * j + m) 0
+      byte m l =
+          let size : length front ≡ 48 = length-take-le 48 (drop 64 rule) (rw (length-drop 64 rule) (omega arith)) in
+          let f : 64 + (6 * j + m) ≡ 64 + 6 * j + m = omega arith in
+          ap (λ (r : List (List ℕ)). get_or (get_or r j []) m 0) e
+          ∙ chunk_at (length front / 6) front j m (omega arith) l
+          ∙ get_or-take 48 (drop 64 rule) (6 * j + m) 0 (omega arith)
+          ∙ get_or-drop 64 rule (6 * j + m) 0
+          ∙ ap (λ p. get_or rule p 0) f
+
       go :
           (b : Bool)
-          → eqb m n ≡ b
-          → has (get_or (set masks n word) m 0) k ≡ (ltb m (n + 1) && (ltb k 16 && mask_takes (mask_in rule m) k))
-      go true e =
-          rw (eqb-true m n e, get_or-set_same masks n word 0 small, lt-ltb n (n + 1) (omega arith)) (new k)
-      go false e =
-          let apart = eqb-false m n e in
-          rw (get_or-set_other masks n m word 0 apart, ltb_more m n apart) (old m k)
-
-  -- by restriction and reference
-  pub taken_all :
-      (masks : List ℕ) (n : ℕ) → n ≡ 3 * restriction_count rule → TakenTo rule masks n → Taken rule masks
-  taken_all masks n e old j i k lj li =
-      let high : 64 + 2 * (3 * j + i) ≡ 64 + 6 * j + 2 * i = omega arith in
-      let low : 65 + 2 * (3 * j + i) ≡ 65 + 6 * j + 2 * i = omega arith in
-      old (3 * j + i) k ∙ rw (e, thirds (restriction_count rule), high, low)
-    where
-      thirds : (m : ℕ) → ltb (3 * j + i) (3 * m) ≡ ltb j m
-      thirds m =
-          same_test (ltb (3 * j + i) (3 * m)) (ltb j m)
-          (λ h. let l = ltb-true (3 * j + i) (3 * m) h in lt-ltb j m (omega arith))
-          (λ h. let l = ltb-true j m h in lt-ltb (3 * j + i) (3 * m) (omega arith))
+          → ltb j n ≡ b
+          → has (get_or (get_or masks j []) i 0) k ≡ (b && (ltb k 16 && mask_takes (restriction_mask rule j i) k))
+      go true h =
+          let low : 64 + 6 * j + (2 * i + 1) ≡ 65 + 6 * j + 2 * i = omega arith in
+          there (ltb-true j n h) i k li
+          ∙ rw (byte (2 * i) (omega arith), byte (2 * i + 1) (omega arith), low)
+      go false h = rw (absent (ltb-false j n h), get_d_zeros 3 i) (has_zero k)
 
 -- What some restriction takes
 
--- a word of the operations that one of the first n restrictions takes beside a and b
-abbrev pub BesideTo : (masks : List ℕ) (a b n word : ℕ) → Type 0
-BesideTo masks a b n word = (c : ℕ) → has word c ≡ any (takes masks a b c) (up_to n)
+pub beside_none : (a b : ℕ) → Beside [] a b 0
+unfolding any
+beside_none a b c = has_zero c
 
-pub beside_none : (masks : List ℕ) (a b : ℕ) → BesideTo masks a b 0 0
-beside_none masks a b c = rw (has_zero, any_none (takes masks a b c))
+-- one restriction more, that takes both operations or does not
+module _
+    (masks : List (List ℕ)) (a b j word : ℕ) (p q : Bool) (h : j < length masks) (old : Beside (take j masks) a b word)
+    (ep : p ≡ has (get_or (get_or masks j []) 0 0) a)
+    (eq : q ≡ has (get_or (get_or masks j []) 1 0) b)
+  where
+    step :
+        (c : ℕ)
+        → any (takes a b c) (take (j + 1) masks) ≡ (has word c || p && q && has (get_or (get_or masks j []) 2 0) c)
+    step c =
+        rw (any_first (takes a b c) [] masks j h, old c, ep, eq)
+        (ap (λ t. any (takes a b c) (take j masks) || t) (sym (and_assoc _ _ (has (get_or (get_or masks j []) 2 0) c))))
 
-pub beside_more :
-    (masks : List ℕ) (a b j word r : ℕ) (p q : Bool)
-    → BesideTo masks a b j word
-    → p ≡ has (get_or masks (3 * j) 0) a
-    → q ≡ has (get_or masks (3 * j + 1) 0) b
-    → r ≡ cond (p && q) (get_or masks (3 * j + 2) 0) 0
-    → BesideTo masks a b (j + 1) (bit_or word r)
-beside_more masks a b j word r p q old ep eq er c =
-    rw (
-      has_or,
-      old c,
-      has_if (p && q) (get_or masks (3 * j + 2) 0) r c er,
-      ep,
-      eq,
-      any_more (takes masks a b c) j,
-      and_assoc (has (get_or masks (3 * j) 0) a) (has (get_or masks (3 * j + 1) 0) b) (has (get_or masks (3 * j + 2) 0) c),
-    )
+    pub beside_more :
+        (p && q) ≡ true → Beside (take (j + 1) masks) a b (bit_or word (get_or (get_or masks j []) 2 0))
+    beside_more e c = rw (step c, e) (has_or word (get_or (get_or masks j []) 2 0) c)
+
+    pub beside_other : (p && q) ≡ false → Beside (take (j + 1) masks) a b word
+    beside_other e c = rw (step c, e) (sym (or_end (has word c)))
 
 -- the masks take what the restrictions take
 pub taken_beside :
-    (rule masks : List ℕ) (a b c : ℕ)
+    (rule : List ℕ) (masks : List (List ℕ)) (a b c : ℕ)
     → Taken rule masks
     → restriction_count rule ≤ 8
     → a < 16
     → b < 16
     → c < 16
-    → any (takes masks a b c) (up_to 8) ≡ any (beside rule a b c) (up_to (restriction_count rule))
+    → any (takes a b c) masks ≡ any (beside rule a b c) (up_to (restriction_count rule))
 unfolding up_to
 taken_beside rule masks a b c took few la lb lc =
-    any_from_same (takes masks a b c) (λ j. ltb j (restriction_count rule) && beside rule a b c j) 0 8
-    (λ j lo hi. each j (omega arith))
+    any_listed (takes a b c) [] masks
+    ∙ rw took.eight
+    (any_from_same (λ j. takes a b c (get_or masks j [])) (λ j. ltb j (restriction_count rule) && beside rule a b c j) 0 8
+    (λ j lo hi. each j (omega arith)))
     ∙ any_below (beside rule a b c) (restriction_count rule) 8 few
   where
     three : (w x y z : Bool) → ((w && x) && ((w && y) && (w && z))) ≡ (w && (x && (y && z)))
     three true x y z = refl
     three false x y z = refl
 
-    each : (j : ℕ) → j < 8 → takes masks a b c j ≡ (ltb j (restriction_count rule) && beside rule a b c j)
+    each : (j : ℕ) → j < 8 → takes a b c (get_or masks j []) ≡ (ltb j (restriction_count rule) && beside rule a b c j)
     each j l =
         rw (
-          (rw (add-zero (3 * j)) at (took j 0 a l (omega arith))),
-          took j 1 b l (omega arith),
-          took j 2 c l (omega arith),
+          took.masks_of j 0 a l (omega arith),
+          took.masks_of j 1 b l (omega arith),
+          took.masks_of j 2 c l (omega arith),
           lt-ltb a 16 la,
           lt-ltb b 16 lb,
           lt-ltb c 16 lc,

@@ -9,19 +9,19 @@ use mathlib.Core.List.{List}
 use lib.ListN.{get_or}
 use lib.Dec.{eqb, ltb}
 use lib.Bits.{bit_and, bit_or, and_le_r, or_lt}
-use borrow.Author.Tests.{ltb-true, lt-ltb, le-ltb, eqb-true, eq-eqb}
+use borrow.Author.Tests.{ltb-true, ltb-false, lt-ltb, le-ltb, eqb-true, eq-eqb}
 use Rattle.book.specs.Lists.{any, up_to}
 use Rattle.book.specs.Sets.{has, WordOf}
 use Rattle.book.specs.Head.{data_count}
 use Rattle.book.specs.Rule.{action, in_leaf_set, reference_count}
-use Rattle.book.proofs.Lists.{and_true, and_left, and_right, and_both, and_second, and_assoc, and_over, same_test}
+use Rattle.book.proofs.Lists.{and_true, and_right, and_both, and_assoc, and_over, same_test}
 use Rattle.book.proofs.Lists.{any_both}
 use Rattle.book.proofs.Members.{has_or, has_and, single_in}
 use Rattle.verdicts.specs.Actions.{channel_fits}
 use Rattle.verdicts.specs.Accesses.{Access, Accesses, fits, fitting, held_by}
 use Rattle.verdicts.specs.Inner.Words.{offers, offers_or_none, Offered}
 use Rattle.verdicts.proofs.Quantifiers.{at_any, any_at, any_witness, any_two}
-use Rattle.verdicts.proofs.Marks.{has_if, Marks, not_empty}
+use Rattle.verdicts.proofs.Marks.{has_if, not_empty}
 use Rattle.verdicts.proofs.Accesses.{access, leaf_set_below, fits_bounds, in_fitting, found_fitting}
 
 -- Offers by accesses
@@ -197,20 +197,15 @@ module _ (head rule : List ℕ) (accesses : Accesses) (i : ℕ) where
   pub offered_present :
       (word : ℕ)
       → i < reference_count rule
-      → Marks (offers head rule accesses i) 16 word
+      → ((k : ℕ) → k < 16 → has word k ≡ offers head rule accesses i k)
+      → ((k : ℕ) → 16 ≤ k → has word k ≡ false)
       → Offered head rule accesses i word
   unfolding offers_or_none
-  offered_present word l marked k =
-      rw (
-        marked k,
-        lt-ltb i (reference_count rule) l,
-        and_second (ltb k 64) (ltb k 16 && offers head rule accesses i k) (λ h. lt-ltb k 64 (below h)),
-      )
+  offered_present word l below above k = rw (lt-ltb i (reference_count rule) l) (go (ltb k 16) refl)
     where
-      below : (ltb k 16 && offers head rule accesses i k) ≡ true → k < 64
-      below h =
-          let l = ltb-true k 16 (and_left (ltb k 16) (offers head rule accesses i k) h) in
-          omega arith
+      go : (b : Bool) → ltb k 16 ≡ b → has word k ≡ (b && offers head rule accesses i k)
+      go true h = below k (ltb-true k 16 h)
+      go false h = above k (ltb-false k 16 h)
 
   pub offered_absent : reference_count rule ≤ i → Offered head rule accesses i 1
   unfolding offers_or_none

@@ -1,15 +1,19 @@
 -- Laws of quantifiers: over the lists of `flat` and `keep`, and over the numbers below n with their witnesses.
 -- Assumes nothing.
-use Prim.Native.Nat.{ℕ, zero, suc, ◌≤◌, ◌<◌}
+use Prim.Native.Nat.{ℕ, zero, suc, ◌+◌, ◌≤◌, ◌<◌}
+use native.Mathlib.Numerals.{add-one}
 use native.Mathlib.Omega.{arith}
-use mathlib.Core.Path.{◌≡◌, refl, sym, ◌∙◌}
+use mathlib.Core.Path.{◌≡◌, refl, sym, ap, ◌∙◌}
 use mathlib.Core.Bool.{Bool, true, false, ◌&&◌, ◌||◌}
 use mathlib.Core.List.{List, [], ◌∷◌}
+use lib.ListN.{length, get_or, take}
+use lib.Seq.{take-suc}
 use lib.Dec.{eqb, ltb}
 use borrow.Author.Tests.{ltb-true, lt-ltb, eqb-true, eq-eqb}
+use Rattle.std.specs.List.{list_any, range_with_len}
 use Rattle.book.specs.Lists.{flat, any, all, from, up_to, keep}
 use Rattle.book.proofs.Lists.{and_true, and_left, and_right, and_both, or_end, same_test}
-use Rattle.book.proofs.Lists.{any_append, append_all, any_found, at_all, none_at, all_three}
+use Rattle.book.proofs.Lists.{any_append, any_one, append_all, any_found, at_all, none_at, all_three}
 
 -- Lists
 
@@ -42,7 +46,33 @@ module _ {A : Type 0} (f : A → Bool) where
       go true e = rw e
       go false e = e
 
+-- the numbers from i + 1 up
+any_from_next : (f : ℕ → Bool) (i n : ℕ) → any f (from (suc i) n) ≡ any (λ j. f (suc j)) (from i n)
+unfolding any from
+any_from_next f i zero = refl
+any_from_next f i (suc n) = ap (λ b. f (suc i) || b) (any_from_next f (suc i) n)
+
+-- a list by position
+pub any_listed : {A : Type 0} (f : A → Bool) (d : A) (l : List A) → any f l ≡ any (λ j. f (get_or l j d)) (up_to (length l))
+unfolding any from up_to
+any_listed f d [] = refl
+any_listed f d (x ∷ l) =
+    ap (λ b. f x || b) (any_listed f d l ∙ sym (any_from_next (λ j. f (get_or (x ∷ l) j d)) 0 (length l)))
+
+-- the first elements of a list, and one more
+pub any_first :
+    {A : Type 0} (f : A → Bool) (d : A) (l : List A) (i : ℕ)
+    → i < length l
+    → any f (take (i + 1) l) ≡ (any f (take i l) || f (get_or l i d))
+any_first f d l i h = rw (add-one i, take-suc l i d h, any_append f, any_one f)
+
 -- The numbers below n
+
+-- a range of Rust's
+pub any_ranged : (f : ℕ → Bool) (i n : ℕ) → list_any f (range_with_len i n) ≡ any f (from i n)
+unfolding any from
+any_ranged f i zero = refl
+any_ranged f i (suc n) = rw (add-one i) (ap (λ b. f i || b) (any_ranged f (suc i) n))
 
 pub all_below : (n : ℕ) → all (λ k. ltb k n) (up_to n) ≡ true
 all_below n = at_all (λ k. ltb k n) n (λ j l. lt-ltb j n l)

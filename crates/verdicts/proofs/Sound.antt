@@ -25,7 +25,6 @@ use Rattle.lineage.proofs.Words.{word_of_law}
 use Rattle.verdicts.specs.Accesses.{Accesses, accesses_of, held_by}
 use Rattle.verdicts.specs.Inner.Words.{RuleSound}
 use Rattle.verdicts.specs.Breaking.{breaks, broken_mask}
-use Rattle.verdicts.proofs.Marks.{Marks}
 use Rattle.verdicts.proofs.Verdict.{mask_same, mask_small}
 use Rattle.verdicts.proofs.Held.{held_plan}
 
@@ -101,11 +100,18 @@ module _ (book : List ℕ) (accepted : BookAccepted book) where
       let size = (accepted_length book accepted).0 in
       rw (length-take, length-drop (512 * (4 + r)) book) (omega arith)
 
+  pub sound_there :
+      (r : ℕ)
+      → r < rule_count book
+      → ((i : ℕ) → get_or (rule_at book r) i 0 < 256)
+      → RuleSound (head_of book) (rule_at book r)
+  sound_there r l bytes =
+      rule_sound (head_of book) (rule_at book r) (accepted_head book accepted) (accepted_rule book accepted r l) bytes
+      (rule_whole r l)
+
   pub rules_sound :
       ((i : ℕ) → get_or book i 0 < 256) → (r : ℕ) → r < rule_count book → RuleSound (head_of book) (rule_at book r)
-  rules_sound bytes r l =
-      rule_sound (head_of book) (rule_at book r) (accepted_head book accepted)
-      (accepted_rule book accepted r l) (rule_bytes book bytes r) (rule_whole r l)
+  rules_sound bytes r l = sound_there r l (rule_bytes book bytes r)
 
 -- The mask
 
@@ -139,12 +145,19 @@ module _ (book : List ℕ) (accepted : BookAccepted book) (user : ℕ) where
   pub mask_whole :
       (accesses : Accesses) (total word : ℕ)
       → total ≡ rule_count book
-      → Marks (λ r. breaks (head_of book) (rule_at book r) user accesses) total word
+      → ((r : ℕ) → r < total → has word r ≡ breaks (head_of book) (rule_at book r) user accesses)
+      → ((r : ℕ) → total ≤ r → has word r ≡ false)
       → word % 4294967296 ≡ broken_mask book user accesses
   unfolding broken_mask
-  mask_whole accesses total word t marked =
-      cut_word (λ r. breaks (head_of book) (rule_at book r) user accesses) (rule_count book) word (few_rules_law book accepted)
-      (λ r l. marked r ∙ rw (lt-ltb r 64 (omega arith), t))
+  mask_whole accesses total word t below above =
+      cut_word broken (rule_count book) word (few_rules_law book accepted) (λ r l. rw (← t) (go r (ltb r total) refl))
+    where
+      broken : ℕ → Bool
+      broken r = breaks (head_of book) (rule_at book r) user accesses
+
+      go : (r : ℕ) (b : Bool) → ltb r total ≡ b → has word r ≡ (b && broken r)
+      go r true h = below r (ltb-true r total h)
+      go r false h = above r (ltb-false r total h)
 
   -- the words of a plan break what its accesses break
   pub mask_held :

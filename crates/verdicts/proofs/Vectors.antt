@@ -32,9 +32,7 @@ use Rattle.verdicts.specs.Actions.{action_fits, channel_fits}
 use Rattle.verdicts.specs.Accesses.{accesses_of, every_access, fits, fitting}
 use Rattle.verdicts.specs.Breaking.{choices_from, operations, accepts, refuses_all, some_choice_refused, breaks}
 use Rattle.verdicts.specs.Breaking.{broken_mask}
-use Rattle.verdicts.specs.Answers.{user_tests, judge_tests, judge_answer}
-use Rattle.verdicts.specs.declared.Judged.{Judged}
-use Rattle.verdicts.specs.declared.Judged.TheVariants.{Broken}
+use Rattle.verdicts.specs.Answers.{Judged, broken, user_tests, judge_tests, judge_answer}
 
 -- the user, the rows of a plan, and the mask that Judge answers
 unfoldable pub cases : List (ℕ × List (List ℕ) × ℕ)
@@ -88,7 +86,7 @@ truncations =
 pub starred :
     ◌≡◌ {A = List Judged × List ℕ}
     (map (λ c. judge_answer shop c.0 (plan c.1)) cases, map (λ c. check_sum c.0) check_cases)
-    (map (λ c. Broken c.2) cases, map (λ c. c.1) check_cases)
+    (map (λ c. broken c.2) cases, map (λ c. c.1) check_cases)
 unfolding cases check_cases plan all any up_to from has upward_in upward under leaf covers proper_descendant support_along
     support less category_start withdrawn_operations parent_holds is_user is_data_leaf support_of supports covers_user
     in_leaf_set weighted check_sum check_holds between zeros length_holds kind_holds users_counted data_counted columns_counted
@@ -104,8 +102,8 @@ unfolding cases check_cases plan all any up_to from has upward_in upward under l
 starred = refl
 
 judged_too :
-    (◌≡◌ {A = List Judged} (map (λ c. judge_answer shop c.0 (plan c.1)) mixing) (map (λ c. Broken c.2) mixing))
-    × (◌≡◌ {A = List Judged} (map (λ c. judge_answer streets 0 (plan c.0)) truncations) (map (λ c. Broken c.1) truncations))
+    (◌≡◌ {A = List Judged} (map (λ c. judge_answer shop c.0 (plan c.1)) mixing) (map (λ c. broken c.2) mixing))
+    × (◌≡◌ {A = List Judged} (map (λ c. judge_answer streets 0 (plan c.0)) truncations) (map (λ c. broken c.1) truncations))
 unfolding mixing truncations plan all any up_to from has upward_in upward under leaf covers proper_descendant
     support_along support less category_start withdrawn_operations parent_holds is_user is_data_leaf support_of supports
     covers_user in_leaf_set weighted check_sum check_holds between zeros length_holds kind_holds users_counted data_counted
@@ -122,11 +120,11 @@ unfolding mixing truncations plan all any up_to from has upward_in upward under 
 judged_too = (refl, refl)
 
 pub mixing_judged :
-    ◌≡◌ {A = List Judged} (map (λ c. judge_answer shop c.0 (plan c.1)) mixing) (map (λ c. Broken c.2) mixing)
+    ◌≡◌ {A = List Judged} (map (λ c. judge_answer shop c.0 (plan c.1)) mixing) (map (λ c. broken c.2) mixing)
 mixing_judged = judged_too.0
 
 pub streets_judged :
     ◌≡◌ {A = List Judged}
     (map (λ c. judge_answer streets 0 (plan c.0)) truncations)
-    (map (λ c. Broken c.1) truncations)
+    (map (λ c. broken c.1) truncations)
 streets_judged = judged_too.1

@@ -9,8 +9,7 @@ use Rattle.lineage.specs.Rows.{Plan}
 use Rattle.lineage.specs.Answers.{PlanAccepted}
 use Rattle.verdicts.specs.Accesses.{Accesses, accesses_of}
 use Rattle.verdicts.specs.Semantics.{SatisfiesRule, SatisfiesPolicy}
-use Rattle.verdicts.specs.declared.Judged.{Judged}
-use Rattle.verdicts.specs.declared.Judged.TheVariants.{Broken}
+use Rattle.verdicts.specs.Answers.{Judged, broken}
 
 -- what Judge has to be given: an accepted book, a user of it, and a plan that is accepted for it
 pub record JudgeAccepted (book : Book) (user : ℕ) (plan : Plan) : Type 0 where
@@ -42,5 +41,5 @@ pub record Demand2 (book : Book) (user : ℕ) (query : Accesses) (mask : ℕ) : 
 -- an answer that is a mask, of which demand 2 holds for the plan's accesses
 pub record Judges (book : Book) (user : ℕ) (plan : Plan) (answer : Judged) : Type 0 where
   pub mask : ℕ
-  pub answers : answer ≡ Broken mask
+  pub answers : answer ≡ broken mask
   pub demand : Demand2 book user (accesses_of (head_of book) plan) mask

@@ -1,17 +1,11 @@
-// Which accesses fit which action of a rule: access is the parent of projection and condition.
+//! Which accesses fit which action of a rule: access is the parent of projection and condition.
 ghost use Rattle.std.specs.Prelude.{◌≡◌};
 ghost use Rattle.verdicts.specs.Actions.{action_fits, channel_fits, number_of};
 
-use book::{Action, ActionByte};
+use book::Action;
+pub use lineage::rows::Channel;
 
-// What an access does with its leaf: source document 001's "action channel".
-#[derive(Clone, Copy)]
-pub enum Channel {
-    Projection,
-    Condition,
-}
-
-// Whether an access that does this fits a reference that names that.
+/// Whether an access that does this fits a reference that names that.
 fn action_fits(does: Channel, names: Action) -> bool
     ensures { result ≡ action_fits does names }
 {
@@ -29,12 +23,10 @@ fn action_fits(does: Channel, names: Action) -> bool
     }
 }
 
-// The same for what the reference's byte says.
-pub fn channel_fits(does: Channel, byte: ActionByte) -> bool
-    ensures { result ≡ channel_fits (number_of does) byte }
+/// The same for the action that a reference names, if its byte names one.
+#[tactic(auto, using(crate::proofs::Accesses::names_fits), unfolding(crate::specs::Actions::channel_fits))]
+pub fn channel_fits(does: Channel, named: Option<Action>) -> bool
+    ensures { result ≡ channel_fits (number_of does) named }
 {
-    match byte {
-        ActionByte::Names(action) => action_fits(does, action),
-        ActionByte::NamesNone => false,
-    }
+    named.is_some_and(|action| action_fits(does, action))
 }

@@ -1,81 +1,70 @@
-// Judge: the refusals in their order, then the mask of the rules that a user and a plan break. For
-// the crates above, the same mask for a set of accesses.
-ghost use Rattle.std.specs.Prelude.{◌≡◌};
-ghost use Rattle.book.specs.Blocks.{head_of};
-ghost use Rattle.book.specs.Tests.{first_failing};
-ghost use Rattle.book.specs.Inner.Words.{HeadWords};
+//! Judge: the refusals in their order, then the mask of the rules that a user and a plan break. For
+//! the crates above, the same mask for a set of accesses.
+ghost use Rattle.std.specs.Prelude.{◌≡◌, ◌<◌, Err, IfErr, IfOk, OnOk};
+ghost use Rattle.book.specs.Blocks.{head_of, rule_at, rule_count};
+ghost use Rattle.book.specs.Tests.{first_failing, Passes};
 ghost use Rattle.verdicts.specs.Accesses.{held_by};
 ghost use Rattle.verdicts.specs.Answers.{judge_answer, judge_tests};
+ghost use Rattle.verdicts.specs.Breaking.{breaks, broken_mask};
 ghost use Rattle.verdicts.specs.Demand.{JudgeAccepted, Judges};
-ghost use Rattle.verdicts.specs.Inner.Masks.{BrokenIfAccepted, BrokenIfSound, JudgedIfAccepted, UserTested};
+ghost use Rattle.verdicts.specs.Inner.Masks.{UserTested};
 
+use crate::Broken;
 use crate::breaking::breaks;
-use crate::{Judged, NO_USER};
-use book::Tested;
-use book::checking::test_book;
-use book::fields::{head_of, rule_at, rule_count};
 use book::rules::covered_users;
-use book::sets::{contains, single, word_if};
-use book::testing::{or_else, test};
-use book::words::{head_words, users};
+use book::sets::{contains, those_below};
+use book::testing::ensure;
+use book::words::Words;
+use book::{Book, Refusal};
 use lineage::accesses::accesses;
 use lineage::rows::test_plan;
 
-// Whether a user and the words break a rule.
-fn user_breaks(t: &[u64], rule: &[u8], user: u32, words: [u64; 32]) -> bool
-    ensures { BrokenIfSound t.now rule.now user (held_by words) result }
+/// Whether a user and a set of accesses break rule r.
+fn user_breaks(book: &Book, r: u8, user: u32, accesses: &[u64; 32]) -> bool
+    ensures { r < rule_count book.now.bytes.now
+        → result ≡ breaks (head_of book.now.bytes.now) (rule_at book.now.bytes.now r) user
+        (held_by accesses.now) }
 {
-    if contains(covered_users(t, rule), user as usize) {
-        return breaks(t, rule, words);
-    }
-    false
+    let rule = book.rule(r);
+    let covered = covered_users(&book.words, rule);
+    // `as`, here and below: `usize` has no `From<u32>`.
+    contains(covered, user as usize) && breaks(&book.words, rule, accesses)
 }
 
-// The mask of the rules of an accepted book that a user and the words break.
-pub fn broken_by(book: &[u8], t: &[u64], user: u32, words: [u64; 32]) -> u32
-    ensures { BrokenIfAccepted book.now t.now user (held_by words) result }
+/// The mask of the rules that a user and a set of accesses break.
+pub fn broken_by(book: &Book, user: u32, accesses: &[u64; 32]) -> u32
+    ensures { result ≡ broken_mask book.now.bytes.now user (held_by accesses.now) }
 {
-    let n = rule_count(book);
-    let mut found = 0u64;
-    for r in 0..n {
-        let hit = user_breaks(t, rule_at(book, r), user, words);
-        found = found | word_if(hit, single(r as usize));
-    }
-    (found % 4294967296) as u32
+    let broken = those_below(book.rule_count(), |r| user_breaks(book, r, user, accesses));
+    // Members are below 32: the remainder shows that the cast fits, `try_from` would be a branch.
+    (broken % 4294967296) as u32
 }
 
-pub fn test_user(t: &[u64], user: u32) -> Tested
-    ensures { UserTested t.now user result }
+/// The test 20.
+pub fn test_user(words: &Words, user: u32) -> Result<(), Refusal>
+    ensures { UserTested words.now user result }
 {
-    test(NO_USER, 0, contains(users(t), user as usize))
+    ensure(contains(words.users.leaves, user as usize), Refusal::NoUser)
 }
 
-// The tests of the book, of the user, of the plan.
-pub fn test_judge(book: &[u8], t: &[u64], user: u32, plan: &[u8]) -> Tested
-    ensures { HeadWords (head_of book.now) t.now
-        → result ≡ first_failing (judge_tests book.now user plan.now) }
+/// The tests of the book, of the user, of the plan: the accepted book, or the refusal that comes first.
+pub fn test_judge<'a>(book: &'a [u8], user: u32, plan: &[u8]) -> Result<Book<'a>, Refusal>
+    ensures bytes { IfOk result (λ accepted. accepted.bytes.now ≡ book.now) }
+    ensures passed { OnOk result (Passes (judge_tests book.now user plan.now)) }
+    ensures refused { IfErr result (λ refusal. first_failing (judge_tests book.now user plan.now) ≡ Err refusal) }
 {
-    let both = or_else(test_book(book, t), test_user(t, user));
-    or_else(both, test_plan(head_of(book), plan))
+    let book = Book::new(book)?;
+    test_user(&book.words, user)?;
+    test_plan(book.head(), plan)?;
+    Ok(book)
 }
 
-// The mask of the rules that a user and an accepted plan break.
-fn mask_of(book: &[u8], t: &[u64], user: u32, plan: &[u8]) -> u32
-    ensures { JudgedIfAccepted book.now t.now user plan.now result }
+/// Judge: which rules the user and the plan break.
+pub fn judge(book: &[u8], user: u32, plan: &[u8]) -> Result<Broken, Refusal>
+    ensures answer { result ≡ judge_answer book.now user plan.now }
+    ensures judges { JudgeAccepted book.now user plan.now → Judges book.now user plan.now result }
 {
-    broken_by(book, t, user, accesses(book, t, plan))
-}
-
-// Judge: which rules the user and the plan break.
-pub fn judge(book: &[u8], user: u32, plan: &[u8]) -> Judged
-    ensures { (result ≡ judge_answer book.now user plan.now)
-        × (JudgeAccepted book.now user plan.now
-        → Judges book.now user plan.now result) }
-{
-    let t = head_words(head_of(book));
-    let outcome = test_judge(book, &t, user, plan);
-    match outcome {
-        Tested::Refused(refusal) => Judged::Refused(refusal),
-        Tested::Passed => Judged::Broken(mask_of(book, &t, user, plan)),
-    }
+    let book = test_judge(book, user, plan)?;
+    let mask = broken_by(&book, user, &accesses(&book, plan));
+    Ok(Broken { mask })
 }

@@ -5,6 +5,7 @@ use Rattle.book.specs.Lists.{any, up_to}
 use Rattle.book.specs.Sets.{has}
 use Rattle.search.specs.Inner.Places.{in_places, past_places}
 use Rattle.search.specs.Inner.Closing.{closes}
+use Rattle.search.specs.declared.tables.RuleTable.{RuleTable}
 
 -- one past the last cell that 33 words have room for
 abbrev pub past_cells : ℕ
@@ -15,11 +16,11 @@ unfoldable pub in_cell : List ℕ → ℕ → Bool
 in_cell set c = any (λ k. in_places set (16 * c + k)) (up_to 16)
 
 -- three places break no rule of a set
-unfoldable pub spares : List ℕ → (ℕ → Bool) → ℕ → ℕ → ℕ → Bool
+unfoldable pub spares : List RuleTable → (ℕ → Bool) → ℕ → ℕ → ℕ → Bool
 spares t rules a y x = not (any (λ q. rules q && closes t q a y x) (up_to 32))
 
 -- places of three cells, each in its set, that break no rule of a set
-pub record Opens (t : List ℕ) (rules : ℕ → Bool) (firsts seconds thirds : List ℕ) (l m n : ℕ) : Type 0 where
+pub record Opens (t : List RuleTable) (rules : ℕ → Bool) (firsts seconds thirds : List ℕ) (l m n : ℕ) : Type 0 where
   pub first : ℕ
   pub second : ℕ
   pub third : ℕ
@@ -32,7 +33,7 @@ pub record Opens (t : List ℕ) (rules : ℕ → Bool) (firsts seconds thirds : 
 
 -- of some third places those of whole cells are gone that the k-th place of cell l opens beside some place of cell m
 pub record Tried
-    (t : List ℕ)
+    (t : List RuleTable)
     (rules : ℕ)
     (firsts seconds : List ℕ)
     (l m k : ℕ)
@@ -71,7 +72,7 @@ pub record Tried
 -- of the third places those are left, by whole cells, that no place of cell l before the k-th opens beside some place
 -- of cell m; what is gone is open
 pub record Left
-    (t : List ℕ)
+    (t : List RuleTable)
     (rules : ℕ)
     (firsts seconds thirds : List ℕ)
     (l m k : ℕ)
@@ -112,6 +113,6 @@ pub record Cells (firsts seconds thirds : List ℕ) (l m n : ℕ) : Type 0 where
   pub third : in_cell thirds n ≡ true
 
 -- such cells, and no places of them that break no rule of a set
-pub record Shut (t : List ℕ) (rules : ℕ → Bool) (firsts seconds thirds : List ℕ) (l m n : ℕ) : Type 0 where
+pub record Shut (t : List RuleTable) (rules : ℕ → Bool) (firsts seconds thirds : List ℕ) (l m n : ℕ) : Type 0 where
   pub cells : Cells firsts seconds thirds l m n
   pub closed : Opens t rules firsts seconds thirds l m n → ⊥

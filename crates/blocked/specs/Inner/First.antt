@@ -1,13 +1,12 @@
 -- What the search says of a book: the first user and association, as cells; and how the answer is made of them. No
 -- call's promise leans on this file. Assumes nothing.
-use Rattle.std.specs.Prelude.{ℕ, ◌/◌, ◌%◌, ◌≤◌, ◌<◌, ◌≡◌, cond, List, [], ◌∷◌, ◌++◌, ltb}
+use Rattle.std.specs.Prelude.{ℕ, ◌/◌, ◌%◌, ◌≤◌, ◌<◌, ◌≡◌, cond, List, [], ◌∷◌, ◌++◌, ltb, Option, Some, None, Ok}
 use Rattle.search.specs.Alone.{none, shown}
 use Rattle.blocked.specs.Associations.{Datum, Pair}
 use Rattle.blocked.specs.Open.{first_closed}
 use Rattle.blocked.specs.Answers.{closed_answer}
-use Rattle.blocked.specs.declared.Blocking.{Blocking}
-use Rattle.blocked.specs.declared.users.Denied.{Denied}
-use Rattle.blocked.specs.declared.users.Denied.TheVariants.{Nobody, User}
+use Rattle.blocked.specs.declared.Closed.{Closed}
+use Rattle.blocked.specs.declared.users.Denial.{Denial}
 
 -- the cell of an absent reference
 abbrev pub no_cell : ℕ
@@ -36,10 +35,11 @@ pub record Standing (l m n : ℕ) : Type 0 where
   pub absent : no_cell ≤ m → l ≡ no_cell
 
 -- what was found is the first that is closed, and its cells stand in their order
-unfoldable pub FirstDenied : List ℕ → ℕ → Denied → Type 0
-FirstDenied book r Nobody = first_closed book r ≡ none
-FirstDenied book r (User u l m n) = (first_closed book r ≡ shown (pair_at u l m n)) × Standing l m n
+unfoldable pub FirstDenied : List ℕ → ℕ → Option Denial → Type 0
+FirstDenied book r None = first_closed book r ≡ none
+FirstDenied book r (Some d) =
+    (first_closed book r ≡ shown (pair_at d.user d.first d.second d.third)) × Standing d.first d.second d.third
 
 -- the answer for three cells
-abbrev pub AnswerAt : ℕ → ℕ → ℕ → ℕ → Blocking → Type 0
-AnswerAt u l m n answer = Standing l m n → answer ≡ closed_answer (pair_at u l m n)
+abbrev pub AnswerAt : ℕ → ℕ → ℕ → ℕ → Closed → Type 0
+AnswerAt u l m n answer = Standing l m n → Ok (Some answer) ≡ closed_answer (pair_at u l m n)

@@ -1,10 +1,10 @@
 -- Both hierarchies of a book under one name, for the functions that serve both, the bytes that a check sums, and the
 -- words that the crates above keep. No call's promise leans on this file. Assumes nothing.
-use Rattle.std.specs.Prelude.{ℕ, ◌*◌, ◌/◌, ◌≤◌, ◌<◌, ◌≡◌, Bool, ◌&&◌, cond, List, length, get_or, take}
+use Rattle.std.specs.Prelude.{ℕ, ◌*◌, ◌/◌, ◌≤◌, ◌<◌, ◌≡◌, ◌&&◌, cond, List, length, get_or, take}
 use Rattle.std.specs.Int.Bits.{bit_or}
 use Rattle.book.specs.Sets.{has, WordOf}
 use Rattle.book.specs.Blocks.{Block, Head, weighted}
-use Rattle.book.specs.Head.{user_count, user_parent, data_count, data_parent, is_user, is_data_leaf, supports}
+use Rattle.book.specs.Head.{user_count, user_parent, data_count, data_parent, is_data_leaf, supports}
 use Rattle.book.specs.declared.Hierarchy.{Hierarchy}
 use Rattle.book.specs.declared.Hierarchy.TheVariants.{Users, Data}
 
@@ -15,10 +15,6 @@ count_in Data head = data_count head
 abbrev pub parent_in : Hierarchy → Head → ℕ → ℕ
 parent_in Users head i = user_parent head i
 parent_in Data head i = data_parent head i
-
-abbrev pub leaf_in : Hierarchy → Head → ℕ → Bool
-leaf_in Users head i = is_user head i
-leaf_in Data head i = is_data_leaf head i
 
 -- the first n bytes of a block give the sum of its check
 pub record SumsTo (block : Block) (n : ℕ) : Type 0 where

@@ -1,40 +1,20 @@
 -- What the functions that test a book promise to each other. No call's promise leans on this file. Assumes nothing.
-use Rattle.std.specs.Prelude.{ℕ, ◌≤◌, ◌<◌, ◌≡◌, Bool, true, ◌&&◌, ◌||◌, List, ltb, leb}
+use Rattle.std.specs.Prelude.{ℕ, ◌≤◌, ◌≡◌, Bool, true, false, ◌&&◌, ◌||◌, List, get_or, Option, Some, None, ltb, leb}
 use Rattle.book.specs.Lists.{all, up_to}
 use Rattle.book.specs.Sets.{has}
-use Rattle.book.specs.Hierarchies.{parent_holds}
-use Rattle.book.specs.Blocks.{Book, Head, Block, Rule, head_of}
+use Rattle.book.specs.Hierarchies.{parent_holds, proper_descendant}
+use Rattle.book.specs.Blocks.{Head, Block, Rule}
 use Rattle.book.specs.Head.{user_count, data_count}
 use Rattle.book.specs.Rule.{reference_count, exclusion_count, in_leaf_set}
-use Rattle.book.specs.Tests.{Test, Passes, first_failing}
-use Rattle.book.specs.Refusals.{between, block_tests, check_tests, kind_tests, content_tests, rule_block_tests}
-use Rattle.book.specs.Refusals.{own_holds, user_numbers_hold, reference_holds, mask_allows, masks_hold}
+use Rattle.book.specs.Tests.{Outcome, first_failing}
+use Rattle.book.specs.Refusals.{between, block_tests, rule_block_tests}
+use Rattle.book.specs.Refusals.{own_holds, names_action, user_numbers_hold, reference_holds, numbers_hold, mask_allows, masks_hold}
 use Rattle.book.specs.Inner.Reading.{count_in, parent_in}
-use Rattle.book.specs.Inner.Words.{HeadWords}
+use Rattle.book.specs.Inner.Words.{CategoriesHold, HeadWords}
 use Rattle.book.specs.declared.Hierarchy.{Hierarchy}
-use Rattle.book.specs.declared.Tested.{Tested}
-use Rattle.book.specs.declared.Tested.TheVariants.{Passed, Refused}
-use Rattle.book.specs.declared.rule_tests.Referred.{Referred}
-use Rattle.book.specs.declared.checking.Pass.{Pass}
-use Rattle.book.specs.declared.checking.Pass.TheVariants.{Checks, Kinds, Contents}
-
--- the first of two outcomes that refuses
-unfoldable pub or_else : Tested → Tested → Tested
-or_else Passed next = next
-or_else (Refused refusal) next = Refused refusal
-
--- the three passes over the blocks
-unfoldable pub pass_tests : Pass → Book → ℕ → List Test
-pass_tests Checks book i = check_tests book i
-pass_tests Kinds book i = kind_tests book i
-pass_tests Contents book i = content_tests book i
-
--- the outcome for block i, where the lower blocks have passed
-abbrev pub OutcomeAt : Pass → Book → List ℕ → ℕ → Tested → Type 0
-OutcomeAt pass book t i outcome =
-    HeadWords (head_of book) t
-    → ((j : ℕ) → j < i → Passes (pass_tests pass book j))
-    → outcome ≡ first_failing (pass_tests pass book i)
+use Rattle.book.specs.declared.Action.{Action}
+use Rattle.book.specs.declared.words.Categories.{Categories}
+use Rattle.book.specs.declared.words.Words.{Words}
 
 -- what blocks 0 and 1 have passed when a later block is read: both counts fit a word of 64 bits
 pub record CountsHold (head : Head) : Type 0 where
@@ -42,14 +22,14 @@ pub record CountsHold (head : Head) : Type 0 where
   pub categories : data_count head ≤ 64
 
 -- the words of a head whose counts hold
-pub record CountedWords (head : Head) (t : List ℕ) : Type 0 where
-  pub words : HeadWords head t
+pub record CountedWords (head : Head) (words : Words) : Type 0 where
+  pub told : HeadWords head words
   pub counts : CountsHold head
 
 -- the outcome for the contents of block i
-abbrev pub ContentsAt : Head → List ℕ → Block → ℕ → Tested → Type 0
-ContentsAt head t block i outcome =
-    HeadWords head t → (2 ≤ i → CountsHold head) → outcome ≡ first_failing (block_tests head block i)
+pub record ContentsAt (head : Head) (words : Words) (block : Block) (i : ℕ) (outcome : Outcome) : Type 0 where
+  pub told :
+      HeadWords head words → (2 ≤ i → CountsHold head) → outcome ≡ first_failing (block_tests head block i)
 
 -- every category names a parent by the law
 abbrev pub parents_hold : Hierarchy → Head → Bool
@@ -71,29 +51,54 @@ present_leaf head rule i d = ltb i (reference_count rule) && (ltb d 64 && in_lea
 
 -- the tests of a rule block, by the words of the head
 
-abbrev pub UserNumbersTold : List ℕ → Rule → Bool → Type 0
-UserNumbersTold t rule holds = (head : Head) → CountedWords head t → holds ≡ user_numbers_hold head rule
+abbrev pub UserNumbersTold : Words → Rule → Bool → Type 0
+UserNumbersTold words rule holds = (head : Head) → CountedWords head words → holds ≡ user_numbers_hold head rule
+
+abbrev pub ReferenceTold : Categories → ℕ → List ℕ → Option Action → Bool → Type 0
+ReferenceTold categories c list named holds =
+    (count : ℕ) (parent : ℕ → ℕ)
+    → CategoriesHold count parent categories
+    → count ≤ 64
+    → holds ≡ (ltb c count && (names_action named && all (proper_descendant count parent c) list))
 
 -- an absent reference holds
-abbrev pub ReferredTo : List ℕ → Rule → ℕ → Referred → Type 0
-ReferredTo t rule i referred =
-    (head : Head)
-    → CountedWords head t
-    → (referred.holds ≡ (leb (reference_count rule) i || reference_holds head rule i))
-    × ((d : ℕ) → has referred.leaves d ≡ present_leaf head rule i d)
+abbrev pub absent_or_holds : Head → Rule → ℕ → Bool
+absent_or_holds head rule i = leb (reference_count rule) i || reference_holds head rule i
+
+-- what reading a reference gives: its leaves, if its numbers hold
+abbrev pub ReferenceRead : Head → Rule → ℕ → Option ℕ → Type 0
+ReferenceRead head rule i None = absent_or_holds head rule i ≡ false
+ReferenceRead head rule i (Some leaves) =
+    (absent_or_holds head rule i ≡ true) × ((d : ℕ) → has leaves d ≡ present_leaf head rule i d)
+
+abbrev pub ReferredTo : Words → Rule → ℕ → Option ℕ → Type 0
+ReferredTo words rule i leaves = (head : Head) → CountedWords head words → ReferenceRead head rule i leaves
+
+-- what reading the references gives: the leaves of each, if the rule's numbers hold
+abbrev pub NumbersRead : Head → Rule → Option (List ℕ) → Type 0
+NumbersRead head rule None = numbers_hold head rule ≡ false
+NumbersRead head rule (Some leaves) =
+    (numbers_hold head rule ≡ true)
+    × ((d : ℕ) → has (get_or leaves 0 0) d ≡ present_leaf head rule 0 d)
+    × ((d : ℕ) → has (get_or leaves 1 0) d ≡ present_leaf head rule 1 d)
+    × ((d : ℕ) → has (get_or leaves 2 0) d ≡ present_leaf head rule 2 d)
+
+abbrev pub NumbersTold : Words → Rule → Option (List ℕ) → Type 0
+NumbersTold words rule leaves =
+    (head : Head) → CountedWords head words → reference_count rule ≤ 3 → NumbersRead head rule leaves
 
 -- the masks are read where the references hold
-abbrev pub AllowedTold : List ℕ → Rule → ℕ → ℕ → Type 0
-AllowedTold t rule i word =
+abbrev pub AllowedTold : Words → Rule → ℕ → ℕ → Type 0
+AllowedTold words rule i word =
     (head : Head)
-    → CountedWords head t
+    → CountedWords head words
     → references_hold head rule ≡ true
     → (k : ℕ) → has word k ≡ mask_allows head rule i k
 
-abbrev pub MasksTold : List ℕ → Rule → Bool → Type 0
-MasksTold t rule holds =
-    (head : Head) → CountedWords head t → references_hold head rule ≡ true → holds ≡ masks_hold head rule
+abbrev pub MasksTold : Words → Rule → Bool → Type 0
+MasksTold words rule holds =
+    (head : Head) → CountedWords head words → references_hold head rule ≡ true → holds ≡ masks_hold head rule
 
-abbrev pub RuleTested : List ℕ → Rule → ℕ → Tested → Type 0
-RuleTested t rule i outcome =
-    (head : Head) → CountedWords head t → outcome ≡ first_failing (rule_block_tests head rule i)
+abbrev pub RuleTested : Words → Rule → ℕ → Outcome → Type 0
+RuleTested words rule i outcome =
+    (head : Head) → CountedWords head words → outcome ≡ first_failing (rule_block_tests head rule i)

@@ -1,66 +1,58 @@
--- The words of a head: each call fills a table of them once and lends it. What stands where is said here and in
--- src/words.rt, and nowhere else. No call's promise leans on this file. Assumes nothing.
-use Rattle.std.specs.Prelude.{ℕ, ◌+◌, ◌<◌, ◌≡◌, Bool, ◌&&◌, List, get_or, ltb}
+-- The words of a head: what a call keeps of both hierarchies, filled once. Their struct is in src/words.rt. No call's
+-- promise leans on this file. Assumes nothing.
+use Rattle.std.specs.Prelude.{ℕ, ◌<◌, ◌≡◌, Bool, ◌&&◌, List, get_or, ltb}
 use Rattle.book.specs.Lists.{any}
 use Rattle.book.specs.Sets.{WordOf}
-use Rattle.book.specs.Hierarchies.{under, covers}
+use Rattle.book.specs.Hierarchies.{under, covers, leaf}
 use Rattle.book.specs.Blocks.{Head, Rule}
-use Rattle.book.specs.Head.{user_count, user_parent, data_count, data_parent, is_user, is_data_leaf, support_of}
+use Rattle.book.specs.Head.{user_count, user_parent, data_count, data_parent, support_of}
 use Rattle.book.specs.Rule.{in_leaf_set, covers_user}
-use Rattle.book.specs.Inner.Reading.{count_in, parent_in, leaf_in, Supporting}
+use Rattle.book.specs.Inner.Reading.{count_in, parent_in, Supporting}
 use Rattle.book.specs.declared.Hierarchy.{Hierarchy}
+use Rattle.book.specs.declared.words.Categories.{Categories}
+use Rattle.book.specs.declared.words.Words.{Words}
 
 -- one of the categories, under c
 abbrev pub subtree : (count : ℕ) (parent : ℕ → ℕ) (c i : ℕ) → Bool
 subtree count parent c i = ltb i count && under parent c i
 
--- t holds the words of a head, whatever its bytes are
-pub record HeadWords (head : Head) (t : List ℕ) : Type 0 where
-  pub categories : (c : ℕ) → c < 64 → WordOf (subtree (data_count head) (data_parent head) c) (get_or t c 0)
-  pub support : (c : ℕ) → c < 64 → c < data_count head → get_or t (64 + c) 0 ≡ support_of head c
-  pub groups : (c : ℕ) → c < 64 → WordOf (subtree (user_count head) (user_parent head) c) (get_or t (128 + c) 0)
-  pub leaves : WordOf (is_data_leaf head) (get_or t 192 0)
-  pub users : WordOf (is_user head) (get_or t 193 0)
-  pub category_count : get_or t 194 0 ≡ data_count head
-  pub group_count : get_or t 195 0 ≡ user_count head
+-- the words of one hierarchy, whatever its bytes are
+pub record CategoriesHold (count : ℕ) (parent : ℕ → ℕ) (words : Categories) : Type 0 where
+  pub under : (c : ℕ) → c < 64 → WordOf (subtree count parent c) (get_or words.under c 0)
+  pub leaves : WordOf (leaf count parent) words.leaves
+  pub number : words.count ≡ count
+
+-- the words of a head, whatever its bytes are
+pub record HeadWords (head : Head) (words : Words) : Type 0 where
+  pub categories : CategoriesHold (data_count head) (data_parent head) words.categories
+  pub users : CategoriesHold (user_count head) (user_parent head) words.users
+  pub supports : (c : ℕ) → c < 64 → c < data_count head → get_or words.supports c 0 ≡ support_of head c
 
 -- What the functions that read the words promise
 
-abbrev pub UnderWord : Hierarchy → List ℕ → ℕ → ℕ → Type 0
-UnderWord which t c word =
-    (head : Head) → HeadWords head t → WordOf (subtree (count_in which head) (parent_in which head) c) word
+-- a set of the categories of some words
+abbrev pub Within : Categories → ((count : ℕ) (parent : ℕ → ℕ) → ℕ → Bool) → ℕ → Type 0
+Within words members word = (count : ℕ) (parent : ℕ → ℕ) → CategoriesHold count parent words → WordOf (members count parent) word
 
-abbrev pub LeafWord : Hierarchy → List ℕ → ℕ → Type 0
-LeafWord which t word = (head : Head) → HeadWords head t → WordOf (leaf_in which head) word
+abbrev pub SupportWord : Words → ℕ → ℕ → Type 0
+SupportWord words c word = (head : Head) → HeadWords head words → c < 64 → c < data_count head → word ≡ support_of head c
 
-abbrev pub SupportWord : List ℕ → ℕ → ℕ → Type 0
-SupportWord t c word = (head : Head) → HeadWords head t → c < 64 → c < data_count head → word ≡ support_of head c
-
-abbrev pub SupportingWords : List ℕ → List ℕ → Type 0
-SupportingWords t words = (head : Head) → HeadWords head t → Supporting head words
-
-abbrev pub CountOf : Hierarchy → List ℕ → ℕ → Type 0
-CountOf which t n = (head : Head) → HeadWords head t → n ≡ count_in which head
+abbrev pub SupportingWords : Words → List ℕ → Type 0
+SupportingWords words found = (head : Head) → HeadWords head words → Supporting head found
 
 -- the categories under one of a list
-abbrev pub UnderSome : Hierarchy → List ℕ → List ℕ → ℕ → Type 0
-UnderSome which t list word =
-    (head : Head)
-    → HeadWords head t
-    → WordOf (λ i. ltb i (count_in which head) && any (λ e. under (parent_in which head) e i) list) word
+abbrev pub under_some : List ℕ → (count : ℕ) (parent : ℕ → ℕ) → ℕ → Bool
+under_some list count parent i = ltb i count && any (λ e. under parent e i) list
 
 -- the leaves that a category covers with some excluded
-abbrev pub CoveredLeaves : Hierarchy → List ℕ → ℕ → List ℕ → ℕ → Type 0
-CoveredLeaves which t c excluded word =
-    (head : Head)
-    → HeadWords head t
-    → WordOf (λ i. leaf_in which head i && covers (parent_in which head) c excluded i) word
+abbrev pub covered_leaves : ℕ → List ℕ → (count : ℕ) (parent : ℕ → ℕ) → ℕ → Bool
+covered_leaves c excluded count parent i = leaf count parent i && covers parent c excluded i
 
-abbrev pub LeafSet : List ℕ → Rule → ℕ → ℕ → Type 0
-LeafSet t rule i word = (head : Head) → HeadWords head t → WordOf (in_leaf_set head rule i) word
+abbrev pub LeafSet : Words → Rule → ℕ → ℕ → Type 0
+LeafSet words rule i word = (head : Head) → HeadWords head words → WordOf (in_leaf_set head rule i) word
 
-abbrev pub CoveredUsers : List ℕ → Rule → ℕ → Type 0
-CoveredUsers t rule word = (head : Head) → HeadWords head t → WordOf (covers_user head rule) word
+abbrev pub CoveredUsers : Words → Rule → ℕ → Type 0
+CoveredUsers words rule word = (head : Head) → HeadWords head words → WordOf (covers_user head rule) word
 
 -- What the functions that make them promise
 

@@ -1,12 +1,13 @@
--- The answer packs, and blocks, rules and marks are left as the call leaves them. Assumes nothing.
-use Rattle.capi.proofs.Edits.{arrive_packs, arrive_promised}
+-- The number says what N11 asks (`arrive_promised`). Assumes nothing.
+use Rattle.capi.specs.Packing.{edit_packed, number_value}
+use Rattle.capi.proofs.PackedLaws.{packs}
+use Rattle.capi.proofs.Edits.{arrive_promised}
 use Rattle.capi.proofs.pspec_arrive.Goals as goal
 
-pub returns : goal.returns
-returns c =
+pub returns-clause-says : goal.returns-clause-says
+unfolding edit_packed
+returns-clause-says c =
     let a = c.args in
-    let said = c.arrive-answer in
+    let said = c.arrive.ensures in
     arrive_promised a.blocks.now a.rules.now a.marks.now a.block.now _ _ _ _
-    (arrive_packs a.blocks.now a.rules.now a.marks.now a.block.now said.result c.edit_packed.result
-    said.ensures.0 c.edit_packed.ensures)
-    said.ensures.1 said.ensures.2 said.ensures.3 said.ensures.4 said.ensures.5
+    (packs number_value c.arrive.result _ c.pack.result c.pack.ensures said.answer) said.blocks said.rules said.marks said.says said.continues

@@ -1,28 +1,14 @@
--- The answer is a refusal, unblocked or a mask, packs as such, and says what N6 asks. Assumes nothing.
-use Rattle.capi.proofs.PackedLaws.{culprits_few, culprits_refused, culprits_unblocked}
+-- The number is the mask with the asking rule (`few_said`), and says what N6 asks. Assumes nothing.
+use Rattle.std.proofs.Common.{rules, ◌≡◌, ◌∙◌}
+use Rattle.capi.proofs.PackedLaws.{few_said}
 use Rattle.capi.proofs.Headline.{culprits_says}
 use Rattle.capi.proofs.pspec_culprits.Goals as goal
 
-pub returns-in-Refused : goal.returns-in-Refused
-returns-in-Refused c =
-    let a = c.args in
-    let e =
-    culprits_refused a.book.now a.rule c.culprits.result c.culprits.ensures.0
-    c.in-Refused.refusal c.packed.result c.in-Refused.is c.packed.ensures in
-    (e, culprits_says a.book.now a.rule _ e)
+pub returns-clause-answer : goal.returns-clause-answer
+returns-clause-answer c =
+    c.pack.ensures
+    ∙ few_said c.args.book.now c.args.rule c.culprits.result c.map.result _ c.culprits.ensures.answer c.map.ensures.cases
+    (λ x n p. search (rules, p))
 
-pub returns-in-Unblocked : goal.returns-in-Unblocked
-returns-in-Unblocked c =
-    let a = c.args in
-    let e =
-    culprits_unblocked a.book.now a.rule c.culprits.result c.culprits.ensures.0
-    c.in-Unblocked.is in
-    (e, culprits_says a.book.now a.rule _ e)
-
-pub returns-in-Few : goal.returns-in-Few
-returns-in-Few c =
-    let a = c.args in
-    let e =
-    culprits_few a.book.now a.rule c.culprits.result c.culprits.ensures.0
-    c.in-Few.mask c.in-Few.is in
-    (e, culprits_says a.book.now a.rule _ e)
+pub returns-clause-says : goal.returns-clause-says
+returns-clause-says c = culprits_says c.args.book.now c.args.rule _ (returns-clause-answer c)

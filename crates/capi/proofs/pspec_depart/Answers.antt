@@ -1,12 +1,13 @@
--- The answer packs, and blocks, rules and marks are left as the call leaves them. Assumes nothing.
-use Rattle.capi.proofs.Edits.{depart_packs, depart_promised}
+-- The number says what N11 asks (`depart_promised`). Assumes nothing.
+use Rattle.capi.specs.Packing.{edit_packed, number_value}
+use Rattle.capi.proofs.PackedLaws.{packs}
+use Rattle.capi.proofs.Edits.{depart_promised}
 use Rattle.capi.proofs.pspec_depart.Goals as goal
 
-pub returns : goal.returns
-returns c =
+pub returns-clause-says : goal.returns-clause-says
+unfolding edit_packed
+returns-clause-says c =
     let a = c.args in
-    let said = c.depart-answer in
+    let said = c.depart.ensures in
     depart_promised a.blocks.now a.rules.now a.marks.now a.rule _ _ _ _
-    (depart_packs a.blocks.now a.rules.now a.marks.now a.rule said.result c.edit_packed.result
-    said.ensures.0 c.edit_packed.ensures)
-    said.ensures.1 said.ensures.2 said.ensures.3 said.ensures.4 said.ensures.5
+    (packs number_value c.depart.result _ c.pack.result c.pack.ensures said.answer) said.blocks said.rules said.marks said.says said.continues

@@ -1,20 +1,13 @@
 -- Which rules are idle, by the tables and by the book. No call's promise leans on this file. Assumes nothing.
-use Rattle.std.specs.Prelude.{ℕ, ◌<◌, ◌≡◌, Bool, true, false, ◌&&◌, List, ltb}
+use Rattle.std.specs.Prelude.{ℕ, ◌≡◌, ◌&&◌, List, ltb}
 use Rattle.book.specs.Sets.{has}
 use Rattle.book.specs.Blocks.{Book, head_of, rule_count}
-use Rattle.search.specs.Inner.Search.{solves_for}
 use Rattle.search.specs.Inner.Table.{TableHolds, HadHolds, CoversHold}
+use Rattle.search.specs.declared.tables.RuleTable.{RuleTable}
 use Rattle.editing.specs.Marks.{idle_at}
 
--- no user has three places that break rule r and none of the others, or some user has
-pub record IdleBy (t : List ℕ) (r n : ℕ) (had covered : List ℕ) (idle : Bool) : Type 0 where
-  pub nobody : idle ≡ true → (u a y x : ℕ) → u < 32 → solves_for t r n had covered u a y x ≡ false
-  pub somebody :
-      idle ≡ false
-      → (u : ℕ) × (a : ℕ) × (y : ℕ) × (x : ℕ) × (u < 32) × (solves_for t r n had covered u a y x ≡ true)
-
 -- the tables, the accesses that can be had and the users covered are those of a book
-pub record TablesOf (book : Book) (t had covered : List ℕ) : Type 0 where
+pub record TablesOf (book : Book) (t : List RuleTable) (had covered : List ℕ) : Type 0 where
   pub tables : TableHolds book (rule_count book) t
   pub hads : HadHolds (head_of book) had
   pub covers : CoversHold book (rule_count book) covered

@@ -1,13 +1,13 @@
 -- The words that the code keeps while it goes up the rows. No call's promise leans on this file: it names what the
 -- functions below them promise to each other. Assumes nothing.
-use Rattle.std.specs.Prelude.{ℕ, ◌+◌, ◌*◌, ◌/◌, ◌%◌, ◌<◌, ◌≡◌, Bool, true, false, ◌&&◌, ◌||◌, not, cond, List, [], ◌∷◌, length, get_or, eqb, ltb}
+use Rattle.std.specs.Prelude.{ℕ, ◌+◌, ◌*◌, ◌<◌, ◌≡◌, Bool, true, false, ◌&&◌, ◌||◌, not, cond, List, [], ◌∷◌, get_or, eqb, ltb}
 use Rattle.std.specs.Int.Bits.{bit_or}
 use Rattle.book.specs.Lists.{any, up_to}
 use Rattle.book.specs.Sets.{has, WordOf}
 use Rattle.book.specs.Blocks.{Head}
 use Rattle.book.specs.Head.{is_data_leaf, operation}
 use Rattle.book.specs.Inner.Reading.{Supporting}
-use Rattle.lineage.specs.Rows.{Plan, Apply, kind_at, row_a, row_b, row_c}
+use Rattle.lineage.specs.Rows.{Plan, Apply, kind_at, row_a}
 use Rattle.lineage.specs.Paths.{Applied, OneRow, TwoRows, Path, labels, operation_of, paths}
 use Rattle.lineage.specs.Accesses.{reaches, gives}
 
@@ -38,22 +38,18 @@ pub record PlanSound (head : Head) (plan : Plan) : Type 0 where
 abbrev pub RowReached : Head → Plan → ℕ → List ℕ → Type 0
 RowReached head plan i row = (w : ℕ) → w < 17 → WordOf (λ d. stands head plan i d w) (get_or row w 0)
 
--- a table of whole rows, seventeen words each: the rows below i; the others are empty
-pub record Reached (head : Head) (plan : Plan) (i : ℕ) (table : List ℕ) : Type 0 where
-  pub whole : length table % 17 ≡ 0
-  pub at : (r w : ℕ) → w < 17 → WordOf (λ d. ltb r i && stands head plan r d w) (get_or table (17 * r + w) 0)
+-- word w of row r of a table; 0 past its end
+abbrev pub word : (table : List (List ℕ)) (r w : ℕ) → ℕ
+word table r w = get_or (get_or table r []) w 0
 
--- the words of row r of a table of whole rows; all zero past its end
-abbrev pub RowOf : (table : List ℕ) (r : ℕ) (row : List ℕ) → Type 0
-RowOf table r row = length table % 17 ≡ 0 → (w : ℕ) → w < 17 → get_or row w 0 ≡ get_or table (17 * r + w) 0
+-- a table of rows of seventeen words: the rows below i; the others are empty
+abbrev pub Reached : Head → Plan → ℕ → List (List ℕ) → Type 0
+Reached head plan i table = (r w : ℕ) → w < 17 → WordOf (λ d. ltb r i && stands head plan r d w) (word table r w)
 
--- the words of the two rows that row i names, joined
-abbrev pub Brought : Plan → (table : List ℕ) (i : ℕ) (row : List ℕ) → Type 0
-Brought plan table i row =
-    length table % 17 ≡ 0
-    → (w : ℕ)
-    → w < 17
-    → get_or row w 0 ≡ bit_or (get_or table (17 * row_b plan i + w) 0) (get_or table (17 * row_c plan i + w) 0)
+-- the words of two rows, joined
+abbrev pub Brought : (table : List (List ℕ)) (first second : ℕ) (row : List ℕ) → Type 0
+Brought table first second row =
+    (w : ℕ) → w < 17 → get_or row w 0 ≡ bit_or (word table first w) (word table second w)
 
 -- the words of a Column row: its labels, without an operation
 abbrev pub ColumnReached : Head → ℕ → List ℕ → Type 0
@@ -61,7 +57,7 @@ ColumnReached head column row =
     (w : ℕ) → w < 17 → WordOf (λ d. any (eqb d) (labels head column) && eqb w 0) (get_or row w 0)
 
 -- the words of row i, from those of the rows below it
-abbrev pub RowStep : Head → Plan → List ℕ → List ℕ → ℕ → List ℕ → Type 0
+abbrev pub RowStep : Head → Plan → List ℕ → List (List ℕ) → ℕ → List ℕ → Type 0
 RowStep head plan supporting table i row =
     Supporting head supporting → PlanSound head plan → Reached head plan i table → RowReached head plan i row
 
@@ -81,44 +77,32 @@ Operated row o supporting next = Moved row o (λ d. not (eqb o 0) && has (get_or
 abbrev pub Mixed : List ℕ → List ℕ → Type 0
 Mixed row next = Moved row 16 (λ d. true) next
 
--- row r of a table of whole rows by operation: word 0 has every leaf without one
-abbrev pub ByOperation : (table : List ℕ) (r : ℕ) (words : List ℕ) → Type 0
+-- row r of a table by operation: word 0 has every leaf without one
+abbrev pub ByOperation : (table : List (List ℕ)) (r : ℕ) (words : List ℕ) → Type 0
 ByOperation table r words =
-    length table % 17 ≡ 0
-    → (k : ℕ)
+    (k : ℕ)
     → k < 16
-    → get_or words k 0
-    ≡ cond (eqb k 0) (bit_or (get_or table (17 * r + 0) 0) (get_or table (17 * r + 16) 0)) (get_or table (17 * r + k) 0)
-
--- row i of a table of whole rows written, all else as it was
-abbrev pub Stored : ℕ → List ℕ → List ℕ → List ℕ → Type 0
-Stored i row before after =
-    (length after ≡ length before)
-    × (length before % 17 ≡ 0
-    → (r w : ℕ)
-    → w < 17
-    → 17 * r + w < length before
-    → get_or after (17 * r + w) 0 ≡ cond (eqb r i) (get_or row w 0) (get_or before (17 * r + w) 0))
+    → get_or words k 0 ≡ cond (eqb k 0) (bit_or (word table r 0) (word table r 16)) (word table r k)
 
 -- where row i gives accesses, they are those of a row below n
 abbrev pub Given : Plan → ℕ → ℕ → Type 0
 Given plan n i = (s : ℕ) → gives (kind_at plan i) s ≡ true → row_a plan i < n
 
--- the accesses that the rows below i give
-abbrev pub Gathered : Head → Plan → ℕ → List ℕ → Type 0
+-- the accesses that the rows below i give, sixteen words a channel
+abbrev pub Gathered : Head → Plan → ℕ → List (List ℕ) → Type 0
 Gathered head plan i words =
-    (w : ℕ) →
-    w < 32 →
-    WordOf (λ d. any (λ j. gives (kind_at plan j) (w / 16) && reaches head plan (row_a plan j) d (w % 16)) (up_to i))
-    (get_or words w 0)
+    (s k : ℕ) →
+    s < 2 →
+    k < 16 →
+    WordOf (λ d. any (λ j. gives (kind_at plan j) s && reaches head plan (row_a plan j) d k) (up_to i)) (word words s k)
 
--- a row's words added to those of action s
-abbrev pub RowAdded : List ℕ → ℕ → List ℕ → List ℕ → Type 0
+-- a row's words added to those of channel s
+abbrev pub RowAdded : List (List ℕ) → ℕ → List ℕ → List (List ℕ) → Type 0
 RowAdded words s row next =
-    (w : ℕ) → w < 32 → get_or next w 0 ≡ bit_or (get_or words w 0) (cond (eqb (w / 16) s) (get_or row (w % 16) 0) 0)
+    (t k : ℕ) → t < 2 → k < 16 → word next t k ≡ bit_or (word words t k) (cond (eqb t s) (get_or row k 0) 0)
 
 -- what row i gives, added to what the rows below it give
-abbrev pub GatheredStep : Plan → List ℕ → ℕ → List ℕ → List ℕ → Type 0
+abbrev pub GatheredStep : Plan → List (List ℕ) → ℕ → List (List ℕ) → List (List ℕ) → Type 0
 GatheredStep plan table i words next =
     (head : Head) (n : ℕ)
     → PlanSound head plan
@@ -127,11 +111,15 @@ GatheredStep plan table i words next =
     → Gathered head plan i words
     → Gathered head plan (i + 1) next
 
--- what the first n rows give
-abbrev pub GatheredAll : Plan → List ℕ → ℕ → List ℕ → Type 0
+-- what the first n rows give, one channel after the other
+abbrev pub GatheredAll : Plan → List (List ℕ) → ℕ → List ℕ → Type 0
 GatheredAll plan table n words =
     (head : Head)
     → PlanSound head plan
     → Reached head plan n table
     → ((i : ℕ) → i < n → Given plan n i)
-    → Gathered head plan n words
+    → (s k : ℕ)
+    → s < 2
+    → k < 16
+    → WordOf (λ d. any (λ j. gives (kind_at plan j) s && reaches head plan (row_a plan j) d k) (up_to n))
+    (get_or words (16 * s + k) 0)

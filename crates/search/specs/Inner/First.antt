@@ -1,27 +1,26 @@
 -- What the search says of a book: the first user and choice, as places; and how the answer is made of them. No call's
 -- promise leans on this file. Assumes nothing.
-use Rattle.std.specs.Prelude.{ℕ, ◌+◌, ◌*◌, ◌≤◌, ◌≡◌, List, ◌++◌, length, take, drop}
+use Rattle.std.specs.Prelude.{ℕ, ◌+◌, ◌*◌, ◌≤◌, ◌≡◌, List, Option, Some, None, ◌++◌, length, take, drop}
 use Rattle.search.specs.Choices.{Candidate}
 use Rattle.search.specs.Shown.{shown_from}
 use Rattle.search.specs.Alone.{First, none, shown, first_alone}
-use Rattle.search.specs.Answers.{idleness_of, written}
+use Rattle.search.specs.Answers.{Idleness, idleness_of, written}
 use Rattle.search.specs.Inner.Places.{chosen_at, choice_at, rows_at}
-use Rattle.search.specs.declared.Idleness.{Idleness}
-use Rattle.search.specs.declared.users.Needs.{Needs}
-use Rattle.search.specs.declared.users.Needs.TheVariants.{Nobody, User}
+use Rattle.search.specs.declared.users.Witness.{Witness}
 
 -- what was found, as a user and a choice
-unfoldable pub found_of : Needs → First Candidate
-found_of Nobody = none
-found_of (User u a y x) = shown (record { user = u; choice = choice_at a y x })
+unfoldable pub found_of : Option Witness → First Candidate
+found_of None = none
+found_of (Some w) =
+    shown (record { user = w.user; choice = choice_at w.places.first w.places.second w.places.third })
 
-unfoldable pub FirstNeeds : List ℕ → ℕ → Needs → Type 0
+unfoldable pub FirstNeeds : List ℕ → ℕ → Option Witness → Type 0
 FirstNeeds book r found = first_alone book r ≡ found_of found
 
-unfoldable pub answer_of : List ℕ → Needs → Idleness
+unfoldable pub answer_of : List ℕ → Option Witness → Idleness
 answer_of head found = idleness_of head (found_of found)
 
-unfoldable pub buffer_of : List ℕ → Needs → List ℕ → List ℕ
+unfoldable pub buffer_of : List ℕ → Option Witness → List ℕ → List ℕ
 buffer_of head found buffer = written head (found_of found) buffer
 
 -- the rows for the access at place p follow the first n rows of a plan
@@ -33,8 +32,3 @@ WithAccess head n p before after =
 abbrev pub PlanCopied : List ℕ → ℕ → List ℕ → List ℕ → Type 0
 PlanCopied plan count before after =
     36 ≤ length before → count ≤ 36 → after ≡ take count plan ++ drop count before
-
--- the answer for what was found, and the buffer on leaving
-abbrev pub ShownAs : List ℕ → Needs → List ℕ → List ℕ → Idleness → Type 0
-ShownAs head found before after answer =
-    36 ≤ length before → (answer ≡ answer_of head found) × (after ≡ buffer_of head found before)

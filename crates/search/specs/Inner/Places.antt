@@ -1,6 +1,6 @@
 -- Accesses as numbers, in document 01's order, and sets of them as 33 words. No call's promise leans on this file.
 -- Assumes nothing.
-use Rattle.std.specs.Prelude.{ℕ, ◌+◌, ◌*◌, ◌/◌, ◌%◌, ◌≤◌, ◌<◌, ◌≡◌, Bool, true, false, cond, List, [], ◌∷◌, ◌++◌, get_or, ltb}
+use Rattle.std.specs.Prelude.{ℕ, ◌+◌, ◌*◌, ◌/◌, ◌%◌, ◌≤◌, ◌<◌, ◌≡◌, Bool, true, false, cond, Option, Some, None, List, [], ◌∷◌, ◌++◌, get_or, ltb}
 use Rattle.book.specs.Sets.{has}
 use Rattle.verdicts.specs.Accesses.{Access}
 use Rattle.search.specs.Shown.{rows_of}
@@ -38,6 +38,11 @@ in_places set p = has (get_or set (p / 64) 0) (p % 64)
 -- one past the last place that 33 words have room for
 abbrev pub past_places : ℕ
 past_places = 2112
+
+-- a place, or one past the last
+abbrev pub place_or_past : Option ℕ → ℕ
+place_or_past (Some p) = p
+place_or_past None = past_places
 
 -- the places of a set are those that pass a test
 abbrev pub PlacesOf : (ℕ → Bool) → List ℕ → Type 0

@@ -1,49 +1,52 @@
 -- What the search looks for, in the tables' terms: three places, one for each reference of rule r, the absent ones
 -- first. No call's promise leans on this file. Assumes nothing.
-use Rattle.std.specs.Prelude.{ℕ, ◌+◌, ◌/◌, ◌%◌, ◌<◌, ◌≡◌, Bool, true, false, ◌&&◌, ◌||◌, not, cond, List, get_or, eqb, ltb}
+use Rattle.std.specs.Prelude.{ℕ, ◌+◌, ◌/◌, ◌%◌, ◌<◌, ◌≡◌, Bool, true, false, ◌&&◌, ◌||◌, not, cond, List, Option, Some, None, get_or, eqb, ltb}
 use Rattle.book.specs.Lists.{any, up_to}
 use Rattle.book.specs.Sets.{has}
 use Rattle.search.specs.Inner.Places.{in_places, nowhere, past_places}
 use Rattle.search.specs.Inner.Table.{meets}
-use Rattle.search.specs.Inner.Closing.{accepted_at, closes_at, closes, Within, Grown}
-use Rattle.search.specs.declared.sifting.Remaining.{Remaining}
-use Rattle.search.specs.declared.searching.Sought.{Sought}
-use Rattle.search.specs.declared.searching.Sought.TheVariants.{Found, Nothing}
-use Rattle.search.specs.declared.users.Needs.{Needs}
-use Rattle.search.specs.declared.users.Needs.TheVariants.{Nobody, User}
+use Rattle.search.specs.Inner.Closing.{accepted_at, closes_at, closes, Within, Grown, Remaining}
+use Rattle.search.specs.declared.places.Places.{Places}
+use Rattle.search.specs.declared.tables.Question.{Question}
+use Rattle.search.specs.declared.tables.RuleTable.{RuleTable}
+use Rattle.search.specs.declared.users.Witness.{Witness}
+
+-- what is said of a question's tables, its rule and its number of references
+abbrev pub asked {ℓ} : {X : Type ℓ} → (List RuleTable → ℕ → ℕ → X) → Question → X
+asked of ask = of ask.tables.now ask.rule ask.references
 
 -- the reference that stands i-th, with absent ones first: of n references 0, 1, .. the last stands last
 abbrev pub reference_at : ℕ → ℕ → ℕ
 reference_at n i = (i + n) % 3
 
 -- place p can be chosen for it
-unfoldable pub candidate : List ℕ → ℕ → ℕ → List ℕ → ℕ → ℕ → Bool
+unfoldable pub candidate : List RuleTable → ℕ → ℕ → List ℕ → ℕ → ℕ → Bool
 candidate t r n had i p =
     cond (ltb (reference_at n i) n)
     (ltb p nowhere && (has (get_or had (p / 64) 0) (p % 64) && meets t r (reference_at n i) p)) (eqb p nowhere)
 
 -- some restriction of rule r accepts the three places
-abbrev pub accepts : List ℕ → ℕ → ℕ → ℕ → ℕ → ℕ → Bool
+abbrev pub accepts : List RuleTable → ℕ → ℕ → ℕ → ℕ → ℕ → Bool
 accepts t r n a y x = accepted_at t r (reference_at n 2) (reference_at n 0) (reference_at n 1) a y x
 
 -- none does
-unfoldable pub refuses : List ℕ → ℕ → ℕ → ℕ → ℕ → ℕ → Bool
+unfoldable pub refuses : List RuleTable → ℕ → ℕ → ℕ → ℕ → ℕ → Bool
 refuses t r n a y x = not (accepts t r n a y x)
 
 -- the three places break rule q: one by itself, two of them with the first, or all
-unfoldable pub drops : List ℕ → ℕ → ℕ → ℕ → ℕ → Bool
+unfoldable pub drops : List RuleTable → ℕ → ℕ → ℕ → ℕ → Bool
 drops t q a y x =
     (closes t q nowhere nowhere a || (closes t q nowhere nowhere y || closes t q nowhere nowhere x))
     || ((closes t q a nowhere y || closes t q a nowhere x) || closes t q a y x)
 
 -- three places break r and none of a set of rules
-unfoldable pub solves : List ℕ → ℕ → ℕ → List ℕ → (ℕ → Bool) → ℕ → ℕ → ℕ → Bool
+unfoldable pub solves : List RuleTable → ℕ → ℕ → List ℕ → (ℕ → Bool) → ℕ → ℕ → ℕ → Bool
 solves t r n had rules a y x =
     (candidate t r n had 0 a && (candidate t r n had 1 y && candidate t r n had 2 x))
     && (refuses t r n a y x && not (any (λ q. rules q && drops t q a y x) (up_to 32)))
 
 -- the same of places in three sets, which hold nothing that breaks a rule by itself
-unfoldable pub solves_in : List ℕ → ℕ → ℕ → List ℕ → List ℕ → List ℕ → (ℕ → Bool) → ℕ → ℕ → ℕ → Bool
+unfoldable pub solves_in : List RuleTable → ℕ → ℕ → List ℕ → List ℕ → List ℕ → (ℕ → Bool) → ℕ → ℕ → ℕ → Bool
 solves_in t r n firsts seconds thirds rules a y x =
     (in_places firsts a && (in_places seconds y && in_places thirds x))
     && (refuses t r n a y x
@@ -51,7 +54,7 @@ solves_in t r n firsts seconds thirds rules a y x =
     (any (λ q. rules q && ((closes t q a nowhere y || closes t q a nowhere x) || closes t q a y x)) (up_to 32)))
 
 -- the same for a first place f
-unfoldable pub solves_first : List ℕ → ℕ → ℕ → ℕ → List ℕ → List ℕ → (ℕ → Bool) → ℕ → ℕ → ℕ → Bool
+unfoldable pub solves_first : List RuleTable → ℕ → ℕ → ℕ → List ℕ → List ℕ → (ℕ → Bool) → ℕ → ℕ → ℕ → Bool
 solves_first t r n f seconds thirds rules a y x =
     (eqb a f && (in_places seconds y && in_places thirds x))
     && (refuses t r n a y x
@@ -59,13 +62,13 @@ solves_first t r n f seconds thirds rules a y x =
     (any (λ q. rules q && ((closes t q a nowhere y || closes t q a nowhere x) || closes t q a y x)) (up_to 32)))
 
 -- the same for a first place f and sets that hold nothing that breaks a rule beside it
-unfoldable pub solves_beside : List ℕ → ℕ → ℕ → ℕ → List ℕ → List ℕ → (ℕ → Bool) → ℕ → ℕ → ℕ → Bool
+unfoldable pub solves_beside : List RuleTable → ℕ → ℕ → ℕ → List ℕ → List ℕ → (ℕ → Bool) → ℕ → ℕ → ℕ → Bool
 solves_beside t r n f seconds thirds rules a y x =
     (eqb a f && (in_places seconds y && in_places thirds x))
     && (refuses t r n a y x && not (any (λ q. rules q && closes t q a y x) (up_to 32)))
 
 -- the same for a first place f and a second place s
-unfoldable pub solves_pair : List ℕ → ℕ → ℕ → ℕ → ℕ → List ℕ → (ℕ → Bool) → ℕ → ℕ → ℕ → Bool
+unfoldable pub solves_pair : List RuleTable → ℕ → ℕ → ℕ → ℕ → List ℕ → (ℕ → Bool) → ℕ → ℕ → ℕ → Bool
 solves_pair t r n f s thirds rules a y x =
     (eqb a f && (eqb y s && in_places thirds x))
     && (refuses t r n a y x && not (any (λ q. rules q && closes t q a y x) (up_to 32)))
@@ -89,21 +92,17 @@ pub record Unsolved (test : (ℕ → Bool) → ℕ → ℕ → ℕ → Bool) (ru
   pub only : Grown rules before marked
   pub none : (a y x : ℕ) → test marked a y x ≡ false
 
--- what a search answers that began with some rules marked
-unfoldable pub Searched : ((ℕ → Bool) → ℕ → ℕ → ℕ → Bool) → ℕ → ℕ → Sought → Type 0
-Searched test rules before (Found a y x) = Solved (test (has rules)) a y x
-Searched test rules before (Nothing marked last) = Unsolved test (has rules) (has before) (has marked)
+-- what a search answers that began with some rules marked and ends with more
+unfoldable pub Searched : ((ℕ → Bool) → ℕ → ℕ → ℕ → Bool) → ℕ → ℕ → ℕ → Option Places → Type 0
+Searched test rules before marked (Some found) = Solved (test (has rules)) found.first found.second found.third
+Searched test rules before marked None = Unsolved test (has rules) (has before) (has marked)
 
 -- what it answers that is given marked rules which are among the rules
-abbrev pub SearchedSince : ((ℕ → Bool) → ℕ → ℕ → ℕ → Bool) → ℕ → ℕ → Sought → Type 0
-SearchedSince test rules before sought = Within (has before) (has rules) → Searched test rules before sought
-
--- the same with the third places
-abbrev pub SearchedFrom : (List ℕ → (ℕ → Bool) → ℕ → ℕ → ℕ → Bool) → ℕ → Remaining → Sought → Type 0
-SearchedFrom test rules before sought = SearchedSince (test before.places) rules before.rules sought
+abbrev pub SearchedSince : ((ℕ → Bool) → ℕ → ℕ → ℕ → Bool) → ℕ → ℕ → ℕ → Option Places → Type 0
+SearchedSince test rules before marked found = Within (has before) (has rules) → Searched test rules before marked found
 
 -- the last reference's places beside the two before
-pub record Thirds (t : List ℕ) (r n rules a y : ℕ) (before after : Remaining) : Type 0 where
+pub record Thirds (t : List RuleTable) (r n rules a y : ℕ) (before after : Remaining) : Type 0 where
   pub within : (x : ℕ) → x < past_places → in_places after.places x ≡ true → in_places before.places x ≡ true
   pub refused : (x : ℕ) → x < past_places → in_places after.places x ≡ true → refuses t r n a y x ≡ true
   pub passed :
@@ -124,7 +123,7 @@ pub record Thirds (t : List ℕ) (r n rules a y : ℕ) (before after : Remaining
   pub only : Grown (has rules) (has before.rules) (has after.rules)
 
 -- the places that can be chosen for the i-th reference, less what breaks a rule by itself
-pub record Possible (t : List ℕ) (r n : ℕ) (had : List ℕ) (rules i seen : ℕ) (after : Remaining) : Type 0 where
+pub record Possible (t : List RuleTable) (r n : ℕ) (had : List ℕ) (rules i seen : ℕ) (after : Remaining) : Type 0 where
   pub within : (p : ℕ) → p < past_places → in_places after.places p ≡ true → candidate t r n had i p ≡ true
   pub passed :
       (p q : ℕ)
@@ -145,7 +144,7 @@ pub record Possible (t : List ℕ) (r n : ℕ) (had : List ℕ) (rules i seen : 
 -- Second places that one rule settles
 
 -- the places of a set with none of r's own operations meet reference i of rule q, with none of the others: q takes them
-abbrev pub TakesAll : List ℕ → ℕ → ℕ → List ℕ → ℕ → ℕ → Type 0
+abbrev pub TakesAll : List RuleTable → ℕ → ℕ → List ℕ → ℕ → ℕ → Type 0
 TakesAll t q i thirds own other =
     (x : ℕ)
     → x < past_places
@@ -153,19 +152,23 @@ TakesAll t q i thirds own other =
     → has own (x % 64) ≡ false
     → (meets t q i x && not (has other (x % 64))) ≡ true
 
--- operations of a second place at l, with a at k, beside which it takes at i every third place that r refuses
-abbrev pub SettledWith : List ℕ → ℕ → ℕ → ℕ → ℕ → ℕ → ℕ → ℕ → List ℕ → ℕ → Type 0
-SettledWith t r n q i k l a thirds operations =
-    (y x : ℕ)
+-- beside a second place at l with a at k it takes at i every third place that r refuses
+abbrev pub SettledBeside : List RuleTable → ℕ → ℕ → ℕ → ℕ → ℕ → ℕ → ℕ → List ℕ → ℕ → Type 0
+SettledBeside t r n q i k l a thirds y =
+    (x : ℕ)
     → x < past_places
-    → has operations (y % 64) ≡ true
     → in_places thirds x ≡ true
     → refuses t r n a y x ≡ true
     → (meets t q i x && not (accepted_at t q i k l a y x)) ≡ true
 
+-- operations of a second place beside which it does
+abbrev pub SettledWith : List RuleTable → ℕ → ℕ → ℕ → ℕ → ℕ → ℕ → ℕ → List ℕ → ℕ → Type 0
+SettledWith t r n q i k l a thirds operations =
+    (y : ℕ) → has operations (y % 64) ≡ true → SettledBeside t r n q i k l a thirds y
+
 -- second places are gone beside which every third place that r refuses is taken
 pub record Settled
-    (t : List ℕ)
+    (t : List RuleTable)
     (r n a : ℕ)
     (thirds : List ℕ)
     (taken : ℕ → ℕ → Bool)
@@ -183,12 +186,12 @@ pub record Settled
       → taken y x ≡ true
 
 -- by rule q, with the third place at i, a at k and the second place at l
-abbrev pub SettledAt : List ℕ → ℕ → ℕ → ℕ → ℕ → ℕ → ℕ → ℕ → List ℕ → List ℕ → List ℕ → Type 0
+abbrev pub SettledAt : List RuleTable → ℕ → ℕ → ℕ → ℕ → ℕ → ℕ → ℕ → List ℕ → List ℕ → List ℕ → Type 0
 SettledAt t r n q i k l a thirds = Settled t r n a thirds (λ y x. meets t q i x && closes_at t q i k l a y x)
 
 -- by a rule that is marked
 pub record SettledBy
-    (t : List ℕ)
+    (t : List RuleTable)
     (r n rules a : ℕ)
     (thirds seconds : List ℕ)
     (seen : ℕ)
@@ -211,26 +214,27 @@ unfoldable pub others_for : ℕ → List ℕ → ℕ → ℕ → Bool
 others_for r covered u q = covers_in covered q u && not (eqb q r)
 
 -- rule r covers user u, and three places break it and none of the others that do
-unfoldable pub solves_for : List ℕ → ℕ → ℕ → List ℕ → List ℕ → ℕ → ℕ → ℕ → ℕ → Bool
+unfoldable pub solves_for : List RuleTable → ℕ → ℕ → List ℕ → List ℕ → ℕ → ℕ → ℕ → ℕ → Bool
 solves_for t r n had covered u a y x = covers_in covered r u && solves t r n had (others_for r covered u) a y x
 
 -- a mask with bit 63 says nothing; any other is a set of rules that leaves no three places
-abbrev pub Settles : List ℕ → ℕ → ℕ → List ℕ → ℕ → Type 0
+abbrev pub Settles : List RuleTable → ℕ → ℕ → List ℕ → ℕ → Type 0
 Settles t r n had mask = has mask 63 ≡ false → (a y x : ℕ) → solves t r n had (has mask) a y x ≡ false
 
-abbrev pub AllSettle : List ℕ → ℕ → ℕ → List ℕ → List ℕ → Type 0
+abbrev pub AllSettle : List RuleTable → ℕ → ℕ → List ℕ → List ℕ → Type 0
 AllSettle t r n had masks = (i : ℕ) → i < 32 → Settles t r n had (get_or masks i 0)
 
--- what the search for one user answers
-unfoldable pub SearchedFor : List ℕ → ℕ → ℕ → List ℕ → List ℕ → ℕ → Sought → Type 0
-SearchedFor t r n had covered u (Found a y x) = Solved (solves_for t r n had covered u) a y x
-SearchedFor t r n had covered u (Nothing marked last) =
-    ((a y x : ℕ) → solves_for t r n had covered u a y x ≡ false) × Settles t r n had marked
+-- what the search for one user answers, with a mask
+unfoldable pub SearchedFor : List RuleTable → ℕ → ℕ → List ℕ → List ℕ → ℕ → ℕ → Option Places → Type 0
+SearchedFor t r n had covered u mask (Some found) =
+    Solved (solves_for t r n had covered u) found.first found.second found.third
+SearchedFor t r n had covered u mask None =
+    ((a y x : ℕ) → solves_for t r n had covered u a y x ≡ false) × Settles t r n had mask
 
 -- the first user, and for it the first three places in some order
 pub record NeedsUser
     (before : ℕ → ℕ → ℕ → ℕ → ℕ → ℕ → Bool)
-    (t : List ℕ)
+    (t : List RuleTable)
     (r n : ℕ)
     (had covered : List ℕ)
     (u a y x : ℕ)
@@ -240,6 +244,7 @@ pub record NeedsUser
   pub users : (v b z w : ℕ) → v < u → solves_for t r n had covered v b z w ≡ false
 
 unfoldable pub NeedsFirst :
-    (ℕ → ℕ → ℕ → ℕ → ℕ → ℕ → Bool) → List ℕ → ℕ → ℕ → List ℕ → List ℕ → Needs → Type 0
-NeedsFirst before t r n had covered Nobody = (u a y x : ℕ) → u < 32 → solves_for t r n had covered u a y x ≡ false
-NeedsFirst before t r n had covered (User u a y x) = NeedsUser before t r n had covered u a y x
+    (ℕ → ℕ → ℕ → ℕ → ℕ → ℕ → Bool) → List RuleTable → ℕ → ℕ → List ℕ → List ℕ → Option Witness → Type 0
+NeedsFirst before t r n had covered None = (u a y x : ℕ) → u < 32 → solves_for t r n had covered u a y x ≡ false
+NeedsFirst before t r n had covered (Some w) =
+    NeedsUser before t r n had covered w.user w.places.first w.places.second w.places.third

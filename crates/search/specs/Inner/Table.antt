@@ -1,24 +1,36 @@
--- The tables of the search: 128 words for each rule, and what they say of the book. No call's promise leans on this
--- file. Assumes nothing.
-use Rattle.std.specs.Prelude.{ℕ, zero, suc, ◌+◌, ◌-◌, ◌*◌, ◌/◌, ◌%◌, ◌≤◌, ◌<◌, ◌≡◌, Bool, true, false, ◌&&◌, cond, List, get_or, eqb, ltb}
+-- The tables of the search, one for each rule, and what they say of the book. No call's promise leans on this file.
+-- Assumes nothing.
+use Rattle.std.specs.Prelude.{ℕ, zero, suc, ◌+◌, ◌*◌, ◌/◌, ◌%◌, ◌≤◌, ◌<◌, ◌≡◌, Bool, true, false, ◌&&◌, cond, List, [], get_or, eqb, ltb}
 use Rattle.book.specs.Lists.{any, up_to}
 use Rattle.book.specs.Sets.{has, WordOf}
 use Rattle.book.specs.Blocks.{head_of, rule_at}
 use Rattle.book.specs.Head.{function_count, operation}
-use Rattle.book.specs.Rule.{action, reference_count, restriction_count, restriction_mask, covers_user, in_leaf_set}
+use Rattle.book.specs.Rule.{action, reference_count, restriction_count, restriction_mask, covers_user}
 use Rattle.verdicts.specs.Actions.{channel_fits}
 use Rattle.verdicts.specs.Accesses.{fits}
-use Rattle.verdicts.specs.Inner.Words.{mask_takes}
+use Rattle.verdicts.specs.Inner.Words.{mask_takes, RuleSound}
 use Rattle.search.specs.Obtainable.{labelled, operated, can_be_had}
 use Rattle.search.specs.Inner.Places.{access_at, nowhere}
+use Rattle.search.specs.declared.tables.RuleTable.{RuleTable}
 
--- place p meets reference i of rule q: 33 words of places a reference
-unfoldable pub meets : List ℕ → ℕ → ℕ → ℕ → Bool
-meets t q i p = has (get_or t (128 * q + 33 * i + p / 64) 0) (p % 64)
+-- past the last rule: no place meets it, no restriction takes
+abbrev pub no_table : RuleTable
+no_table = record { meets = []; takes = [] }
+
+-- of rule q the words of the places that meet reference i, and of the operations that restrictions take there
+abbrev pub meets_words : List RuleTable → ℕ → ℕ → List ℕ
+meets_words t q i = get_or (get_or t q no_table).meets i []
+
+abbrev pub takes_words : List RuleTable → ℕ → ℕ → List ℕ
+takes_words t q i = get_or (get_or t q no_table).takes i []
+
+-- place p meets reference i of rule q
+unfoldable pub meets : List RuleTable → ℕ → ℕ → ℕ → Bool
+meets t q i p = has (get_or (meets_words t q i) (p / 64) 0) (p % 64)
 
 -- restriction j of rule q takes the operation of place p at reference i: a mask of 16 bits, four times over
-unfoldable pub takes_at : List ℕ → ℕ → ℕ → ℕ → ℕ → Bool
-takes_at t q i j p = has (get_or t (128 * q + 99 + 8 * i + j) 0) (p % 64)
+unfoldable pub takes_at : List RuleTable → ℕ → ℕ → ℕ → ℕ → Bool
+takes_at t q i j p = has (get_or (takes_words t q i) j 0) (p % 64)
 
 -- a place against reference i of a rule, given the word of the reference's leaves
 unfoldable pub meets_reference : List ℕ → ℕ → ℕ → ℕ → Bool
@@ -59,30 +71,29 @@ ReferenceWord rule leaves i w word =
 abbrev pub ReferenceWords : List ℕ → ℕ → ℕ → List ℕ → Type 0
 ReferenceWords rule leaves i words = (w : ℕ) → w < 33 → ReferenceWord rule leaves i w (get_or words w 0)
 
--- the operations that restriction j of a rule takes at reference i
+-- the operations that restriction j of a rule takes at reference i, four times over
 abbrev pub RestrictionWord : List ℕ → ℕ → ℕ → ℕ → Type 0
 RestrictionWord rule i j word = (p : ℕ) → has word (p % 64) ≡ takes_operation rule i j p
 
--- word k of the 128 words of a rule, given the leaves of the reference that it is about
-pub record RuleWord (rule : List ℕ) (leaves k word : ℕ) : Type 0 where
-  pub meeting : k < 99 → ReferenceWord rule leaves (k / 33) (k % 33) word
-  pub taking : 99 ≤ k → k < 123 → RestrictionWord rule ((k - 99) / 8) ((k - 99) % 8) word
-
--- all of them for rule q, given the leaf sets of the references, three for each rule
-abbrev pub RuleWords : List ℕ → List ℕ → ℕ → List ℕ → Type 0
-RuleWords rule sets q words = (k : ℕ) → k < 128 → RuleWord rule (get_or sets (3 * q + k / 33) 0) k (get_or words k 0)
-
--- the leaf set of reference m % 3 of rule m / 3, and those of the first n rules
-abbrev pub LeafWord : List ℕ → ℕ → ℕ → Type 0
-LeafWord book m word = WordOf (in_leaf_set (head_of book) (rule_at book (m / 3)) (m % 3)) word
-
-abbrev pub LeafSets : List ℕ → ℕ → List ℕ → Type 0
-LeafSets book n sets = (m : ℕ) → m < 3 * n → LeafWord book m (get_or sets m 0)
-
 -- Tables
 
--- the tables of the first n rules of a book: every place meets an absent reference
-pub record TableHolds (book : List ℕ) (n : ℕ) (t : List ℕ) : Type 0 where
+-- a rule's words at reference i: every place meets an absent reference
+pub record ReferenceHolds (head rule : List ℕ) (i : ℕ) (met taken : List ℕ) : Type 0 where
+  pub meeting :
+      (p : ℕ)
+      → p ≤ nowhere
+      → has (get_or met (p / 64) 0) (p % 64)
+      ≡ cond (ltb i (reference_count rule)) (ltb p nowhere && fits head rule i (access_at p)) true
+  pub taking : (j : ℕ) → j < 8 → RestrictionWord rule i j (get_or taken j 0)
+
+-- the table of a rule
+abbrev pub RuleHolds : List ℕ → List ℕ → RuleTable → Type 0
+RuleHolds head rule table =
+    (i : ℕ) → i < 3 → ReferenceHolds head rule i (get_or table.meets i []) (get_or table.takes i [])
+
+-- the tables of the first n rules of a book
+pub record TableHolds (book : List ℕ) (n : ℕ) (t : List RuleTable) : Type 0 where
+  pub sound : (q : ℕ) → q < n → RuleSound (head_of book) (rule_at book q)
   pub references :
       (q i p : ℕ)
       → q < n

@@ -1,11 +1,11 @@
 -- Choices by the number of their functions, in the tables' terms. No call's promise leans on this file. Assumes nothing.
-use Rattle.std.specs.Prelude.{ℕ, ◌+◌, ◌*◌, ◌/◌, ◌%◌, ◌≤◌, ◌<◌, ◌≡◌, Bool, false, ◌&&◌, ◌||◌, cond, List, eqb, ltb}
+use Rattle.std.specs.Prelude.{ℕ, ◌+◌, ◌*◌, ◌/◌, ◌%◌, ◌≤◌, ◌<◌, ◌≡◌, Bool, false, ◌&&◌, ◌||◌, cond, List, Option, Some, None, eqb, ltb}
 use Rattle.book.specs.Sets.{has}
 use Rattle.search.specs.Inner.Places.{in_places}
 use Rattle.search.specs.Inner.Search.{Earliest, Solved, solves, solves_in, triple_before}
-use Rattle.search.specs.declared.weighing.FirstPlaces.{FirstPlaces}
-use Rattle.search.specs.declared.weighing.FirstPlaces.TheVariants.{NoPlaces, At}
+use Rattle.search.specs.declared.places.Places.{Places}
 use Rattle.search.specs.declared.weighing.Sets.{Sets}
+use Rattle.search.specs.declared.tables.RuleTable.{RuleTable}
 
 -- the functions of the access at a place: none for operation 0, nor for an absent reference
 unfoldable pub functions_at : ℕ → ℕ
@@ -34,35 +34,35 @@ PartOf set pattern part =
     (p : ℕ) → in_places part p ≡ (in_places set p && eqb (functions_at p) (pattern % 2))
 
 -- three places in three sets break r and no rule of a set
-unfoldable pub solves_among : List ℕ → ℕ → ℕ → ℕ → Sets → ℕ → ℕ → ℕ → Bool
+unfoldable pub solves_among : List RuleTable → ℕ → ℕ → ℕ → Sets → ℕ → ℕ → ℕ → Bool
 solves_among t r n rules sets = solves_in t r n sets.firsts sets.seconds sets.thirds (has rules)
 
 -- they do so as they do among all candidates
-abbrev pub SetsFor : List ℕ → ℕ → ℕ → List ℕ → ℕ → Sets → Type 0
+abbrev pub SetsFor : List RuleTable → ℕ → ℕ → List ℕ → ℕ → Sets → Type 0
 SetsFor t r n had rules sets =
     (a y x : ℕ) → solves t r n had (has rules) a y x ≡ solves_among t r n rules sets a y x
 
 -- the first three places that pass a test, or that none do
-unfoldable pub FirstOf : (ℕ → ℕ → ℕ → Bool) → FirstPlaces → Type 0
-FirstOf test NoPlaces = (a y x : ℕ) → test a y x ≡ false
-FirstOf test (At a y x) = Solved test a y x
+unfoldable pub FirstOf : (ℕ → ℕ → ℕ → Bool) → Option Places → Type 0
+FirstOf test None = (a y x : ℕ) → test a y x ≡ false
+FirstOf test (Some p) = Solved test p.first p.second p.third
 
 -- of those with a pattern
-abbrev pub FirstOfPattern : List ℕ → ℕ → ℕ → ℕ → Sets → ℕ → FirstPlaces → Type 0
+abbrev pub FirstOfPattern : List RuleTable → ℕ → ℕ → ℕ → Sets → ℕ → Option Places → Type 0
 FirstOfPattern t r n rules sets pattern found =
     pattern ≤ 7 → FirstOf (λ a y x. solves_among t r n rules sets a y x && eqb (pattern_at a y x) pattern) found
 
 -- of those with so many functions
-abbrev pub FirstOfWeight : List ℕ → ℕ → ℕ → ℕ → Sets → ℕ → FirstPlaces → Type 0
+abbrev pub FirstOfWeight : List RuleTable → ℕ → ℕ → ℕ → Sets → ℕ → Option Places → Type 0
 FirstOfWeight t r n rules sets weight =
     FirstOf (λ a y x. solves_among t r n rules sets a y x && eqb (weight_at a y x) weight)
 
 -- the earlier of two answers to two tests answers both
-abbrev pub Earlier : FirstPlaces → FirstPlaces → FirstPlaces → Type 0
+abbrev pub Earlier : Option Places → Option Places → Option Places → Type 0
 Earlier one other both =
     (p q : ℕ → ℕ → ℕ → Bool) → FirstOf p one → FirstOf q other → FirstOf (λ a y x. p a y x || q a y x) both
 
 -- the first three places with as few functions as any, or that none have fewer than so many
-unfoldable pub LightestOf : (ℕ → ℕ → ℕ → Bool) → ℕ → FirstPlaces → Type 0
-LightestOf test most NoPlaces = (a y x : ℕ) → weight_at a y x < most → test a y x ≡ false
-LightestOf test most (At a y x) = Earliest lighter_places test a y x
+unfoldable pub LightestOf : (ℕ → ℕ → ℕ → Bool) → ℕ → Option Places → Type 0
+LightestOf test most None = (a y x : ℕ) → weight_at a y x < most → test a y x ≡ false
+LightestOf test most (Some p) = Earliest lighter_places test p.first p.second p.third

@@ -1,8 +1,10 @@
 -- What the two walks promise each other: the nodes of a row, in two parts by the row's kind. No call's promise leans on
 -- this file. Assumes nothing.
-use Rattle.std.specs.Prelude.{ℕ, suc, ◌+◌, ◌*◌, ◌/◌, ◌%◌, Bool, true, false, ◌&&◌, not, cond, List, [], map, eqb, ltb}
+use Rattle.std.specs.Prelude.{ℕ, suc, ◌≡◌, ◌<◌, Bool, true, false, not, cond, List, [], ◌++◌, length, eqb, Result, Ok, Err}
 use Rattle.lineage.specs.Rows.{Plan, Kind, Column, Apply, Choose, Output, Condition, Unknown, kind_at}
-use Rattle.trees.specs.Trees.{Node, nodes_from}
+use Rattle.trees.specs.Trees.{nodes_from}
+use Rattle.trees.specs.declared.walking.Node.{Node}
+use Rattle.trees.specs.declared.walking.TooMany.{TooMany}
 
 -- what the walk of an Apply takes, which takes Column rows too
 unfoldable pub of_apply : Kind → Bool
@@ -21,13 +23,9 @@ of_choose Output = false
 of_choose Condition = false
 of_choose Unknown = false
 
--- what a walk is passed: a row, or 255 for none
+-- what a row's byte names: a row, or 255 for none
 unfoldable pub is_row : ℕ → Bool
 is_row r = not (eqb r 255)
-
--- the row that row i names by r, where it is lower
-unfoldable pub lower_row : (row r : ℕ) → ℕ
-lower_row i r = cond (ltb r i) r 255
 
 -- what falls at each call: the row's number, counted from 1, or 0 for none
 unfoldable pub rank : ℕ → ℕ
@@ -35,17 +33,12 @@ rank r = cond (is_row r) (suc r) 0
 
 -- the nodes that each walk lists: all of the row's, or none
 unfoldable pub apply_nodes : Plan → (level row : ℕ) → List Node
-apply_nodes plan level r = cond (is_row r && of_apply (kind_at plan r)) (nodes_from plan level r) []
+apply_nodes plan level r = cond (of_apply (kind_at plan r)) (nodes_from plan level r) []
 
 unfoldable pub choose_nodes : Plan → (level row : ℕ) → List Node
-choose_nodes plan level r = cond (is_row r && of_choose (kind_at plan r)) (nodes_from plan level r) []
+choose_nodes plan level r = cond (of_choose (kind_at plan r)) (nodes_from plan level r) []
 
--- a node as one number, and back
-unfoldable pub code : Node → ℕ
-code n = 256 * n.level + n.row
-
-unfoldable pub decoded : ℕ → Node
-decoded x = record { level = x / 256; row = x % 256 }
-
-abbrev pub codes : List Node → List ℕ
-codes ns = map code ns
+-- nodes that are listed behind others, or are too many
+abbrev pub Listed : (nodes before after : List Node) → Result (Unit {0}) TooMany → Type 0
+Listed nodes before after (Ok _) = after ≡ before ++ nodes
+Listed nodes before after (Err _) = 4096 < length (before ++ nodes)

@@ -1,10 +1,11 @@
 -- What the functions that hold one rule against 32 words of accesses promise to each other. No call's promise
 -- leans on this file. Assumes nothing.
-use Rattle.std.specs.Prelude.{ℕ, ◌+◌, ◌*◌, ◌≤◌, ◌<◌, ◌≡◌, Bool, ◌&&◌, ◌||◌, not, cond, List, length, get_or, eqb, ltb}
+use Rattle.std.specs.Prelude.{ℕ, ◌+◌, ◌*◌, ◌≤◌, ◌<◌, ◌≡◌, Bool, ◌&&◌, ◌||◌, not, cond, List, [], length, get_or, eqb, ltb}
 use Rattle.book.specs.Lists.{any, up_to}
 use Rattle.book.specs.Sets.{has}
 use Rattle.book.specs.Blocks.{Head, Rule}
 use Rattle.book.specs.Inner.Words.{HeadWords}
+use Rattle.book.specs.declared.words.Words.{Words}
 use Rattle.book.specs.Head.{user_count, data_count}
 use Rattle.book.specs.Rule.{reference_count, restriction_count, restriction_mask}
 use Rattle.verdicts.specs.Accesses.{Accesses, fitting}
@@ -36,9 +37,9 @@ abbrev pub Offered : (head : Head) (rule : Rule) → Accesses → (i word : ℕ)
 Offered head rule accesses i word = (k : ℕ) → has word k ≡ (ltb k 16 && offers_or_none head rule accesses i k)
 
 -- the same, by the words of a head
-abbrev pub OfferedIfSound : (t : List ℕ) (rule : Rule) → Accesses → (i word : ℕ) → Type 0
-OfferedIfSound t rule accesses i word =
-    (head : Head) → HeadWords head t → RuleSound head rule → Offered head rule accesses i word
+abbrev pub OfferedIfSound : (words : Words) (rule : Rule) → Accesses → (i word : ℕ) → Type 0
+OfferedIfSound words rule accesses i word =
+    (head : Head) → HeadWords head words → RuleSound head rule → Offered head rule accesses i word
 
 -- Restrictions
 
@@ -52,45 +53,53 @@ beside rule a b k j =
     mask_takes (restriction_mask rule j 0) a
     && (mask_takes (restriction_mask rule j 1) b && mask_takes (restriction_mask rule j 2) k)
 
--- the masks of a rule in 24 words, that of restriction j for reference i in word 3 × j + i: the operations that it
--- takes, none where there is no restriction j
-abbrev pub Taken : (rule : Rule) (masks : List ℕ) → Type 0
-Taken rule masks =
-    (j i k : ℕ)
-    → j < 8
+-- the operations that three masks take, by their bytes
+abbrev pub MaskRow : (bytes row : List ℕ) → Type 0
+MaskRow bytes row =
+    (i k : ℕ)
     → i < 3
-    → has (get_or masks (3 * j + i) 0) k
-    ≡ (ltb j (restriction_count rule) && (ltb k 16 && mask_takes (restriction_mask rule j i) k))
+    → has (get_or row i 0) k
+    ≡ (ltb k 16 && mask_takes (256 * get_or bytes (2 * i) 0 + get_or bytes (2 * i + 1) 0) k)
+
+-- the masks of a rule, three for each of eight restrictions: the operations that restriction j takes at reference i,
+-- none where there is no restriction j
+pub record Taken (rule : Rule) (masks : List (List ℕ)) : Type 0 where
+  pub eight : length masks ≡ 8
+  pub masks_of :
+      (j i k : ℕ)
+      → j < 8
+      → i < 3
+      → has (get_or (get_or masks j []) i 0) k
+      ≡ (ltb j (restriction_count rule) && (ltb k 16 && mask_takes (restriction_mask rule j i) k))
 
 -- of a block that has room for all its restrictions
-abbrev pub TakenIfWhole : (rule : Rule) (masks : List ℕ) → Type 0
+abbrev pub TakenIfWhole : (rule : Rule) (masks : List (List ℕ)) → Type 0
 TakenIfWhole rule masks = 112 ≤ length rule → restriction_count rule ≤ 8 → Taken rule masks
 
--- restriction j of these masks takes operations a, b and c
-abbrev pub takes : (masks : List ℕ) (a b c j : ℕ) → Bool
-takes masks a b c j =
-    has (get_or masks (3 * j) 0) a && (has (get_or masks (3 * j + 1) 0) b && has (get_or masks (3 * j + 2) 0) c)
+-- a restriction with these masks takes operations a, b and c
+abbrev pub takes : (a b c : ℕ) (row : List ℕ) → Bool
+takes a b c row = has (get_or row 0 0) a && (has (get_or row 1 0) b && has (get_or row 2 0) c)
 
 -- a word of the operations that some restriction takes beside a and b
-abbrev pub Beside : (masks : List ℕ) (a b word : ℕ) → Type 0
-Beside masks a b word = (c : ℕ) → has word c ≡ any (takes masks a b c) (up_to 8)
+abbrev pub Beside : (masks : List (List ℕ)) (a b word : ℕ) → Type 0
+Beside masks a b word = (c : ℕ) → has word c ≡ any (takes a b c) masks
 
 -- Choices of operations, one from each of three words
 
 -- some operation of the third is taken by no restriction beside a and b
-unfoldable pub third_refused : (masks : List ℕ) (third a b : ℕ) → Bool
-third_refused masks third a b = any (λ c. has third c && not (any (takes masks a b c) (up_to 8))) (up_to 64)
+unfoldable pub third_refused : (masks : List (List ℕ)) (third a b : ℕ) → Bool
+third_refused masks third a b = any (λ c. has third c && not (any (takes a b c) masks)) (up_to 64)
 
 -- some of the second and the third beside a
-unfoldable pub refused_beside : (masks : List ℕ) (second third a : ℕ) → Bool
+unfoldable pub refused_beside : (masks : List (List ℕ)) (second third a : ℕ) → Bool
 refused_beside masks second third a = any (λ b. has second b && third_refused masks third a b) (up_to 16)
 
-unfoldable pub some_refused : (masks : List ℕ) (first second third : ℕ) → Bool
+unfoldable pub some_refused : (masks : List (List ℕ)) (first second third : ℕ) → Bool
 some_refused masks first second third = any (λ a. has first a && refused_beside masks second third a) (up_to 16)
 
 -- The rule
 
 -- "no restriction accepts the choice", told of some choice
-abbrev pub RefusedIfSound : (t : List ℕ) (rule : Rule) → Accesses → (told : Bool) → Type 0
-RefusedIfSound t rule accesses told =
-    (head : Head) → HeadWords head t → RuleSound head rule → told ≡ some_choice_refused head rule accesses
+abbrev pub RefusedIfSound : (words : Words) (rule : Rule) → Accesses → (told : Bool) → Type 0
+RefusedIfSound words rule accesses told =
+    (head : Head) → HeadWords head words → RuleSound head rule → told ≡ some_choice_refused head rule accesses

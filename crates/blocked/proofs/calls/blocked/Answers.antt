@@ -1,30 +1,23 @@
--- Refused, nobody, or a user: the answer is the definition's. Assumes nothing.
-use mathlib.Core.Path.{sym, ◌∙◌}
+-- Refused, or what the search finds: the answer is the definition's. Assumes nothing.
+use Rattle.std.proofs.Common.{rules}
 use Rattle.blocked.proofs.DemandLaws.{blocked_promises, blocked_refused}
-use Rattle.blocked.proofs.CallLaws.{nobody_answer, user_answer}
+use Rattle.blocked.proofs.CallLaws.{blocked_told_answer}
 use Rattle.blocked.proofs.calls.blocked.Goals as goal
 
-pub returns-in-Refused : goal.returns-in-Refused
-returns-in-Refused c =
+pub returns-in_err-book-clause-answer : goal.returns-in_err-book-clause-answer
+returns-in_err-book-clause-answer c =
     let a = c.args in
-    let held = rw c.head_of.ensures at c.head_words-head.ensures in
-    blocked_promises a.book.now a.rule _
-    (blocked_refused a.book.now a.rule c.in-Refused.refusal
-    (sym (c.test_blocked-outcome.ensures held) ∙ c.in-Refused.is))
+    let told = blocked_refused a.book.now a.rule _ c.in_err-book.ensures.refused in
+    search rules
 
-pub returns-in-Nobody : goal.returns-in-Nobody
-returns-in-Nobody c =
-    let a = c.args in
-    let held = rw c.head_of.ensures at c.head_words-head.ensures in
-    blocked_promises a.book.now a.rule _
-    (nobody_answer a.book.now a.rule c.denied.result (c.denied.ensures held)
-    (sym (c.test_blocked-outcome.ensures held) ∙ c.in-Passed.is) c.in-Nobody.is)
+pub returns-in_err-book-clause-blocked : goal.returns-in_err-book-clause-blocked
+returns-in_err-book-clause-blocked c = blocked_promises _ _ _ (returns-in_err-book-clause-answer c)
 
-pub returns-in-User : goal.returns-in-User
-returns-in-User c =
+pub returns-clause-answer : goal.returns-clause-answer
+returns-clause-answer c =
     let a = c.args in
-    let held = rw c.head_of.ensures at c.head_words-head.ensures in
-    blocked_promises a.book.now a.rule _
-    (user_answer a.book.now a.rule c.denied.result (c.denied.ensures held)
-    (sym (c.test_blocked-outcome.ensures held) ∙ c.in-Passed.is) c.in-User.user c.in-User.first
-    c.in-User.second c.in-User.third _ c.in-User.is c.closed.ensures)
+    let book = c.in_ok-book in
+    blocked_told_answer a.book.now a.rule book.ensures.passed c.blocking.result (rw book.ensures.bytes at c.blocking.ensures)
+
+pub returns-clause-blocked : goal.returns-clause-blocked
+returns-clause-blocked c = blocked_promises _ _ _ (returns-clause-answer c)

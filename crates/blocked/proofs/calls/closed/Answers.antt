@@ -2,23 +2,25 @@
 use Rattle.blocked.proofs.CallLaws.{answer_one, answer_two, answer_three}
 use Rattle.blocked.proofs.calls.closed.Goals as goal
 
-pub returns-then-m-ge128 : goal.returns-then-m-ge128
-returns-then-m-ge128 c stands =
-    let a = c.args in
-    answer_one a.user a.l a.m a.n stands c.if-m-ge128.true c.datum_byte.result
-    c.datum_byte.ensures
+pub returns-then-denial-ge128 : goal.returns-then-denial-ge128
+returns-then-denial-ge128 c stands =
+    let d = c.args.denial in
+    rw c.from-user.ensures
+    (answer_one d.user d.first d.second d.third stands c.if-denial-ge128.true c.datum_byte.result c.datum_byte.ensures)
 
-pub returns-then-l-ge128 : goal.returns-then-l-ge128
-returns-then-l-ge128 c stands =
-    let a = c.args in
-    answer_two a.user a.l a.m a.n stands c.if-m-ge128.false
-    c.if-l-ge128.true c.datum_byte-then-l-ge128.result c.datum_byte-then-l-ge128-2.result
-    c.datum_byte-then-l-ge128.ensures c.datum_byte-then-l-ge128-2.ensures
+pub returns-then-denial-ge128-2 : goal.returns-then-denial-ge128-2
+returns-then-denial-ge128-2 c stands =
+    let d = c.args.denial in
+    let first = c.datum_byte-then-denial-ge128-2 in
+    let second = c.datum_byte-then-denial-ge128-2-2 in
+    rw c.from-user.ensures
+    (answer_two d.user d.first d.second d.third stands c.if-denial-ge128.false c.if-denial-ge128-2.true
+    first.result second.result first.ensures second.ensures)
 
 pub returns : goal.returns
 returns c stands =
-    let a = c.args in
-    answer_three a.user a.l a.m a.n stands c.if-m-ge128.false
-    c.if-l-ge128.false c.datum_byte-2.result c.datum_byte-3.result
-    c.datum_byte-4.result c.datum_byte-2.ensures c.datum_byte-3.ensures
-    c.datum_byte-4.ensures
+    let d = c.args.denial in
+    rw c.from-user.ensures
+    (answer_three d.user d.first d.second d.third stands c.if-denial-ge128.false c.if-denial-ge128-2.false
+    c.datum_byte-2.result c.datum_byte-3.result c.datum_byte-4.result c.datum_byte-2.ensures c.datum_byte-3.ensures
+    c.datum_byte-4.ensures)

@@ -3,8 +3,8 @@ use native.Mathlib.Omega.{arith}
 use Rattle.blocked.proofs.CellLaws.{cell_bits}
 use Rattle.blocked.proofs.cells.cell_word.Goals as goal
 
-pub returns-then-c-ge-PAST_CELLS : goal.returns-then-c-ge-PAST_CELLS
-returns-then-c-ge-PAST_CELLS c l = absurd (omega arith)
+pub returns-then-c-ge-PAST_CELLS-clause-members : goal.returns-then-c-ge-PAST_CELLS-clause-members
+returns-then-c-ge-PAST_CELLS-clause-members c l = absurd (omega arith)
 
-pub returns : goal.returns
-returns c l = cell_bits c.args.set c.args.c
+pub returns-clause-members : goal.returns-clause-members
+returns-clause-members c l = cell_bits c.args.set.now c.args.c

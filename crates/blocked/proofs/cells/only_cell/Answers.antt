@@ -12,4 +12,4 @@ returns-then-c-ge-PAST_CELLS c l = absurd (omega arith)
 pub returns : goal.returns
 returns c l p h =
     let a = c.args in
-    only_group a.set (replicate 33 0) a.c p (search rules) (λ i. get_d_zeros 33 i)
+    only_group a.set.now (replicate 33 0) a.c p (search rules) (λ i. get_d_zeros 33 i)

@@ -1,6 +1,8 @@
 -- Not tried, dropped, or kept: `not_tried`, `tried_shut`, `tried_open`. Assumes nothing.
 use Prim.Native.Nat.{◌-◌, ◌^◌}
+use mathlib.Core.Path.{ap, ◌∙◌}
 use lib.Bits.{bit_and}
+use Rattle.book.specs.Sets.{has}
 use Rattle.blocked.proofs.DroppingLaws.{less_one, not_tried, tried_open, tried_other, tried_shut}
 use borrow.Author.Rules.{rules}
 use Rattle.blocked.proofs.dropping.dropped.Goals as goal
@@ -8,27 +10,27 @@ use Rattle.blocked.proofs.dropping.dropped.Goals as goal
 pub returns-then-q-r : goal.returns-then-q-r
 returns-then-q-r c passes n counts low given told keeps =
     let a = c.args in
-    let there = c.contains in
-    not_tried a.r counts a.q a.before.rules passes there.result there.ensures keeps c.if-q-r.true
+    not_tried a.r counts a.q a.rules passes c.contains.result (c.contains.ensures ∙ ap (has a.rules) c.from.ensures) keeps
+    c.if-q-r.true
 
-pub returns-then-third-lt-PAST_CELLS : goal.returns-then-third-lt-PAST_CELLS
-returns-then-third-lt-PAST_CELLS c passes n counts low given told keeps =
-    let third = c.closed_third-third in
-    let one = c.single in
+pub returns-in-Some : goal.returns-in-Some
+returns-in-Some c passes n counts low given told keeps =
     let a = c.args in
-    let fewer = bit_and a.before.rules ((2 ^ 64 - 1) - one.result) in
-    let other = tried_other a.r a.q c.contains.result c.if-q-r.false in
-    tried_shut a.t.now a.met.now a.scope a.l a.m n a.r counts a.q a.before.rules fewer passes
-    given told keeps (λ j. less_one a.before.rules one.result a.q j (search rules) (search rules) one.ensures)
-    other third.result.cell third.ensures c.if-third-lt-PAST_CELLS.true
+    let t = a.tables.now in
+    let one = c.single in
+    let fewer = bit_and a.rules ((2 ^ 64 - 1) - one.result) in
+    tried_shut t.rules t.met t.scope a.row.first a.row.second n a.r counts a.q a.rules fewer passes given told keeps
+    (λ j. less_one a.rules one.result a.q j (search rules) (search rules) (rw c.from-2.ensures at one.ensures))
+    (tried_other a.r a.q c.contains.result c.if-q-r.false)
+    c.closed_third.result c.closed_third.ensures _ c.in-Some.is
 
-pub returns : goal.returns
-returns c passes n counts low given told keeps =
-    let third = c.closed_third-third in
-    let one = c.single in
+pub returns-in-None : goal.returns-in-None
+returns-in-None c passes n counts low given told keeps =
     let a = c.args in
-    let fewer = bit_and a.before.rules ((2 ^ 64 - 1) - one.result) in
-    let other = tried_other a.r a.q c.contains.result c.if-q-r.false in
-    tried_open a.t.now a.met.now a.scope a.l a.m n a.r counts a.q a.before.rules fewer passes
-    given told keeps (λ j. less_one a.before.rules one.result a.q j (search rules) (search rules) one.ensures)
-    other third.result.cell third.ensures c.if-third-lt-PAST_CELLS.false
+    let t = a.tables.now in
+    let one = c.single in
+    let fewer = bit_and a.rules ((2 ^ 64 - 1) - one.result) in
+    tried_open t.rules t.met t.scope a.row.first a.row.second n a.r counts a.q a.rules fewer passes given told keeps
+    (λ j. less_one a.rules one.result a.q j (search rules) (search rules) (rw c.from-2.ensures at one.ensures))
+    (tried_other a.r a.q c.contains.result c.if-q-r.false)
+    c.closed_third.result c.closed_third.ensures c.in-None.is

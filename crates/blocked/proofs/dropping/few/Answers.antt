@@ -1,35 +1,41 @@
 -- One rule a turn, from the highest number down; what is left is what the trials leave. Assumes nothing.
+use Prim.Native.Nat.{◌-◌}
 use native.Mathlib.Omega.{arith}
 use Rattle.blocked.proofs.DroppingLaws.{cut_told, few_left_law, one_given, turns_more, turns_none}
 use borrow.Author.Rules.{rules}
 use Rattle.blocked.proofs.dropping.few.Goals as goal
 
-pub loop-i-init : goal.loop-i-init
-loop-i-init c =
+pub loop-q-init : goal.loop-q-init
+loop-q-init c =
     let a = c.args in
-    (search rules, turns_none a.t.now a.met.now _ a.l a.m a.n a.r a.rules)
+    let t = a.tables.now in
+    let d = a.denial in
+    turns_none t.rules t.met _ d.first d.second d.third a.r a.rules
 
-pub loop-i-preserved : goal.loop-i-preserved
-loop-i-preserved c =
-    let loop = c.loop-i in
-    let below = c.loop-i-test.true in
-    let a = c.args in (
-      omega arith,
-      turns_more a.t.now a.met.now _ a.l a.m a.n a.r a.rules loop.i loop.kept.rules
-          c.dropped-next.result.rules below loop.invariant.1 c.dropped-next.ensures,
-    )
+pub loop-q-preserved : goal.loop-q-preserved
+loop-q-preserved c =
+    let a = c.args in
+    let t = a.tables.now in
+    let d = a.denial in
+    let loop = c.loop-q in
+    let past = c.loop-q-test.true in
+    let most = loop.auto.q in
+    turns_more t.rules t.met _ d.first d.second d.third a.r a.rules (loop.q - 1) loop.q loop.left c.dropped-left.result
+    (omega arith) (omega arith) loop.invariant c.dropped-left.ensures
 
 pub returns : goal.returns
 returns c passes given asking told q =
-    let one = c.single in
-    let loop = c.loop-i in
-    let thirds = c.only_cell-thirds in
     let a = c.args in
+    let t = a.tables.now in
+    let d = a.denial in
+    let one = c.single in
+    let loop = c.loop-q in
+    let past = c.loop-q-test.false in
+    let thirds = c.only_cell-tables in
     let alone = thirds.ensures given.cells.below.2 in
     let turned =
-    loop.invariant.1 passes
-    (one_given a.t.now a.met.now a.scope thirds.result a.l a.m a.n a.rules alone given) asking
-    (cut_told a.t.now a.met.now a.scope thirds.result a.l a.m a.n a.rules alone given a.r
-    passes told) in
-    few_left_law passes a.r a.rules loop.i loop.kept.rules one.result q c.loop-i-test.false
-    (search rules) (search rules) one.ensures turned.1
+    loop.invariant passes
+    (one_given t.rules t.met t.scope thirds.result d.first d.second d.third a.rules alone given) asking
+    (cut_told t.rules t.met t.scope thirds.result d.first d.second d.third a.rules alone given a.r passes told) in
+    few_left_law passes a.r a.rules loop.q loop.left one.result q (omega arith)
+    (search rules) (search rules) (rw c.from.ensures at one.ensures) turned.1

@@ -1,10 +1,7 @@
--- One rule a turn, from the highest number down; what is left is what the trials leave. Assumes nothing.
-use Prim.Native.Nat.{◌-◌, ◌≤◌}
+-- One rule a turn, from the highest number down (`Turns`). Assumes nothing.
 use Rattle.blocked.proofs.DroppingLaws.{Turns}
 use Rattle.blocked.proofs.dropping.few.Given as goal
 
-abbrev pub invariant-loop-i : goal.invariant-loop-i
-invariant-loop-i l = (l.i ≤ 32) × Turns l.t l.met l.cut l.l l.m l.n l.r l.rules l.i l.kept.rules
-
-abbrev pub decreases-loop-i : goal.decreases-loop-i
-decreases-loop-i l = 32 - l.i
+abbrev pub invariant-loop-q : goal.invariant-loop-q
+invariant-loop-q l =
+    Turns l.tables.rules l.tables.met l.tables.scope l.row.first l.row.second l.fn.denial.third l.r l.rules l.q l.left

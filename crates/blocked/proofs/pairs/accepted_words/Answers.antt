@@ -7,7 +7,7 @@ use Rattle.blocked.proofs.pairs.accepted_words.Goals as goal
 pub loop-j-init : goal.loop-j-init
 loop-j-init c =
     let a = c.args in
-    (search rules, search rules, pairs_none a.t.now a.q a.i a.k a.l a.a)
+    (search rules, search rules, pairs_none a.t.now a.q a.order.third a.order.first a.order.second a.a)
 
 pub loop-j-preserved-then-not-contains : goal.loop-j-preserved-then-not-contains
 loop-j-preserved-then-not-contains c =
@@ -17,7 +17,7 @@ loop-j-preserved-then-not-contains c =
     let x = c.contains in (
       search rules,
       loop.invariant.1,
-      pairs_skip a.t.now a.q a.i a.k a.l a.a loop.j first.result x.result loop.found
+      pairs_skip a.t.now a.q a.order.third a.order.first a.order.second a.a loop.j first.result x.result loop.found
           loop.invariant.2 first.ensures x.ensures c.if-not-contains.true-raw,
     )
 
@@ -35,7 +35,7 @@ loop-j-preserved c =
     let r₂ = c.spread-in-loop-j-2 in (
       search rules,
       search rules,
-      pairs_more a.t.now a.q a.i a.k a.l a.a loop.j first.result second.result
+      pairs_more a.t.now a.q a.order.third a.order.first a.order.second a.a loop.j first.result second.result
           third.result r₀.result r₁.result r₂.result c.spread-in-loop-j-3.result x.result loop.found
           loop.invariant.2 first.ensures x.ensures test.false-raw second.ensures third.ensures
           r₀.ensures r₁.ensures r₂.ensures c.spread-in-loop-j-3.ensures,
@@ -45,4 +45,4 @@ pub returns : goal.returns
 returns c =
     let a = c.args in
     let loop = c.loop-j in
-    pairs_end a.t.now a.q a.i a.k a.l a.a loop.j loop.found (omega arith) loop.invariant.2
+    pairs_end a.t.now a.q a.order.third a.order.first a.order.second a.a loop.j loop.found (omega arith) loop.invariant.2

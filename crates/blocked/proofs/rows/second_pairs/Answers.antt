@@ -9,6 +9,6 @@ returns c l =
     let first = c.spread in
     let second = c.spread-2 in
     let third = c.spread-3 in
-    pair_words args.seconds args.m word.result
+    pair_words args.seconds.now args.m word.result
     first.result second.result third.result c.spread-4.result
-    (word.ensures l) first.ensures second.ensures third.ensures c.spread-4.ensures
+    (word.ensures.members l) first.ensures second.ensures third.ensures c.spread-4.ensures

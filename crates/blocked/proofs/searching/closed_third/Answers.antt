@@ -1,12 +1,24 @@
--- What is left of the row, and its first place (`third_made`). Assumes nothing.
+-- What is left of the row, and its first place: `third_none`, `third_made`. Assumes nothing.
 use native.Mathlib.Omega.{arith}
-use Rattle.blocked.proofs.TripleLaws.{third_made}
+use Rattle.blocked.proofs.TripleLaws.{third_made, third_none}
 use Rattle.blocked.proofs.searching.closed_third.Goals as goal
+
+pub returns-in_err-x : goal.returns-in_err-x
+returns-in_err-x c given there =
+    let a = c.args in
+    let t = a.tables.now in
+    let rest = c.closed_row-rest in
+    let first = rw c.in_err-x.was at (c.first_from.ensures.first (omega arith)) in
+    rw c.from_residual.ensures
+    (third_none t.rules t.scope a.rules a.row.first a.row.second rest.result
+    (rest.ensures there.below.0 there.below.1 given) 2112 first (omega arith))
 
 pub returns : goal.returns
 returns c given there =
     let a = c.args in
-    let row = c.closed_row-after in
-    third_made a.t.now a.scope a.rules a.l a.m row.result.places
-    (row.ensures there.below.0 there.below.1 given) c.first_from.result (c.first_from.ensures (omega arith))
-    there
+    let t = a.tables.now in
+    let rest = c.closed_row-rest in
+    let first = rw c.in_ok-x.was at (c.first_from.ensures.first (omega arith)) in
+    let small = rw c.in_ok-x.was at c.first_from.ensures.there in
+    third_made t.rules t.scope a.rules a.row.first a.row.second rest.result
+    (rest.ensures there.below.0 there.below.1 given) c.in_ok-x.x first small there

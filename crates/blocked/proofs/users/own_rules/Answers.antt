@@ -8,7 +8,7 @@ pub loop-u-init : goal.loop-u-init
 loop-u-init c = fill_none (search rules)
 
 pub loop-u-preserved : goal.loop-u-preserved
-loop-u-preserved c = fill_more c.loop-u.invariant c.loop-u-test.true c.rules_for.ensures
+loop-u-preserved c = rw c.from.ensures (fill_more c.loop-u.invariant c.loop-u-test.true c.rules_for.ensures)
 
 pub returns : goal.returns
 returns c u q l = c.loop-u.invariant.at u (omega arith) q

@@ -5,6 +5,3 @@ use Rattle.book.proofs.categories.descendants.Given as goal
 
 abbrev pub invariant-loop-i : goal.invariant-loop-i
 invariant-loop-i l = Gathered (parent_in l.which l.head) l.n l.words l.i
-
-abbrev pub decreases-loop-i : goal.decreases-loop-i
-decreases-loop-i l = l.i

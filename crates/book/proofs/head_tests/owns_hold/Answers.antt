@@ -1,13 +1,12 @@
--- The loop tests the first i categories (`Passed`). Assumes nothing.
-use borrow.Author.Rules.{rules}
-use Rattle.book.proofs.Loops.{passed_none, passed_more, passed_all}
+use Rattle.std.proofs.Common.{rules, arith, ◌∙◌}
+use Rattle.std.proofs.lemmas.Iterator.{YieldsList-from_range}
+use Rattle.std.proofs.lemmas.Iterator.Search.{all_from_yields_List}
+use Rattle.book.proofs.Chains.{all_below}
+use Rattle.book.specs.Refusals.{own_holds}
 use Rattle.book.proofs.head_tests.owns_hold.Goals as goal
 
-pub loop-i-init : goal.loop-i-init
-loop-i-init c = passed_none
-
-pub loop-i-preserved : goal.loop-i-preserved
-loop-i-preserved c = passed_more c.loop-i.invariant (search rules) c.own_holds-ok.ensures
-
 pub returns : goal.returns
-returns c = passed_all c.loop-i.invariant (search rules) c.count-n.ensures.0
+returns c =
+    let held = all_from_yields_List (own_holds c.args.head.now) _ _ c.all.result c.all.ensures.ran
+    (YieldsList-from_range 0 c.count.result c.count.result (cc) (omega arith)) (λ x b q k. search rules) in
+    rw (← c.count.ensures.0) (held ∙ all_below _ _)

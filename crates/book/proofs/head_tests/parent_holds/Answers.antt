@@ -13,5 +13,5 @@ returns-then-i-eq0 c =
 pub returns : goal.returns
 returns c =
     let a = c.args in
-    child_holds (parent_in a.which a.head.now) a.i c.parent-p.result (search rules)
-    c.parent-p.ensures.0
+    rw (c.from.ensures) (child_holds (parent_in a.which a.head.now) a.i c.parent-p.result (search rules)
+    c.parent-p.ensures.0)

@@ -1,18 +1,15 @@
--- A loop of tests: `PassedIn` is the invariant. Assumes nothing.
-use native.Mathlib.Omega.{arith}
-use mathlib.Core.Path.{refl}
-use borrow.Author.Rules.{rules}
-use Rattle.book.proofs.Loops.{passed_in_none, passed_in_more, passed_in_all}
+use Rattle.std.proofs.Common.{rules, ◌∙◌}
+use Rattle.std.proofs.lemmas.Iterator.{YieldsList-from_slice}
+use Rattle.std.proofs.lemmas.Iterator.Search.{all_from_yields_List}
+use mathlib.Core.Bool.{◌&&◌, not}
+use lib.Dec.{eqb}
+use Rattle.book.specs.Sets.{has}
+use Rattle.book.proofs.Chains.{all_law}
 use Rattle.book.proofs.rule_tests.all_proper.Goals as goal
 
-pub overflow_cast-list : goal.overflow_cast-list
-overflow_cast-list c = omega (arith, c.shared_slice_known-in-loop-i-1.given c.loop-i.i)
-
-pub loop-i-preserved : goal.loop-i-preserved
-loop-i-preserved c = passed_in_more c.loop-i.invariant (search rules) c.is_proper-ok.ensures
-
 pub returns : goal.returns
-returns c = passed_in_all c.loop-i.invariant (search rules) refl
-
-pub loop-i-init : goal.loop-i-init
-loop-i-init c = passed_in_none
+returns c =
+    let a = c.args in
+    all_from_yields_List (λ x. not (eqb x a.c) && has a.inside x) _ _ c.all.result c.all.ensures.ran
+    (YieldsList-from_slice a.list.now (cc)) (λ x b q k. search rules)
+    ∙ all_law _ _

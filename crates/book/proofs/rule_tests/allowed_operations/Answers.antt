@@ -6,18 +6,18 @@ use Rattle.book.specs.Head.{data_count}
 use Rattle.book.proofs.References.{allowed_present, allowed_absent, category_known}
 use Rattle.book.proofs.rule_tests.allowed_operations.Goals as goal
 
-pub returns-then-i-reference_count : goal.returns-then-i-reference_count
-returns-then-i-reference_count c head w held =
+pub returns-then-from-reference_count : goal.returns-then-from-reference_count
+returns-then-from-reference_count c head w held =
     let a = c.args in
     let n = c.reference_count in
-    let i : a.i < reference_count a.rule.now = rw n.ensures.0 at c.if-i-reference_count.true in
+    let i : a.i < reference_count a.rule.now = rw (n.ensures.0, c.from.ensures) at c.if-from-reference_count.true in
     let known : data_category a.rule.now a.i < data_count head = category_known head a.rule.now a.i held i in
-    allowed_present head a.rule.now a.i c.support_of.result i
-    ((rw c.data_category.ensures.0 at (c.support_of.ensures head w.words))
+    allowed_present head a.rule.now a.i c.support.result i
+    ((rw c.data_category.ensures.0 at (c.support.ensures head w.told))
     (omega (arith, w.counts.categories)) known)
-    c.support_of.type_inv
+    c.support.type_inv
 
 pub returns : goal.returns
 returns c head w held =
     let a = c.args in
-    allowed_absent head a.rule.now a.i (rw c.reference_count.ensures.0 at c.if-i-reference_count.false)
+    allowed_absent head a.rule.now a.i (rw (c.reference_count.ensures.0, c.from.ensures) at c.if-from-reference_count.false)

@@ -1,22 +1,21 @@
--- A loop of tests, one restriction a turn: `Passed` is the invariant; the law `masks_all` says what the tests are.
--- Assumes nothing.
-use mathlib.Core.Path.{◌∙◌}
-use borrow.Author.Rules.{rules}
-use Rattle.book.proofs.Loops.{passed_none, passed_more, passed_all}
-use Rattle.book.proofs.References.{masks_all}
+use Rattle.std.proofs.Common.{rules, arith, ◌∙◌}
+use Rattle.std.proofs.lemmas.Iterator.{YieldsList-from_range}
+use Rattle.std.proofs.lemmas.Iterator.Search.{all_from_yields_List}
+use Rattle.book.proofs.Chains.{all_below}
+use mathlib.Core.Bool.{◌&&◌}
+use Rattle.book.proofs.References.{mask_within, masks_all}
 use Rattle.book.proofs.rule_tests.masks_hold.Goals as goal
 
-pub loop-j-preserved : goal.loop-j-preserved
-loop-j-preserved c =
-    passed_more c.loop-j.invariant (search rules)
-    (rw (c.mask_holds.ensures, c.mask_holds-in-loop-j.ensures, c.mask_holds-in-loop-j-2.ensures))
-
 pub returns : goal.returns
-returns c head w held =
+returns c head w kept =
+    let n = c.restriction_count in
     let rule = c.args.rule.now in
-    passed_all c.loop-j.invariant (search rules) c.restriction_count-n.ensures.0
-    ∙ masks_all head rule _ _ _ (c.allowed_operations-a.ensures head w held)
-    (c.allowed_operations-b.ensures head w held) (c.allowed_operations-c.ensures head w held)
-
-pub loop-j-init : goal.loop-j-init
-loop-j-init c = passed_none
+    let a = c.allowed_operations-a in
+    let b = c.allowed_operations-b in
+    let d = c.allowed_operations-c in
+    let held = all_from_yields_List
+    (λ j. mask_within rule j 0 a.result && (mask_within rule j 1 b.result && mask_within rule j 2 d.result))
+    _ _ c.all.result c.all.ensures.ran
+    (YieldsList-from_range 0 n.result n.result (cc) (omega arith)) (λ x b q k. search rules) in
+    (rw (← n.ensures.0) (held ∙ all_below _ _))
+    ∙ masks_all head rule _ _ _ (a.ensures head w kept) (b.ensures head w kept) (d.ensures head w kept)

@@ -1,101 +1,66 @@
--- Each return is the first test that fails, or none (`fails`, `passes`). Once the counts hold there are at most three
--- references, and once the numbers hold the masks can be read. Assumes nothing.
-use mathlib.Core.Path.{◌≡◌, ◌∙◌}
-use mathlib.Core.Bool.{false, not}
-use Rattle.book.specs.Refusals.{rule_block_tests, rule_counted, numbers_hold}
-use Rattle.book.proofs.Answers.{fails, passes, none_fails}
-use Rattle.book.proofs.References.{references_three, leaf_sets_apart_law}
-use Rattle.book.proofs.Tests.{few_references, references_held}
+-- A test that refuses ends the call, one that passes leaves the rest to decide (`stopped`, `went_on`). Once the counts
+-- hold there are at most three references, and once the numbers hold the masks can be read. Assumes nothing.
+use Rattle.std.proofs.Common.{rules, ◌≡◌, ◌∙◌, sym, false}
+use Rattle.std.specs.Prelude.{None, Some, [], ◌∷◌}
+use Rattle.book.specs.declared.refusal.Refusal.TheVariants.{MaskOperation}
+use Rattle.book.specs.Tests.{first_failing}
+use Rattle.book.specs.Refusals.{rule_block_tests, rule_counted, numbers_hold, masks_hold}
+use Rattle.book.proofs.Lists.{and_left}
+use Rattle.book.proofs.Answers.{stopped, last_passed}
+use Rattle.book.proofs.References.{leaf_sets_apart_law}
+use Rattle.book.proofs.Tests.{rule_bounds, references_held}
 use Rattle.book.proofs.rule_tests.test_rule_block.Goals as goal
 
-pub returns-then-not-rule_counts-rule_zeros : goal.returns-then-not-rule_counts-rule_zeros
+pub returns-in_err-ensure : goal.returns-in_err-ensure
 unfolding rule_block_tests rule_counted
-returns-then-not-rule_counts-rule_zeros c head w =
-    c.refused.ensures
-    ∙ fails _ _ _ _
-    (rw (← c.rule_counts.ensures, ← c.rule_zeros.ensures) c.if-not-rule_counts-rule_zeros.true-raw)
+returns-in_err-ensure c head w =
+    rw (← c.rule_counts.ensures, ← c.rule_zeros.ensures)
+    (stopped _ _ _ c.in_err-ensure.field-0.0 _ (search rules) (sym c.ensure.ensures ∙ c.in_err-ensure.was))
 
-pub returns-then-not-user_numbers_hold-a : goal.returns-then-not-user_numbers_hold-a
-unfolding numbers_hold rule_block_tests rule_counted
-returns-then-not-user_numbers_hold-a c head w =
+pub returns-in_err-a : goal.returns-in_err-a
+unfolding rule_block_tests rule_counted first_failing
+returns-in_err-a c head w =
     let rule = c.args.rule.now in
-    let counted : not (rule_counted rule) ≡ false =
-    rw (← c.rule_counts.ensures, ← c.rule_zeros.ensures) c.if-not-rule_counts-rule_zeros.false-raw in
-    let references =
-    references_three head rule _ _ _ (few_references rule counted) (c.read_reference-a.ensures head w).0
-    (c.read_reference-b.ensures head w).0 (c.read_reference-c.ensures head w).0 in
-    c.refused-then-not-user_numbers_hold-a.ensures
-    ∙ passes _ _ _ _ _ counted
-    (fails _ _ _ _ (rw (← (c.user_numbers_hold.ensures head w), ← references) c.if-not-user_numbers_hold-a.true-raw))
+    let passed = last_passed _ _ (sym c.ensure.ensures ∙ c.in_ok-ensure.was) in
+    let few = (rule_bounds rule (sym c.rule_counts.ensures ∙ and_left _ _ passed)).1 in
+    let none : c.read_references.result ≡ None = search rules in
+    let wrong : numbers_hold head rule ≡ false = rw none at (c.read_references.ensures head w few) in
+    rw (← c.rule_counts.ensures, ← c.rule_zeros.ensures, passed, wrong) (search rules)
 
-pub returns-then-not-leaves_apart : goal.returns-then-not-leaves_apart
-unfolding numbers_hold rule_block_tests rule_counted
-returns-then-not-leaves_apart c head w =
+pub returns-in_err-ensure-2 : goal.returns-in_err-ensure-2
+unfolding rule_block_tests rule_counted first_failing
+returns-in_err-ensure-2 c head w =
     let rule = c.args.rule.now in
-    let counted : not (rule_counted rule) ≡ false =
-    rw (← c.rule_counts.ensures, ← c.rule_zeros.ensures) c.if-not-rule_counts-rule_zeros.false-raw in
-    let few = few_references rule counted in
-    let a = c.read_reference-a.ensures head w in
-    let b = c.read_reference-b.ensures head w in
-    let d = c.read_reference-c.ensures head w in
-    let references = references_three head rule _ _ _ few a.0 b.0 d.0 in
-    let numbered : not (numbers_hold head rule) ≡ false =
-    rw (← (c.user_numbers_hold.ensures head w), ← references) c.if-not-user_numbers_hold-a.false-raw in
-    let separate =
-    c.leaves_apart.ensures
-    ∙ leaf_sets_apart_law head rule _ _ _ w.counts.categories few
-    c.struct_known-3-1.given.1.0.fits c.struct_known-1.given.1.0.fits
-    c.struct_known-2-1.given.1.0.fits
-    a.1 b.1 d.1 in
-    c.refused-then-not-leaves_apart.ensures
-    ∙ passes _ _ _ _ _ counted (passes _ _ _ _ _ numbered (fails _ _ _ _ (rw (← separate) c.if-not-leaves_apart.true-raw)))
-
-pub returns-then-not-masks_hold : goal.returns-then-not-masks_hold
-unfolding numbers_hold rule_block_tests rule_counted
-returns-then-not-masks_hold c head w =
-    let rule = c.args.rule.now in
-    let counted : not (rule_counted rule) ≡ false =
-    rw (← c.rule_counts.ensures, ← c.rule_zeros.ensures) c.if-not-rule_counts-rule_zeros.false-raw in
-    let few = few_references rule counted in
-    let a = c.read_reference-a.ensures head w in
-    let b = c.read_reference-b.ensures head w in
-    let d = c.read_reference-c.ensures head w in
-    let references = references_three head rule _ _ _ few a.0 b.0 d.0 in
-    let numbered : not (numbers_hold head rule) ≡ false =
-    rw (← (c.user_numbers_hold.ensures head w), ← references) c.if-not-user_numbers_hold-a.false-raw in
-    let separate =
-    c.leaves_apart.ensures
-    ∙ leaf_sets_apart_law head rule _ _ _ w.counts.categories few
-    c.struct_known-3-1.given.1.0.fits c.struct_known-1.given.1.0.fits
-    c.struct_known-2-1.given.1.0.fits
-    a.1 b.1 d.1 in
-    let held = c.masks_hold.ensures head w (references_held head rule numbered) in
-    c.refused-then-not-masks_hold.ensures
-    ∙ passes _ _ _ _ _ counted
-    (passes _ _ _ _ _ numbered
-    (passes _ _ _ _ _ (rw (← separate) c.if-not-leaves_apart.false-raw) (fails _ _ _ _ (rw (← held) c.if-not-masks_hold.true-raw))))
+    let passed = last_passed _ _ (sym c.ensure.ensures ∙ c.in_ok-ensure.was) in
+    let few = (rule_bounds rule (sym c.rule_counts.ensures ∙ and_left _ _ passed)).1 in
+    let some : c.read_references.result ≡ Some c.in_ok-a.field-0 = search rules in
+    let read = rw some at (c.read_references.ensures head w few) in
+    let words = c.leaves_apart.ensures.words in
+    let apart =
+    c.leaves_apart.ensures.apart
+    ∙ leaf_sets_apart_law head rule _ _ _ w.counts.categories few words.0 words.1 words.2 read.1 read.2 read.3 in
+    rw (← c.rule_counts.ensures, ← c.rule_zeros.ensures, passed, read.0, ← apart)
+    (stopped _ _ ((MaskOperation c.args.i, masks_hold head rule) ∷ []) c.in_err-ensure-2.field-0.0 _ (search rules) (sym c.ensure-2.ensures ∙ c.in_err-ensure-2.was))
 
 pub returns : goal.returns
-unfolding numbers_hold rule_block_tests rule_counted
+unfolding rule_block_tests rule_counted first_failing
 returns c head w =
     let rule = c.args.rule.now in
-    let counted : not (rule_counted rule) ≡ false =
-    rw (← c.rule_counts.ensures, ← c.rule_zeros.ensures) c.if-not-rule_counts-rule_zeros.false-raw in
-    let few = few_references rule counted in
-    let a = c.read_reference-a.ensures head w in
-    let b = c.read_reference-b.ensures head w in
-    let d = c.read_reference-c.ensures head w in
-    let references = references_three head rule _ _ _ few a.0 b.0 d.0 in
-    let numbered : not (numbers_hold head rule) ≡ false =
-    rw (← (c.user_numbers_hold.ensures head w), ← references) c.if-not-user_numbers_hold-a.false-raw in
-    let separate =
-    c.leaves_apart.ensures
-    ∙ leaf_sets_apart_law head rule _ _ _ w.counts.categories few
-    c.struct_known-3-1.given.1.0.fits c.struct_known-1.given.1.0.fits
-    c.struct_known-2-1.given.1.0.fits
-    a.1 b.1 d.1 in
-    let held = c.masks_hold.ensures head w (references_held head rule numbered) in
-    passes _ _ _ _ _ counted
-    (passes _ _ _ _ _ numbered
-    (passes _ _ _ _ _ (rw (← separate) c.if-not-leaves_apart.false-raw)
-    (passes _ _ _ _ _ (rw (← held) c.if-not-masks_hold.false-raw) none_fails)))
+    let passed = last_passed _ _ (sym c.ensure.ensures ∙ c.in_ok-ensure.was) in
+    let few = (rule_bounds rule (sym c.rule_counts.ensures ∙ and_left _ _ passed)).1 in
+    let some : c.read_references.result ≡ Some c.in_ok-a.field-0 = search rules in
+    let read = rw some at (c.read_references.ensures head w few) in
+    let words = c.leaves_apart.ensures.words in
+    let apart =
+    c.leaves_apart.ensures.apart
+    ∙ leaf_sets_apart_law head rule _ _ _ w.counts.categories few words.0 words.1 words.2 read.1 read.2 read.3 in
+    let held = c.masks_hold.ensures head w (references_held head rule (rw read.0)) in
+    rw (
+      ← c.rule_counts.ensures,
+      ← c.rule_zeros.ensures,
+      passed,
+      read.0,
+      ← apart,
+      last_passed _ _ (sym c.ensure-2.ensures ∙ c.in_ok-ensure-2.was),
+      ← held,
+    ) c.ensure-3.ensures

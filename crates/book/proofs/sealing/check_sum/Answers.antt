@@ -19,22 +19,19 @@ loop-i-init c =
     let told = rows.ensures (omega arith) in
     (omega arith, search rules, few, told.0, omega (arith, told.1))
 
-pub overflow_cast-sum-in-loop-i : goal.overflow_cast-sum-in-loop-i
-overflow_cast-sum-in-loop-i c = omega (arith, c.shared_slice_known-in-loop-i-1.given c.loop-i.i)
-
 pub overflow_mul-sum : goal.overflow_mul-sum
 overflow_mul-sum c =
     let i = c.loop-i.i in
     let x = get_or c.part-body.result.now i 0 in
     let byte : x ≤ 255 = omega (arith, c.shared_slice_known-in-loop-i-1.given i) in
-    omega (arith, weighted_step i x (omega arith) byte)
+    rw c.from.ensures (omega (arith, weighted_step i x (omega arith) byte))
 
 pub overflow_add-sum-in-loop-i : goal.overflow_add-sum-in-loop-i
 overflow_add-sum-in-loop-i c =
     let i = c.loop-i.i in
     let x = get_or c.part-body.result.now i 0 in
     let byte : x ≤ 255 = omega (arith, c.shared_slice_known-in-loop-i-1.given i) in
-    omega (arith, weighted_step i x (omega arith) byte)
+    rw c.from.ensures (omega (arith, weighted_step i x (omega arith) byte))
 
 pub loop-i-preserved : goal.loop-i-preserved
 loop-i-preserved c =
@@ -44,7 +41,7 @@ loop-i-preserved c =
     let x = get_or body i 0 in
     let byte : x ≤ 255 = omega (arith, c.shared_slice_known-in-loop-i-1.given i) in
     let more = weighted_next body i at.sum (omega arith) at.invariant.3 in
-    (search rules, search rules, search rules, more, omega (arith, weighted_step i x (omega arith) byte))
+    (search rules, search rules, search rules, rw c.from.ensures more, rw c.from.ensures (omega (arith, weighted_step i x (omega arith) byte)))
 
 pub returns : goal.returns
 returns c =

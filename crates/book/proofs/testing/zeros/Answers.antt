@@ -1,18 +1,27 @@
--- The loop tests the first i bytes of the part (`PassedIn`). Assumes nothing.
-use borrow.Author.Rules.{rules}
-use mathlib.Core.Path.{refl}
+-- A union of bytes is zero where each is: the law `none_seen`. Assumes nothing.
+use Rattle.std.proofs.Common.{arith, ◌∙◌, refl}
+use lib.Seq.{take_all}
+use lib.Dec.{eqb}
+use Rattle.book.specs.Lists.{all}
 use Rattle.book.specs.Refusals.{zeros}
-use Rattle.book.proofs.Loops.{passed_in_none, passed_in_more, passed_in_all}
+use Rattle.book.proofs.Lists.{all_take}
+use Rattle.book.proofs.Members.{none_seen}
 use Rattle.book.proofs.testing.zeros.Goals as goal
 
-pub loop-i-init : goal.loop-i-init
-loop-i-init c = passed_in_none
+pub loop-byte-init : goal.loop-byte-init
+unfolding all
+loop-byte-init c = refl
 
-pub loop-i-preserved : goal.loop-i-preserved
-loop-i-preserved c = passed_in_more c.loop-i.invariant (search rules) refl
+pub loop-byte-preserved : goal.loop-byte-preserved
+loop-byte-preserved c =
+    let l = c.loop-byte in
+    let items = c.part-byte-items.result.now in
+    none_seen l.seen _ ∙ rw (l.invariant, all_take (λ x. eqb x 0) items l.byte-index c.loop-byte-test.true)
 
 pub returns : goal.returns
 unfolding zeros
 returns c =
-    passed_in_all c.loop-i.invariant (search rules)
-    (rw (← c.saturating_sub.ensures) c.part-bytes.ensures)
+    let l = c.loop-byte in
+    let items = c.part-byte-items in
+    rw (← c.saturating_sub.ensures, ← items.ensures)
+    (rw (take_all l.byte-index items.result.now (omega arith)) at l.invariant)

@@ -1,12 +1,9 @@
--- The loop tests the first i bytes of the part (`PassedIn`). Assumes nothing.
-use Prim.Native.Nat.{◌-◌}
-use lib.ListN.{length}
+use Rattle.std.proofs.Common.{◌≡◌}
+use lib.ListN.{take}
 use lib.Dec.{eqb}
-use Rattle.book.proofs.Loops.{PassedIn}
+use Rattle.book.specs.Lists.{all}
 use Rattle.book.proofs.testing.zeros.Given as goal
 
-abbrev pub invariant-loop-i : goal.invariant-loop-i
-invariant-loop-i l = PassedIn (λ x. eqb x 0) l.bytes l.ok l.i
-
-abbrev pub decreases-loop-i : goal.decreases-loop-i
-decreases-loop-i l = length l.bytes - l.i
+-- the bytes read so far are zero exactly where nothing is seen
+abbrev pub invariant-loop-byte : goal.invariant-loop-byte
+invariant-loop-byte l = eqb l.seen 0 ≡ all (λ x. eqb x 0) (take l.byte-index l.byte-items)

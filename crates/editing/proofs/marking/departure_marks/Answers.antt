@@ -1,11 +1,15 @@
 -- The members of the word are those of the mask (`departure_word`). Assumes nothing.
 use native.Mathlib.Omega.{arith}
+use mathlib.Core.Path.{ap, ◌∙◌}
+use Rattle.editing.specs.Marks.{departure_marks}
 use Rattle.editing.proofs.MarkingLaws.{departure_word}
 use Rattle.editing.proofs.marking.departure_marks.Goals as goal
 
 pub returns : goal.returns
-returns c held accepted =
+returns c =
     let a = c.args in
+    let book = a.book.now in
     let before = c.below-before in
-    departure_word a.book.now accepted a.marks a.r before.result c.idle_among.result
-    (omega arith) before.ensures (c.idle_among.ensures held accepted)
+    departure_word book.bytes.now book.accepted c.from-word.result a.r before.result c.idle_among.result
+    (omega arith) before.ensures c.idle_among.ensures
+    ∙ ap (departure_marks book.bytes.now a.r) c.from-word.ensures

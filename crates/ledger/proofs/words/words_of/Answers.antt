@@ -1,23 +1,15 @@
--- One word a turn (`Filled`), and at the end all of them (`filled_map`). Assumes nothing.
-use Prim.Native.Nat.{◌+◌, ◌*◌}
-use mathlib.Core.Path.{refl}
-use lib.ListN.{get_or}
-use borrow.Author.Rules.{rules}
-use Rattle.book.proofs.Loops.{fill_none, fill_more}
-use Rattle.ledger.specs.Ledger.{words_of}
-use Rattle.ledger.proofs.WordLaws.{filled_map}
+-- As many words of the user as there are, and zeros for the others.
+use Rattle.std.proofs.Common.{rules, sym, ◌∙◌}
+use Rattle.std.proofs.lemmas.Slice.{between_to_end}
+use lib.ListN.{get_or-eq_default}
+use Rattle.lineage.proofs.Steps.{get_d_zeros}
+use Rattle.ledger.proofs.WordLaws.{words_are, words_front}
 use Rattle.ledger.proofs.words.words_of.Goals as goal
 
-pub loop-w-init : goal.loop-w-init
-loop-w-init c = (refl, fill_none (search rules))
+pub returns-in-Some : goal.returns-in-Some
+returns-in-Some c =
+    words_front _ _ _ _ _ (search (rules, between_to_end)) (search (rules)) c.min-n.ensures
 
-pub loop-w-preserved : goal.loop-w-preserved
-loop-w-preserved c =
-    let l = c.loop-w in
-    (l.invariant.0, fill_more l.invariant.1 c.loop-w-test.true (rw l.invariant.0 at c.word_at.ensures))
-
-pub returns : goal.returns
-unfolding words_of
-returns c =
-    let a = c.args in
-    filled_map (λ w. get_or a.ledger.now (32 * a.user + w) 0) 32 c.loop-w.invariant.1 c.loop-w-test.false
+pub returns-in_default : goal.returns-in_default
+returns-in_default c =
+    words_are _ _ _ (search rules) (λ w l. get_d_zeros 32 w ∙ sym (get_or-eq_default c.args.ledger.now 0 (search rules)))

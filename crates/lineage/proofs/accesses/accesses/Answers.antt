@@ -1,33 +1,34 @@
--- The table is right for an accepted plan, and the words are determined by their members (`access_words_law`). Assumes nothing.
-use native.Mathlib.Omega.{arith}
-use mathlib.Core.Path.{refl}
-use mir.Syntax.{w64}
-use mir.Val.{Fits}
-use lib.ListN.{get_or}
+-- The table is right for an accepted plan, and the words are determined by their members (`access_words_law`). Assumes
+-- nothing.
+use Rattle.std.proofs.Common.{refl, arith, get_or, Fits, w64}
+use borrow.Author.Rules.{rules}
 use Rattle.book.specs.Blocks.{head_of}
 use Rattle.book.proofs.Accepted.{accepted_head}
 use Rattle.lineage.specs.Rows.{row_count}
+use Rattle.lineage.specs.Accesses.{is_access}
 use Rattle.lineage.specs.Inner.Table.{Reached}
 use Rattle.lineage.proofs.Accepted.{accepted_plan, plan_sound, plan_given}
 use Rattle.lineage.proofs.Words.{access_words_law}
-use borrow.Author.Rules.{rules}
 use Rattle.lineage.proofs.accesses.accesses.Goals as goal
 
-pub returns-then-plan-gt256 : goal.returns-then-plan-gt256
-returns-then-plan-gt256 c words both =
-    let a = c.args in
-    let p = accepted_plan (head_of a.book.now) a.plan.now both.1 in
-    absurd (omega (arith, p.short))
+pub returns-in_default : goal.returns-in_default
+returns-in_default c sound =
+    let p = accepted_plan (head_of c.args.book.now.bytes.now) c.args.plan.now sound in
+    absurd (c.in_default.ensures (omega (arith, p.short)))
 
 pub returns : goal.returns
-returns c words both =
-    let filled = c.fill_reach in
+unfolding is_access
+returns c kept =
     let a = c.args in
-    let head = head_of a.book.now in
-    let b = accepted_head a.book.now both.0 in
-    let p = accepted_plan head a.plan.now both.1 in
+    let filled = c.fill_reach in
+    let given = c.gathered in
+    let book = a.book.now in
+    let head = head_of book.bytes.now in
+    let b = accepted_head book.bytes.now book.accepted in
+    let p = accepted_plan head a.plan.now kept in
     let sound = plan_sound head a.plan.now b p in
-    let table : Reached head a.plan.now (row_count a.plan.now) filled.new.table =
-    (rw c.head_of-head.ensures at filled.ensures) words sound (omega (arith, p.short)) refl in
-    access_words_law head a.plan.now c.gathered.result (search rules) (λ w h. let f : Fits w64 (get_or c.gathered.result w 0) = search rules in f.fits)
-    (c.gathered.ensures head sound table (plan_given head a.plan.now b p))
+    let table : Reached head a.plan.now (row_count a.plan.now) filled.new.reach =
+    (rw (c.head.ensures, c.in-Ok.ensures.1) at filled.ensures) book.told sound (omega (arith, p.short)) refl in
+    access_words_law head a.plan.now given.result (search rules)
+    (λ w h. let f : Fits w64 (get_or given.result w 0) = search rules in f.fits)
+    ((rw c.in-Ok.ensures.1 at given.ensures) head sound table (plan_given head a.plan.now b p))

@@ -1,38 +1,14 @@
--- The rows passed so far are not faulty. Assumes nothing.
-use borrow.Author.Rules.{rules}
-use mathlib.Core.Path.{sym, ◌∙◌}
-use borrow.Author.Tests.{not-true, not-false}
-use native.Mathlib.Omega.{arith}
-use borrow.Author.Count.{below_none, below_more}
-use Rattle.book.proofs.Answers.{flat_passed, flat_refused}
+-- Each row's outcome is that of its test. Assumes nothing.
+use Rattle.std.proofs.Common.{rules, ◌≡◌}
+use Rattle.book.specs.Tests.{first_failing}
+use Rattle.book.proofs.Answers.{walked}
 use Rattle.lineage.specs.Answers.{row_tests}
-use Rattle.lineage.proofs.PlanLaws.{row_passed, row_failed}
 use Rattle.lineage.proofs.rows.test_rows.Goals as goal
-
-pub loop-i-init : goal.loop-i-init
-loop-i-init c = (search rules, below_none _)
-
-pub returns-then-not-row_holds : goal.returns-then-not-row_holds
-returns-then-not-row_holds c =
-    let a = c.args in
-    let at = c.loop-i in
-    let holds = c.row_holds in
-    let e = sym holds.ensures ∙ not-true holds.result c.if-not-row_holds.true-raw in
-    c.refused.ensures
-    ∙ sym
-    (flat_refused (row_tests a.head.now a.plan.now) a.n at.i _ (omega arith) at.invariant.1
-    (row_failed a.head.now a.plan.now at.i e))
-
-pub loop-i-preserved : goal.loop-i-preserved
-loop-i-preserved c =
-    let a = c.args in
-    let at = c.loop-i in
-    let holds = c.row_holds in
-    let e = sym holds.ensures ∙ not-false holds.result c.if-not-row_holds.false-raw in
-    (search rules, below_more _ _ at.invariant.1 (row_passed a.head.now a.plan.now at.i e))
 
 pub returns : goal.returns
 returns c =
-    let a = c.args in
-    let low = c.loop-i.invariant.1 in
-    sym (flat_passed (row_tests a.head.now a.plan.now) a.n (λ j l. low j (omega arith)))
+    let tests = row_tests c.args.head.now c.args.plan.now in
+    walked tests c.args.n (λ i r. r ≡ first_failing (tests i)) (λ i r l low e. e) c.first_refusal.result
+    c.first_refusal.ensures.passed c.first_refusal.ensures.refused
+    (λ f i h. let e = f i h in search rules)
+    (λ r f. (f.0, f.1, let e = f.2 in search rules, λ j l. let e = f.3 j l in search rules))

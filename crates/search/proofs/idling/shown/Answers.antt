@@ -1,23 +1,30 @@
 -- Nothing is written for an idle rule; otherwise the rows of the plan, and no more. Assumes nothing.
 use native.Mathlib.Omega.{arith}
+use Rattle.std.proofs.Common.{rules, ◌≡◌}
+use Rattle.std.specs.Prelude.{Some}
 use Rattle.search.proofs.IdleLaws.{nobody_shown, shown_answer, shown_buffer}
-use borrow.Author.Rules.{rules}
 use Rattle.search.proofs.idling.shown.Goals as goal
 
-pub returns-in-Nobody : goal.returns-in-Nobody
-returns-in-Nobody c long =
-    let a = c.args in
-    nobody_shown a.head.now a.buffer.now a.found c.in-Nobody.is
+pub returns-in_err-user-clause-answer : goal.returns-in_err-user-clause-answer
+returns-in_err-user-clause-answer c = rw c.from_residual.ensures (nobody_shown c.args.head.now c.args.buffer.now c.args.found c.in_err-user.was).0
 
-pub returns-in-User : goal.returns-in-User
-returns-in-User c long =
+pub returns-in_err-user-clause-buffer : goal.returns-in_err-user-clause-buffer
+returns-in_err-user-clause-buffer c long = (nobody_shown c.args.head.now c.args.buffer.now c.args.found c.in_err-user.was).1
+
+pub returns-clause-answer : goal.returns-clause-answer
+returns-clause-answer c =
     let a = c.args in
     let rows = c.row_count-rows in
-    let plan = c.shown_plan in
-    rw c.in-User.is (
-      shown_answer a.head.now plan.result a.buffer.now c.in-User.user c.in-User.first c.in-User.second c.in-User.third rows.result rows.ensures.0
-          rows.ensures.1 (search rules) plan.ensures,
-      shown_buffer a.head.now plan.result a.buffer.now c.in-User.user c.in-User.first c.in-User.second c.in-User.third rows.result _ rows.ensures.0
-          rows.ensures.1 (search rules) plan.ensures
-          (c.write_plan.ensures long (omega (arith, rows.ensures.1))),
-    )
+    let found : a.found ≡ Some c.in_ok-user.field-0 = search rules in
+    rw (found, c.from.ensures)
+    (shown_answer a.head.now c.shown_plan.result a.buffer.now c.in_ok-user.field-0 rows.result rows.ensures.0
+    rows.ensures.1 (search rules) c.shown_plan.ensures)
+
+pub returns-clause-buffer : goal.returns-clause-buffer
+returns-clause-buffer c long =
+    let a = c.args in
+    let rows = c.row_count-rows in
+    let found : a.found ≡ Some c.in_ok-user.field-0 = search rules in
+    rw found
+    (shown_buffer a.head.now c.shown_plan.result a.buffer.now c.in_ok-user.field-0 rows.result rows.ensures.0
+    rows.ensures.1 (search rules) c.shown_plan.ensures _ (c.write_plan.ensures long (omega (arith, rows.ensures.1))))

@@ -1,9 +1,11 @@
 -- One word of each action a turn (`HadWords`): four leaves with sixteen operations each. Assumes nothing.
-use Prim.Native.Nat.{ℕ, ◌*◌, ◌%◌, ◌<◌}
+use Prim.Native.Nat.{ℕ, ◌+◌, ◌*◌, ◌%◌, ◌<◌}
 use native.Mathlib.Omega.{arith}
 use mathlib.Core.Path.{◌≡◌, refl}
 use mathlib.Core.Bool.{Bool, ◌&&◌}
 use lib.ListN.{replicate}
+use Rattle.std.proofs.Common.{rules}
+use Rattle.search.specs.Inner.Table.{HadWith}
 use Rattle.search.specs.Obtainable.{labelled, operated}
 use Rattle.search.proofs.Fours.{four_tests}
 use Rattle.search.proofs.Obtained.{had_holds, had_more, had_none}
@@ -16,26 +18,29 @@ loop-w-init c =
 pub loop-w-preserved : goal.loop-w-preserved
 loop-w-preserved c =
     let head = c.args.head.now in
-    let w = c.loop-w.w in
+    let loop = c.loop-w in
+    let w = loop.w in
     let d = w % 16 * 4 in
     let test : ℕ → ℕ → Bool = λ j k. labelled head j && operated head j k in
-    let labels = c.labels_of-labels.ensures in
-    let operations = c.operations_of-operations.ensures in
     let small : w < 16 = c.loop-w-test.true in
-    let loop = c.loop-w in
     let same : 4 * w ≡ d = omega arith in
-    had_more head loop.had w c.four-word.result small
+    let labels = c.labels_of-labels in
+    let operations = c.operations_of-operations in
+    let one : HadWith head labels.result operations.result (4 * w) c.of.result = search rules in
+    let two : HadWith head labels.result operations.result (4 * w + 1) c.of-in-loop-w.result = search rules in
+    let three : HadWith head labels.result operations.result (4 * w + 2) c.of-in-loop-w-2.result = search rules in
+    let last : HadWith head labels.result operations.result (4 * w + 3) c.of-in-loop-w-3.result = search rules in
+    rw (c.from.ensures, c.from-in-loop-w.ensures)
+    (had_more head loop.had w c.four-word.result small
     (λ i l.
     rw (← same)
-    (four_tests test (4 * w) c.operations_for-a.result
-    c.operations_for-b.result c.operations_for-c.result
-    c.operations_for-e.result c.four-word.result
-    (c.operations_for-a.ensures labels operations (omega arith))
-    (c.operations_for-b.ensures labels operations (omega arith))
-    (c.operations_for-c.ensures labels operations (omega arith))
-    (c.operations_for-e.ensures labels operations (omega arith)) i l
+    (four_tests test (4 * w) c.of.result c.of-in-loop-w.result c.of-in-loop-w-2.result c.of-in-loop-w-3.result c.four-word.result
+    (one labels.ensures operations.ensures (omega arith))
+    (two labels.ensures operations.ensures (omega arith))
+    (three labels.ensures operations.ensures (omega arith))
+    (last labels.ensures operations.ensures (omega arith)) i l
     (c.four-word.ensures i l)))
-    loop.invariant
+    loop.invariant)
 
 pub returns : goal.returns
 returns c =

@@ -1,15 +1,18 @@
 -- One first place a turn (`Seeking`). Assumes nothing.
-use Prim.Native.Nat.{◌-◌}
+use Rattle.std.proofs.Common.{IfSome, ◌<◌, ◌-◌}
 use Rattle.book.specs.Sets.{has}
+use Rattle.search.specs.Inner.Places.{place_or_past}
 use Rattle.search.specs.Inner.Closing.{Within}
-use Rattle.search.specs.Inner.Search.{solves_in}
+use Rattle.search.specs.Inner.Search.{asked, solves_in}
 use Rattle.search.proofs.Solutions.{Seeking}
 use Rattle.search.proofs.searching.among.Given as goal
 
-abbrev pub invariant-loop-a : goal.invariant-loop-a
-invariant-loop-a l =
-    Within (has l.initial.seen) (has l.rules)
-    → Seeking (solves_in l.t l.r l.n l.firsts l.seconds l.places) (λ b z w. b) l.firsts l.rules l.initial.seen l.seen l.a
+abbrev pub invariant-loop-next : goal.invariant-loop-next
+invariant-loop-next l =
+    IfSome l.next (λ a. a < 2112)
+    × (Within (has l.fn.takers.rules) (has l.rules)
+    → Seeking (asked solves_in l.ask l.firsts l.seconds l.thirds) (λ b z w. b) l.firsts l.rules l.fn.takers.rules
+    l.takers.rules (place_or_past l.next))
 
-abbrev pub decreases-loop-a : goal.decreases-loop-a
-decreases-loop-a l = 2112 - l.a
+abbrev pub decreases-loop-next : goal.decreases-loop-next
+decreases-loop-next l = 2112 - place_or_past l.next

@@ -1,7 +1,9 @@
 -- One second place a turn (`Seeking`), out of those that no rule has settled. Assumes nothing.
+use Rattle.std.proofs.Common.{◌≡◌, None, ◌<◌}
 use native.Mathlib.Omega.{arith}
 use Rattle.book.specs.Sets.{has}
-use Rattle.search.specs.Inner.Search.{solves_beside, solves_pair, Searched}
+use Rattle.search.specs.Inner.Closing.{remaining}
+use Rattle.search.specs.Inner.Search.{asked, solves_beside, solves_pair, Searched}
 use Rattle.search.proofs.Solutions.{seeking_start, seeking_end}
 use Rattle.search.proofs.Solutions.{grown_within, found_solved, nothing_unsolved}
 use Rattle.search.proofs.SearchSteps.{beside_inside, beside_empty, beside_found, beside_more}
@@ -12,66 +14,83 @@ pub returns-then-is_empty : goal.returns-then-is_empty
 unfolding Searched
 returns-then-is_empty c begun =
     let a = c.args in
-    beside_empty a.t.now a.r a.n a.a a.seconds a.before.places a.rules a.before.rules
+    let ask = a.ask.now in
+    beside_empty ask.tables.now ask.rule ask.references a.a a.seconds.now a.thirds.now a.rules a.takers.now.rules
     (c.is_empty.ensures c.if-is_empty.true)
 
-pub loop-y-init : goal.loop-y-init
-loop-y-init c =
-    let a = c.args in (
-      search rules,
+pub loop-next-init : goal.loop-next-init
+loop-next-init c =
+    let a = c.args in
+    let ask = a.ask.now in (
+      c.first_from-next.ensures.there,
       search rules,
       λ p l h. h,
       λ begun.
-          seeking_start (solves_beside a.t.now a.r a.n a.a a.seconds a.before.places) (λ b z w. z)
-          a.seconds a.rules a.before.rules c.first_from-y.result
-          (beside_inside a.t.now a.r a.n a.a a.seconds a.before.places (has a.before.rules))
-          (c.first_from-y.ensures (omega arith)),
+          seeking_start (asked solves_beside ask a.a a.seconds.now a.thirds.now) (λ b z w. z)
+          a.seconds.now a.rules a.takers.now.rules _
+          (beside_inside ask.tables.now ask.rule ask.references a.a a.seconds.now a.thirds.now
+          (has a.takers.now.rules)) (c.first_from-next.ensures.first (omega arith)),
     )
 
-pub returns-in_default : goal.returns-in_default
+pub overflow_add-y : goal.overflow_add-y
+overflow_add-y c =
+    let small : c.in-Some.y < 2112 = rw c.in-Some.is at c.loop-next.invariant.0 in
+    omega arith
+
+pub returns-in-Some-beside_both : goal.returns-in-Some-beside_both
 unfolding Searched
-returns-in_default c begun =
+returns-in-Some-beside_both c begun =
     let a = c.args in
-    let loop = c.loop-y in
-    let sought = c.beside_both-sought in
-    let inside =
-    grown_within (has a.rules) (has a.before.rules) (has loop.seen) begun (loop.invariant.3 begun).only in
-    rw c.in_default.is
-    (beside_found a.t.now a.r a.n a.a a.seconds a.before.places loop.waiting a.rules
-    a.before.rules loop.seen loop.y c.in_default.field-0 c.in_default.field-1 c.in_default.field-2 begun
-    c.loop-y-test.true loop.invariant.2 (loop.invariant.3 begun)
-    (found_solved (solves_pair a.t.now a.r a.n a.a loop.y a.before.places) a.rules loop.seen
-    sought.result c.in_default.field-0 c.in_default.field-1 c.in_default.field-2 c.in_default.is (sought.ensures inside)))
+    let ask = a.ask.now in
+    let loop = c.loop-next in
+    let s = c.in-Some.y in
+    let found = c.in-Some-beside_both.found in
+    let start = a.takers.now.rules in
+    let seen = loop.takers.rules in
+    let seeking = rw c.in-Some.is at (loop.invariant.3 begun) in
+    let small : s < 2112 = rw c.in-Some.is at loop.invariant.0 in
+    let inside = grown_within (has a.rules) (has start) (has seen) begun seeking.only in
+    beside_found ask.tables.now ask.rule ask.references a.a a.seconds.now a.thirds.now loop.seconds a.rules start seen
+    s found.first found.second found.third begun small loop.invariant.2 seeking
+    (found_solved (asked solves_pair ask a.a s a.thirds.now) a.rules seen c.beside_both.new.takers.rules
+    c.beside_both.result found c.in-Some-beside_both.is (c.beside_both.ensures inside))
 
-pub loop-y-smaller : goal.loop-y-smaller
-loop-y-smaller c = omega (arith, (c.first_from-y-in-loop-y.ensures (omega arith)).low)
+pub loop-next-smaller : goal.loop-next-smaller
+loop-next-smaller c =
+    let small : c.in-Some.y < 2112 = rw c.in-Some.is at c.loop-next.invariant.0 in
+    rw c.in-Some.is (omega (arith, small, (c.first_from-next-in-Some.ensures.first (omega arith)).low))
 
-pub loop-y-preserved : goal.loop-y-preserved
-loop-y-preserved c =
+pub loop-next-preserved : goal.loop-next-preserved
+loop-next-preserved c =
     let a = c.args in
-    let loop = c.loop-y in
-    let sought = c.beside_both-sought in
-    let rest = c.settle-rest in (
-      loop.invariant.0,
+    let ask = a.ask.now in
+    let loop = c.loop-next in
+    let s = c.in-Some.y in
+    let start = a.takers.now.rules in
+    let seen = loop.takers.rules in
+    let more = c.beside_both.new.takers.rules in
+    let small : s < 2112 = rw c.in-Some.is at loop.invariant.0 in
+    let empty : c.beside_both.result ≡ None = search rules in
+    let rest = c.settle in (
+      c.first_from-next-in-Some.ensures.there,
       search rules,
       λ p l h. loop.invariant.2 p l (rest.ensures.settled.within p l h),
       λ begun.
-          let inside =
-          grown_within (has a.rules) (has a.before.rules) (has loop.seen) begun (loop.invariant.3 begun).only in
+          let seeking = rw c.in-Some.is at (loop.invariant.3 begun) in
+          let inside = grown_within (has a.rules) (has start) (has seen) begun seeking.only in
           let none =
-          nothing_unsolved (solves_pair a.t.now a.r a.n a.a loop.y a.before.places) a.rules
-          loop.seen sought.result c.in-Nothing.more c.in-Nothing.next c.in-Nothing.is (sought.ensures inside) in
-          beside_more a.t.now a.r a.n a.a a.seconds a.before.places loop.waiting a.rules
-          a.before.rules loop.seen c.in-Nothing.more loop.y c.first_from-y-in-loop-y.result rest.result
-          loop.invariant.1 loop.invariant.0 (c.first_from-y-in-loop-y.ensures (omega arith)) none rest.ensures
-          (loop.invariant.3 begun),
+          nothing_unsolved (asked solves_pair ask a.a s a.thirds.now) a.rules seen more c.beside_both.result
+          empty (c.beside_both.ensures inside) in
+          beside_more ask.tables.now ask.rule ask.references a.a a.seconds.now a.thirds.now loop.seconds a.rules start
+          seen more s _ (remaining rest.new.seconds rest.new.takers) loop.invariant.1 (search rules)
+          (c.first_from-next-in-Some.ensures.first (omega arith)) none rest.ensures seeking,
     )
 
 pub returns : goal.returns
 unfolding Searched
 returns c begun =
     let a = c.args in
-    let loop = c.loop-y in
-    seeking_end (solves_beside a.t.now a.r a.n a.a a.seconds a.before.places) (λ b z w. z)
-    loop.waiting a.rules a.before.rules loop.seen loop.y loop.invariant.1 c.loop-y-test.false
-    (loop.invariant.3 begun)
+    let loop = c.loop-next in
+    let ended : loop.next ≡ None = search rules in
+    seeking_end (asked solves_beside a.ask.now a.a a.seconds.now a.thirds.now) (λ b z w. z) loop.seconds a.rules
+    a.takers.now.rules loop.takers.rules 2112 loop.invariant.1 (omega arith) (rw ended at (loop.invariant.3 begun))

@@ -1,28 +1,30 @@
 -- The third places that are left, and the first of them. Assumes nothing.
 use native.Mathlib.Omega.{arith}
-use mathlib.Core.Path.{◌≡◌}
-use lib.ListN.{length}
+use Rattle.search.specs.Inner.Closing.{remaining}
 use Rattle.search.specs.Inner.Search.{Searched}
 use Rattle.search.proofs.SearchSteps.{thirds_none, thirds_found}
 use borrow.Author.Rules.{rules}
 use Rattle.search.proofs.searching.beside_both.Goals as goal
 
-pub returns-then-x-lt-PAST_PLACES : goal.returns-then-x-lt-PAST_PLACES
+pub returns-in_err-x : goal.returns-in_err-x
 unfolding Searched
-returns-then-x-lt-PAST_PLACES c begun =
+returns-in_err-x c begun =
     let a = c.args in
-    let long : length a.places ≡ 33 = search rules in
-    let rest = c.thirds-rest in
-    thirds_found a.t.now a.r a.n a.rules a.a a.y
-    (record { places = a.places; rules = a.seen; last = a.last }) rest.result long rest.ensures
-    c.first_from-x.result begun (c.first_from-x.ensures (omega arith)) c.if-x-lt-PAST_PLACES.true
+    let ask = a.ask.now in
+    let taken = c.take_thirds in
+    rw c.from_residual.ensures
+    (thirds_none ask.tables.now ask.rule ask.references a.rules a.a a.y (remaining a.thirds.now a.takers.now)
+    (remaining taken.new.places taken.new.takers) (search rules) taken.ensures 2112 (search rules)
+    (rw c.in_err-x.was at (c.first_from.ensures.first (omega arith))) (omega arith))
 
 pub returns : goal.returns
 unfolding Searched
 returns c begun =
     let a = c.args in
-    let long : length a.places ≡ 33 = search rules in
-    let rest = c.thirds-rest in
-    thirds_none a.t.now a.r a.n a.rules a.a a.y
-    (record { places = a.places; rules = a.seen; last = a.last }) rest.result long rest.ensures
-    c.first_from-x.result (search rules) (c.first_from-x.ensures (omega arith)) c.if-x-lt-PAST_PLACES.false
+    let ask = a.ask.now in
+    let taken = c.take_thirds in
+    let x = c.in_ok-x.x in
+    let first = rw c.in_ok-x.was at (c.first_from.ensures.first (omega arith)) in
+    let there = rw c.in_ok-x.was at c.first_from.ensures.there in
+    thirds_found ask.tables.now ask.rule ask.references a.rules a.a a.y (remaining a.thirds.now a.takers.now)
+    (remaining taken.new.places taken.new.takers) (search rules) taken.ensures x begun first there

@@ -1,70 +1,30 @@
--- The words of one rule after the other (`Filled`); the law `table_holds` reads them as the book. Assumes nothing.
-use Prim.Native.Nat.{◌+◌, ◌*◌}
+-- One rule a turn: an accepted book has at most 32. Assumes nothing.
 use native.Mathlib.Omega.{arith}
-use mathlib.Core.Path.{◌≡◌, refl}
-use lib.ListN.{length}
-use Rattle.lineage.proofs.Tables.{fill_none, fill_more}
-use Rattle.search.proofs.RuleWords.{TableWord, table_part, table_holds, fill_to}
-use borrow.Author.Rules.{rules}
+use Rattle.std.proofs.Common.{rules, Fits, w8, get_or, ◌<◌}
+use Rattle.book.specs.Blocks.{head_of, rule_count}
+use Rattle.verdicts.proofs.Sound.{few_rules_law, sound_there}
+use Rattle.search.proofs.RuleWords.{rules_more, table_holds}
 use Rattle.search.proofs.tables.fill_table.Goals as goal
 
-pub returns-then-t-n : goal.returns-then-t-n
-returns-then-t-n c held few size = absurd (omega arith)
-
-pub loop-q-init : goal.loop-q-init
-loop-q-init c = (search rules, search rules, fill_none refl)
-
-pub loop-k-init : goal.loop-k-init
-loop-k-init c =
-    let a = c.args in
-    let sets = c.leaf_sets-sets.result in
-    let loop = c.loop-q in
-    let size : length loop.t ≡ length a.t.now = loop.invariant.2.size in (
-      search rules,
-      search rules,
-      rw size loop.invariant.1,
-      rw size
-          (fill_to (length a.t.now) (TableWord a.book.now sets) loop.t (128 * loop.q) (128 * loop.q + 0)
-          (omega arith) loop.invariant.2),
-    )
-
-pub loop-k-preserved : goal.loop-k-preserved
-loop-k-preserved c =
-    let book = c.args.book.now in
-    let sets = c.leaf_sets-sets.result in
-    let outer = c.loop-q in
-    let q = outer.q in
-    let rule = c.rule_at in
-    let words = c.rule_words-words in
-    let loop = c.loop-k in (
-      loop.invariant.0,
-      search rules,
-      loop.invariant.2,
-      fill_to (length outer.t) (TableWord book sets) _ (128 * q + loop.k + 1) (128 * q + (loop.k + 1)) (omega arith)
-          (fill_more loop.invariant.3 (omega (arith, loop.invariant.2))
-          (table_part book sets q loop.k words.result c.loop-k-test.true
-          (rw (← rule.ensures) words.ensures))),
-    )
+pub bounds-tables-from : goal.bounds-tables-from
+bounds-tables-from c =
+    let few = few_rules_law c.args.book.now.bytes.now c.args.book.now.accepted in
+    omega (arith, few, c.rule_count-q-end.ensures, c.loop-q-test.true, c.from.ensures)
 
 pub loop-q-preserved : goal.loop-q-preserved
 loop-q-preserved c =
-    let a = c.args in
-    let sets = c.leaf_sets-sets.result in
-    let outer = c.loop-q in
-    let q = outer.q in
-    let loop = c.loop-k in
-    let size : length outer.t ≡ length a.t.now = outer.invariant.2.size in (
-      search rules,
-      outer.invariant.1,
-      rw (← size)
-          (fill_to (length outer.t) (TableWord a.book.now sets) loop.t (128 * q + loop.k) (128 * (q + 1))
-          (omega arith) loop.invariant.3),
-    )
+    let book = c.args.book.now in
+    let loop = c.loop-q in
+    let few = few_rules_law book.bytes.now book.accepted in
+    let there : loop.q < rule_count book.bytes.now = omega (arith, c.rule_count-q-end.ensures, c.loop-q-test.true) in
+    rw c.from.ensures
+    (rules_more book.bytes.now loop.tables loop.q c.rule_table.result (omega (arith, few, there))
+    (sound_there book.bytes.now book.accepted loop.q there
+    (λ i. let f : Fits w8 (get_or c.rule-rule.result.now i 0) = search rules in rw c.rule-rule.ensures at f.fits))
+    (rw c.rule-rule.ensures at (c.rule_table.ensures (head_of book.bytes.now) book.told)) loop.invariant)
 
 pub returns : goal.returns
-returns c held few size =
-    let a = c.args in
-    let sets = c.leaf_sets-sets in
+returns c =
     let loop = c.loop-q in
-    table_holds a.book.now a.n sets.result loop.t (128 * loop.q) (sets.ensures held few)
-    (rw size at loop.invariant.2) (omega arith)
+    table_holds c.args.book.now.bytes.now (rule_count c.args.book.now.bytes.now) loop.tables loop.q loop.invariant
+    (omega (arith, c.rule_count-q-end.ensures, c.loop-q-test.false))

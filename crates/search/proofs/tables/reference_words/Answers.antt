@@ -5,8 +5,8 @@ use lib.ListN.{get_or, get_or-replicate}
 use Rattle.search.proofs.RuleWords.{meets_absent, meets_word}
 use Rattle.search.proofs.tables.reference_words.Goals as goal
 
-pub returns-then-reference_count-i : goal.returns-then-reference_count-i
-returns-then-reference_count-i c w l p h e =
+pub returns-then-reference_count-from : goal.returns-then-reference_count-from
+returns-then-reference_count-from c w l p h e =
     let a = c.args in
     rw (get_or-replicate {A = ℕ} 33 w 18446744073709551615 0 l)
     (meets_absent a.rule.now a.leaves a.i p (omega arith))

@@ -5,8 +5,8 @@ use Rattle.search.proofs.Fours.{four_same}
 use Rattle.search.proofs.RuleWords.{takes_absent, takes_word}
 use Rattle.search.proofs.tables.restriction_word.Goals as goal
 
-pub returns-then-restriction_count-j : goal.returns-then-restriction_count-j
-returns-then-restriction_count-j c p =
+pub returns-then-restriction_count-from : goal.returns-then-restriction_count-from
+returns-then-restriction_count-from c p =
     takes_absent c.args.rule.now c.args.i
     c.args.j p (omega arith)
 

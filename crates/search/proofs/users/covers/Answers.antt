@@ -1,9 +1,10 @@
 -- Past the words no rule covers. Assumes nothing.
-use Rattle.search.proofs.UserLaws.{covers_past}
 use borrow.Author.Rules.{rules}
+use borrow.Author.Tests.{le-ltb}
+use Rattle.search.proofs.UserLaws.{covers_past}
 use Rattle.search.proofs.users.covers.Goals as goal
 
-pub returns : goal.returns
-returns c =
+pub returns-else-q-lt32 : goal.returns-else-q-lt32
+returns-else-q-lt32 c =
     let a = c.args in
-    covers_past a.covered a.q a.u (search rules) c.if-q-lt32.false
+    rw (le-ltb a.q 32 c.if-q-lt32.false) (covers_past a.covered.now a.q a.u (search rules) c.if-q-lt32.false)

@@ -3,8 +3,8 @@ use Prim.Native.Nat.{◌-◌}
 use Rattle.search.proofs.UserLaws.{Users}
 use Rattle.search.proofs.users.first_user.Given as goal
 
-abbrev pub invariant-loop-u : goal.invariant-loop-u
-invariant-loop-u l = Users l.t l.r l.n l.had l.covered l.masks l.u
+abbrev pub invariant-loop-user : goal.invariant-loop-user
+invariant-loop-user l = Users l.ask.tables.now l.ask.rule l.ask.references l.had l.covered l.masks l.user
 
-abbrev pub decreases-loop-u : goal.decreases-loop-u
-decreases-loop-u l = 32 - l.u
+abbrev pub decreases-loop-user : goal.decreases-loop-user
+decreases-loop-user l = 32 - l.user

@@ -1,22 +1,16 @@
--- The first mask with nothing outside the set. Assumes nothing.
-use mir.Syntax.{w64}
-use mir.Val.{Fits}
-use mathlib.Core.Bool.{false≢true}
-use lib.ListN.{get_or}
-use Rattle.search.proofs.UserLaws.{mask_within_law}
-use borrow.Author.Rules.{rules}
+-- Some mask has nothing outside the set (`some_mask_within`). Assumes nothing.
+use Rattle.std.proofs.Common.{rules, tests, ◌-◌, ◌^◌, bit_and, ◌∙◌, sym}
+use lib.Dec.{eqb}
+use Rattle.std.proofs.lemmas.Iterator.{YieldsList-from_slice}
+use Rattle.std.proofs.lemmas.Iterator.Search.{any_from_yields_List}
+use Rattle.search.proofs.UserLaws.{some_mask_within}
 use Rattle.search.proofs.users.settled.Goals as goal
 
-pub returns-then-masks-i-eq0 : goal.returns-then-masks-i-eq0
-returns-then-masks-i-eq0 c e =
-    let a = c.args in
-    let i = c.loop-i.i in
-    let f : Fits w64 (get_or a.masks i 0) = search rules in (
-      i,
-      c.loop-i-test.true,
-      mask_within_law (get_or a.masks i 0) a.rules f.fits
-          c.ranges.rules.fits c.if-masks-i-eq0.true,
-    )
-
 pub returns : goal.returns
-returns c e = absurd (false≢true e)
+returns c e =
+    let a = c.args in
+    some_mask_within a.masks.now a.rules c.told-masks c.fits-masks c.ranges.rules.fits
+    (sym
+    (any_from_yields_List (λ m. eqb (bit_and m ((2 ^ 64 - 1) - a.rules)) 0) _ _ c.any.result c.any.ensures.ran
+    (YieldsList-from_slice a.masks.now cc) (λ x b q k. search (rules, tests)))
+    ∙ e)

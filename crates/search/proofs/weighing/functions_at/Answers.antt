@@ -7,5 +7,5 @@ use Rattle.search.proofs.weighing.functions_at.Goals as goal
 pub returns-then-p-eq0 : goal.returns-then-p-eq0
 returns-then-p-eq0 c = (sym (functions_none c.args.p c.if-p-eq0.true), omega arith)
 
-pub returns : goal.returns
-returns c = (sym (functions_one c.args.p c.if-p-eq0.false), omega arith)
+pub returns-else-p-eq0 : goal.returns-else-p-eq0
+returns-else-p-eq0 c = (sym (functions_one c.args.p c.if-p-eq0.false), omega arith)

@@ -6,7 +6,7 @@ use Rattle.search.proofs.weighing.of_weight.Given as goal
 
 abbrev pub invariant-loop-pattern : goal.invariant-loop-pattern
 invariant-loop-pattern l =
-    FirstOf (weighed (solves_among l.t l.r l.n l.rules l.sets) l.weight l.pattern) l.found
+    FirstOf (weighed (solves_among l.ask.tables.now l.ask.rule l.ask.references l.rules l.sets) l.weight l.pattern) l.found
 
 abbrev pub decreases-loop-pattern : goal.decreases-loop-pattern
 decreases-loop-pattern l = 8 - l.pattern

@@ -1,27 +1,35 @@
 -- Too many nodes, too long, or written. Assumes nothing.
-use Prim.Native.Nat.{ℕ}
 use mathlib.Core.Path.{◌≡◌, ◌∙◌}
-use lib.ListN.{length, replicate, length-replicate}
-use Rattle.trees.proofs.TreeAnswers.{first_short, listed_many, told_long, told_written, tree_many}
+use Rattle.std.proofs.Common.{rules}
+use Rattle.std.specs.Prelude.{Err}
+use Rattle.book.specs.declared.refusal.Refusal.TheVariants.{TreeSize}
+use Rattle.trees.specs.Trees.{node_count}
+use Rattle.trees.proofs.Walked.{listed_many, listed_whole}
+use Rattle.trees.proofs.TreeAnswers.{told_long, told_written, tree_many}
 use Rattle.trees.proofs.drawing.write_tree.Goals as goal
 
-room : length (replicate {A = ℕ} 4097 0) ≡ 4097
-room = length-replicate {A = ℕ} 4097 0
+pub overflow_cast-result-2 : goal.overflow_cast-result-2
+overflow_cast-result-2 c =
+    let few = c.text_length-length.ensures.few in
+    search rules
 
-pub returns-then-count-gt4096 : goal.returns-then-count-gt4096
-returns-then-count-gt4096 c low value =
-    let listed = c.list_tree-count.ensures low value in
-    let e = tree_many _ _ _ (listed_many _ _ _ _ _ room listed c.if-count-gt4096.true) in
-    (c.too_large.ensures ∙ e.0, e.1)
+pub returns-in_err-map_err : goal.returns-in_err-map_err
+unfolding node_count
+returns-in_err-map_err c low value =
+    let out : c.from_residual.result ≡ Err TreeSize = search rules in
+    let over : c.list_tree.result ≡ Err (record {}) = search rules in
+    let many = listed_many _ _ _ _ _ (c.list_tree.ensures low value) c.new-nodes.ensures over in
+    let e = tree_many c.args.plan.now c.args.row c.args.buffer.now many in
+    (out ∙ e.0, e.1)
 
 pub returns-then-buffer-length : goal.returns-then-buffer-length
 returns-then-buffer-length c low value =
-    let e =
-    told_long _ _ _ _ _ _ _ _ low room (c.list_tree-count.ensures low value) c.if-count-gt4096.false c.first-nodes.ensures
-    (c.text_length-length.ensures.0 (first_short _ _ _ c.first-nodes.ensures c.if-count-gt4096.false)) c.if-buffer-length.true in
-    (c.too_large-then-buffer-length.ensures ∙ e.0, e.1)
+    let whole = listed_whole _ _ _ _ (c.list_tree.ensures low value) c.new-nodes.ensures (search rules) in
+    told_long c.args.plan.now c.args.row c.args.buffer.now _ _ whole c.text_length-length.ensures.length c.if-buffer-length.true
 
 pub returns : goal.returns
 returns c low value =
-    told_written _ _ _ _ _ _ _ _ low room (c.list_tree-count.ensures low value) c.if-count-gt4096.false c.first-nodes.ensures
-    (c.text_length-length.ensures.0 (first_short _ _ _ c.first-nodes.ensures c.if-count-gt4096.false)) _ c.if-buffer-length.false c.write_lines.ensures
+    let whole = listed_whole _ _ _ _ (c.list_tree.ensures low value) c.new-nodes.ensures (search rules) in
+    rw c.len.ensures.value
+    (told_written c.args.plan.now c.args.row c.args.buffer.now _ _ whole c.text_length-length.ensures.length _
+    (rw c.len.ensures.value at c.len.ensures.fits) c.if-buffer-length.false c.write_lines.ensures)

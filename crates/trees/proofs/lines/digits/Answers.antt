@@ -7,5 +7,5 @@ use Rattle.trees.proofs.lines.digits.Goals as goal
 pub returns-then-row-lt10 : goal.returns-then-row-lt10
 returns-then-row-lt10 c = (sym (decimal_length_one _ c.if-row-lt10.true), search rules)
 
-pub returns : goal.returns
-returns c = (sym (decimal_length_two _ c.if-row-lt10.false), search rules)
+pub returns-else-row-lt10 : goal.returns-else-row-lt10
+returns-else-row-lt10 c = (sym (decimal_length_two _ c.if-row-lt10.false), search rules)

@@ -1,24 +1,34 @@
--- After k turns the first k lines are written (`lines_put`); all of them stand at the front where they fit. Assumes
--- nothing.
-use borrow.Author.Rules.{rules}
+-- After k turns the first k lines are written (`lines_written`). Assumes nothing.
 use native.Mathlib.Omega.{arith}
-use Rattle.trees.proofs.Puts.{put_fits}
-use Rattle.trees.proofs.TextLaws.{lines_none, lines_put, lines_whole}
+use mathlib.Core.Path.{refl, ◌∙◌, ap}
+use lib.ListN.{length, drop, length-drop}
+use Prim.Native.Nat.{◌-◌}
+use lib.Seq.{take_all}
+use borrow.Rule.Slice.PartMut.{same_len_mid}
+use Rattle.trees.specs.Text.{text_of}
+use Rattle.trees.specs.Answers.{written}
+use Rattle.trees.proofs.TextLaws.{lines_written, text_none}
 use Rattle.trees.proofs.lines.write_lines.Goals as goal
 
-pub loop-k-init : goal.loop-k-init
-loop-k-init c = (search rules, search rules, search rules, lines_none _ _)
+pub loop-node-init : goal.loop-node-init
+unfolding written
+loop-node-init c = (omega arith, λ room. rw (text_none c.args.plan.now) (refl, refl))
 
-pub loop-k-preserved : goal.loop-k-preserved
-loop-k-preserved c =
-    let turn = c.loop-k in (
-      search rules,
-      search rules,
-      search rules,
-      lines_put _ _ turn.k _ _ _ _ _ (omega arith) turn.invariant.3 c.put_line-after.ensures,
+pub loop-node-preserved : goal.loop-node-preserved
+loop-node-preserved c =
+    let l = c.loop-node in
+    let w = c.write_line-at in
+    let whole = same_len_mid l.at (length l.buffer - l.at) l.buffer w.new.text w.auto.text in
+    let past = length-drop l.at l.buffer in
+    let rest = ap length (take_all (length l.buffer - l.at) (drop l.at l.buffer) (omega (arith, past))) in (
+      omega arith,
+      λ room. lines_written c.args.plan.now _ l.node-index _ (omega arith) c.args.buffer.now l.buffer _ l.at _ _
+          l.auto.buffer l.invariant.0 refl room (l.invariant.1 room) w.ensures.line,
     )
 
 pub returns : goal.returns
-returns c fits =
-    let turn = c.loop-k in
-    (put_fits _ _ _ _ fits (lines_whole _ _ turn.k _ _ _ (omega arith) turn.invariant.3)).0
+returns c room =
+    let l = c.loop-node in
+    let v = c.as_slice-node-items.ensures.value in
+    let all = take_all l.node-index _ c.loop-node-test.false in
+    (l.invariant.1 (rw v room)).0 ∙ ap (λ ns. written (text_of c.args.plan.now ns) c.args.buffer.now) (all ∙ v)

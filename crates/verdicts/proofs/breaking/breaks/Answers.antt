@@ -10,7 +10,7 @@ returns-then-first-eq0 c head held sound =
     let first = c.offered-first in
     let a = c.args in
     sym
-    (none_first head a.rule.now (held_by a.words) sound first.result (first.ensures head held sound)
+    (none_first head a.rule.now (held_by a.accesses.now) sound first.result (first.ensures head held sound)
     c.if-first-eq0.true)
 
 pub returns-then-second-eq0 : goal.returns-then-second-eq0
@@ -18,7 +18,7 @@ returns-then-second-eq0 c head held sound =
     let second = c.offered-second in
     let a = c.args in
     sym
-    (none_second head a.rule.now (held_by a.words) sound second.result (second.ensures head held sound)
+    (none_second head a.rule.now (held_by a.accesses.now) sound second.result (second.ensures head held sound)
     c.if-second-eq0.true)
 
 pub returns-then-third-eq0 : goal.returns-then-third-eq0
@@ -26,7 +26,7 @@ returns-then-third-eq0 c head held sound =
     let third = c.offered-third in
     let a = c.args in
     sym
-    (none_third head a.rule.now (held_by a.words) sound third.result (third.ensures head held sound)
+    (none_third head a.rule.now (held_by a.accesses.now) sound third.result (third.ensures head held sound)
     c.if-third-eq0.true)
 
 pub returns : goal.returns
@@ -37,6 +37,6 @@ returns c head held sound =
     let first = c.offered-first in
     let a = c.args in
     c.some_refused.ensures
-    ∙ refused_by_words head a.rule.now (held_by a.words) sound masks.result first.result
+    ∙ refused_by_words head a.rule.now (held_by a.accesses.now) sound masks.result first.result
     second.result third.result (masks.ensures (omega (arith, sound.whole)) sound.restrictions)
     (first.ensures head held sound) (second.ensures head held sound) (third.ensures head held sound)

@@ -1,62 +1,38 @@
--- One operation a turn: the law `offers_met` is the test, `marks_more` the step. Assumes nothing.
-use Prim.Native.Nat.{◌+◌}
-use mathlib.Core.Bool.{not}
+-- The law `offers_met` is the test. Assumes nothing.
+use native.Mathlib.Omega.{arith}
+use mathlib.Core.Path.{◌≡◌, refl, ◌∙◌}
+use mathlib.Core.Bool.{not, cond}
 use lib.ListN.{get_or}
 use lib.Dec.{eqb}
 use lib.Bits.{bit_and, bit_or}
-use borrow.Author.Rules.{rules}
+use Prim.Native.Nat.{◌+◌}
+use Rattle.std.proofs.Common.{rules}
+use Rattle.book.specs.Rule.{action}
+use Rattle.book.specs.Sets.{has}
+use Rattle.verdicts.specs.Actions.{channel_fits}
 use Rattle.verdicts.specs.Accesses.{held_by}
-use Rattle.verdicts.specs.Inner.Words.{offers}
-use Rattle.verdicts.proofs.Marks.{marks_none, marks_more, marks_end}
 use Rattle.verdicts.proofs.Offers.{offers_met, offered_present, offered_absent}
 use Rattle.verdicts.proofs.breaking.offered.Goals as goal
 
-pub returns-then-reference_count-i : goal.returns-then-reference_count-i
-returns-then-reference_count-i c head held sound k =
+pub returns-then-reference_count-from : goal.returns-then-reference_count-from
+returns-then-reference_count-from c head held sound =
     let a = c.args in
-    offered_absent head a.rule.now (held_by a.words) a.i
-    (rw c.reference_count.ensures.0 at c.if-reference_count-i.true) k
-
-pub loop-k-init : goal.loop-k-init
-loop-k-init c =
-    let a = c.args in
-    (search rules, λ head held sound. marks_none (offers head a.rule.now (held_by a.words) a.i))
-
-pub loop-k-preserved : goal.loop-k-preserved
-loop-k-preserved c =
-    let one = c.single in
-    let small = c.loop-k-test.true in
-    let l = c.loop-k in
-    let tested = c.word_if-tested in
-    let second = c.channel_fits-2 in
-    let projected = c.word_if-projected in
-    let first = c.channel_fits in
-    let named = c.action-named in
-    let leaves = c.leaf_set-leaves in
-    let a = c.args in (
-      search rules,
-      λ head held sound.
-          marks_more (offers head a.rule.now (held_by a.words) a.i) l.k l.found one.result
-          c.word_if-found.result
-          (not
-          (eqb
-          (bit_or (bit_and (get_or a.words l.k 0) projected.result)
-          (bit_and (get_or a.words (16 + l.k) 0) tested.result))
-          0))
-          (l.invariant.1 head held sound) one.ensures c.word_if-found.ensures
-          (offers_met head a.rule.now a.words a.i l.k small leaves.result projected.result
-          tested.result first.result second.result sound.leaves leaves.type_inv (leaves.ensures head held)
-          (rw named.ensures at first.ensures) (rw named.ensures at second.ensures)
-          projected.ensures tested.ensures),
-    )
+    let counted = c.reference_count.ensures.0 in
+    offered_absent head a.rule.now (held_by a.accesses.now) a.i (omega (arith, counted))
 
 pub returns : goal.returns
 returns c head held sound =
-    let l = c.loop-k in
-    let test = c.if-reference_count-i in
-    let n = c.reference_count in
     let a = c.args in
-    let f = offers head a.rule.now (held_by a.words) a.i in
-    offered_present head a.rule.now (held_by a.words) a.i l.found
-    (rw n.ensures.0 at test.false)
-    (marks_end f l.k 16 l.found (l.invariant.1 head held sound) l.invariant.0 c.loop-k-test.false)
+    let counted = c.reference_count.ensures.0 in
+    let p = c.fitted-projected in
+    let t = c.fitted-tested in
+    let leaves = c.leaf_set-leaves in
+    let pe : p.result ≡ cond (channel_fits 0 (action a.rule.now a.i)) leaves.result 0 = search rules in
+    let te : t.result ≡ cond (channel_fits 1 (action a.rule.now a.i)) leaves.result 0 = search rules in
+    offered_present head a.rule.now (held_by a.accesses.now) a.i c.those_below.result
+    (omega (arith, counted))
+    (λ q l. let e = c.those_below.ensures.below q l (omega arith) in
+    let met : has c.those_below.result q ≡ not (eqb (bit_or (bit_and (get_or a.accesses.now q 0) p.result) (bit_and (get_or a.accesses.now (16 + q) 0) t.result)) 0) = search rules in
+    met ∙ offers_met head a.rule.now a.accesses.now a.i q l leaves.result p.result t.result _ _ sound.leaves leaves.type_inv (leaves.ensures head held)
+    refl refl pe te)
+    c.those_below.ensures.above

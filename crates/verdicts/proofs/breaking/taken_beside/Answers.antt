@@ -1,28 +1,27 @@
--- One restriction a turn; the law `beside_more` is the step. Assumes nothing.
+-- One restriction a turn (`beside_more`, `beside_other`). Assumes nothing.
 use native.Mathlib.Omega.{arith}
-use mathlib.Core.Path.{◌≡◌}
-use borrow.Author.Rules.{rules}
-use Rattle.verdicts.proofs.Masks.{beside_none, beside_more}
+use lib.Seq.{take_all}
+use Rattle.verdicts.proofs.Masks.{beside_none, beside_more, beside_other}
+use Rattle.verdicts.proofs.breaking.taken_beside.Goals.{then-contains, else-contains}
 use Rattle.verdicts.proofs.breaking.taken_beside.Goals as goal
 
-pub loop-j-init : goal.loop-j-init
-loop-j-init c =
-    let a = c.args in
-    (search rules, beside_none a.masks a.a a.b)
+pub loop-row-init : goal.loop-row-init
+loop-row-init c = beside_none _ _
 
-pub loop-j-preserved : goal.loop-j-preserved
-loop-j-preserved c =
-    let second = c.contains-in-loop-j in
+pub loop-row-preserved : goal.loop-row-preserved
+loop-row-preserved c =
+    let a = c.args in
+    let l = c.loop-row in
     let first = c.contains in
-    let l = c.loop-j in
-    let a = c.args in (
-      search rules,
-      beside_more a.masks a.a a.b l.j l.found c.word_if-found.result first.result second.result
-          l.invariant.1 first.ensures second.ensures c.word_if-found.ensures,
-    )
+    let second = c.contains-in-loop-row in
+    elim c.if-contains.branch [
+      | then-contains w ↦ rw w.found-is
+          (beside_more a.masks.now a.a a.b l.row-index l.found first.result second.result (omega arith) l.invariant
+          first.ensures second.ensures w.if-contains.true)
+      | else-contains w ↦ rw w.found-is
+          (beside_other a.masks.now a.a a.b l.row-index l.found first.result second.result (omega arith) l.invariant
+          first.ensures second.ensures w.if-contains.false)
+    ]
 
 pub returns : goal.returns
-returns c k =
-    let l = c.loop-j in
-    let e : l.j ≡ 8 = omega arith in
-    rw e at (l.invariant.1 k)
+returns c k = rw (take_all c.loop-row.row-index c.args.masks.now (omega arith)) at (c.loop-row.invariant k)

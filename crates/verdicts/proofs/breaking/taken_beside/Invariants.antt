@@ -1,10 +1,7 @@
--- One restriction a turn; the law `beside_more` is the step. Assumes nothing.
-use Prim.Native.Nat.{◌-◌, ◌≤◌}
-use Rattle.verdicts.proofs.Masks.{BesideTo}
+-- One restriction a turn. Assumes nothing.
+use lib.ListN.{take}
+use Rattle.verdicts.specs.Inner.Words.{Beside}
 use Rattle.verdicts.proofs.breaking.taken_beside.Given as goal
 
-abbrev pub invariant-loop-j : goal.invariant-loop-j
-invariant-loop-j l = (l.j ≤ 8) × BesideTo l.masks l.a l.b l.j l.found
-
-abbrev pub decreases-loop-j : goal.decreases-loop-j
-decreases-loop-j l = 8 - l.j
+abbrev pub invariant-loop-row : goal.invariant-loop-row
+invariant-loop-row l = Beside (take l.row-index l.masks) l.a l.b l.found

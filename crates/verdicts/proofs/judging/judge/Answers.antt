@@ -1,25 +1,32 @@
--- The tests decide which of both answers it is (`judge_answer_law`, `judge_refused`); either keeps demand 2
+-- The tests decide which of both answers it is (`judge_refused`, `judge_answer_law`); either keeps demand 2
 -- (`judge_promises`). Assumes nothing.
 use mathlib.Core.Path.{sym, ap, ◌∙◌}
-use Rattle.verdicts.specs.declared.Judged.TheVariants.{Broken}
+use Rattle.std.proofs.Common.{rules}
+use Rattle.verdicts.specs.Answers.{broken}
 use Rattle.verdicts.proofs.JudgeLaws.{judge_accepted, judge_answer_law, judge_refused}
 use Rattle.verdicts.proofs.DemandLaws.{judge_promises}
+use Rattle.verdicts.proofs.Sound.{mask_held}
 use Rattle.verdicts.proofs.judging.judge.Goals as goal
 
-pub returns-in-Refused : goal.returns-in-Refused
-returns-in-Refused c =
+pub returns-in_err-book-clause-answer : goal.returns-in_err-book-clause-answer
+returns-in_err-book-clause-answer c =
     let a = c.args in
-    let held = rw c.head_of.ensures at c.head_words-t.ensures in
-    judge_promises a.book.now a.user a.plan.now _
-    (judge_refused a.book.now a.user a.plan.now _
-    (sym (c.test_judge-outcome.ensures held) ∙ c.in-Refused.is))
+    let told = judge_refused a.book.now a.user a.plan.now _ c.in_err-book.ensures.refused in
+    search rules
 
-pub returns-in-Passed : goal.returns-in-Passed
-returns-in-Passed c =
+pub returns-in_err-book-clause-judges : goal.returns-in_err-book-clause-judges
+returns-in_err-book-clause-judges c = judge_promises _ _ _ _ (returns-in_err-book-clause-answer c)
+
+pub returns-clause-answer : goal.returns-clause-answer
+returns-clause-answer c =
     let a = c.args in
-    let held = rw c.head_of.ensures at c.head_words-t.ensures in
-    let passed = sym (c.test_judge-outcome.ensures held) ∙ c.in-Passed.is in
+    let passed = c.in_ok-book.ensures.passed in
     let given = judge_accepted a.book.now a.user a.plan.now passed in
-    judge_promises a.book.now a.user a.plan.now _
-    (ap Broken (c.mask_of.ensures held (given.book_accepted, given.plan_accepted))
-    ∙ sym (judge_answer_law a.book.now a.user a.plan.now passed))
+    let same = c.in_ok-book.ensures.bytes in
+    let words = (rw same at c.accesses.ensures) given.plan_accepted in
+    let mask = rw (words, same) at c.broken_by-mask.ensures in
+    ap broken (mask ∙ mask_held a.book.now given.book_accepted a.user a.plan.now)
+    ∙ sym (judge_answer_law a.book.now a.user a.plan.now passed)
+
+pub returns-clause-judges : goal.returns-clause-judges
+returns-clause-judges c = judge_promises _ _ _ _ (returns-clause-answer c)

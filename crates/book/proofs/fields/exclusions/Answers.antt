@@ -1,5 +1,0 @@
--- The part that `part` gives, of the length that the count's byte holds. Assumes nothing.
-use Rattle.book.proofs.fields.exclusions.Goals as goal
-
-pub returns : goal.returns
-returns c = rw (← c.exclusion_count.ensures.0) c.part.ensures
