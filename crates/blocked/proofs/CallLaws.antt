@@ -14,6 +14,7 @@ use Rattle.book.specs.declared.refusal.Refusal.{Refusal}
 use Rattle.book.specs.declared.refusal.Refusal.TheVariants.{NoRule}
 use Rattle.book.proofs.Answers.{append_refused, last_passed}
 use Rattle.book.proofs.Calls.{after_passed, passed_both}
+use Rattle.verdicts.specs.Inner.Words.{RuleSound}
 use Rattle.verdicts.proofs.Sound.{few_rules_law}
 use Rattle.search.specs.Answers.{rule_tests}
 use Rattle.search.specs.Inner.Places.{PlacesOf}
@@ -138,7 +139,9 @@ module _ (u l m n : ℕ) (stands : Standing l m n) where
 
 -- they say what the book says
 pub started :
-    (book : List ℕ) (r : ℕ) (rule head : List ℕ)
+    (book : List ℕ)
+    → ((q : ℕ) → q < rule_count book → RuleSound (head_of book) (rule_at book q))
+    → (r : ℕ) (rule head : List ℕ)
     → rule ≡ rule_at book r
     → head ≡ head_of book
     → (references : ℕ)
@@ -161,10 +164,11 @@ pub started :
       scope = record { firsts = firsts; seconds = seconds; thirds = thirds };
     })
 started
-    book r rule head re he references ne t met had covered firsts seconds thirds all tables hads covers first
+    book sound r rule head re he references ne t met had covered firsts seconds thirds all tables hads covers first
     second third holds rules =
     let m : references ≡ reference_count (rule_at book r) = ne ∙ ap reference_count re in
     record {
+      sound = sound;
       tables = tables;
       met_holds = holds;
       all_rules = rules;

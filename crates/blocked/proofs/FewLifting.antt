@@ -72,7 +72,7 @@ module _ (book : List ℕ) (accepted : BookAccepted book) (r : ℕ) (l : r < rul
     (given : Started book r s) where
   pub started_ready : Ready s.rules s.met s.all s.scope.seconds s.scope.thirds s.covered
   started_ready =
-      ready book accepted r l s.rules given.had s.covered given.tables given.hads given.covers
+      ready book accepted given.sound r l s.rules given.had s.covered given.tables given.hads given.covers
       s.scope.firsts s.scope.seconds s.scope.thirds given.first given.second given.third s.met
       s.all given.met_holds given.all_rules
 
@@ -81,7 +81,7 @@ module _ (book : List ℕ) (accepted : BookAccepted book) (r : ℕ) (l : r < rul
 
   pub started_denied : (found : Option Denial) → Finds found → FirstDenied book r found
   started_denied found h =
-      lifted book accepted r l s.rules given.had s.covered given.tables given.hads given.covers
+      lifted book accepted given.sound r l s.rules given.had s.covered given.tables given.hads given.covers
       s.scope.firsts s.scope.seconds s.scope.thirds given.first given.second given.third found
       (h started_ready)
 
@@ -124,7 +124,7 @@ module _ (book : List ℕ) (accepted : BookAccepted book) (r : ℕ) (l : r < rul
     user : covers_user (head_of book) (rule_at book r) u ≡ true
     user =
         sym
-        (covers_rule book accepted r l s.rules given.had s.covered given.tables given.hads
+        (covers_rule book accepted given.sound r l s.rules given.had s.covered given.tables given.hads
         given.covers s.scope.firsts s.scope.seconds s.scope.thirds given.first given.second
         given.third u denied.below)
         ∙ denied.covers
@@ -136,7 +136,7 @@ module _ (book : List ℕ) (accepted : BookAccepted book) (r : ℕ) (l : r < rul
     opens_pair : (rules : ℕ → Bool) → OpensOf s.rules (counting rules) s.scope b z w → is_closed_under book rules here ≡ false
     unfolding counting
     opens_pair rules o =
-        opens_open book accepted r l s.rules given.had s.covered given.tables given.hads
+        opens_open book accepted given.sound r l s.rules given.had s.covered given.tables given.hads
         given.covers s.scope.firsts s.scope.seconds s.scope.thirds given.first given.second
         given.third b z w cells rules u denied.below
         (opens_fewer s.rules s.scope (counting_rules rules s.covered u) (counting rules)
@@ -155,7 +155,7 @@ module _ (book : List ℕ) (accepted : BookAccepted book) (r : ℕ) (l : r < rul
         and_true (rules q) (covering_rules s.covered u q) (and_left (rules q) (has counts q) g)
         (covered_small q (and_right (rules q) (has counts q) g)).1)
         b z w
-        (open_opens book accepted r l s.rules given.had s.covered given.tables given.hads
+        (open_opens book accepted given.sound r l s.rules given.had s.covered given.tables given.hads
         given.covers s.scope.firsts s.scope.seconds s.scope.thirds given.first given.second
         given.third b z w cells rules u denied.below user h)
 

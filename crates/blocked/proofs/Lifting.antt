@@ -19,6 +19,7 @@ use Rattle.book.proofs.Accepted.{RuleHolds, accepted_head, accepted_rule}
 use Rattle.book.proofs.Lists.{and_assoc, and_both, and_false, and_left, and_right, and_true, any_from_same, or_either}
 use Rattle.book.proofs.Lists.{same_test}
 use Rattle.verdicts.specs.Accesses.{Access, fits, members}
+use Rattle.verdicts.specs.Inner.Words.{RuleSound}
 use Rattle.verdicts.specs.Breaking.{breaks, some_choice_refused}
 use Rattle.verdicts.proofs.Accesses.{leaf_set_below, Apart}
 use Rattle.verdicts.proofs.Quantifiers.{any_below}
@@ -69,7 +70,7 @@ module _ (head rule : List ℕ) where
       let rest = plain n (suc i) a b.1 in
       record { to = ap (λ (d : List Datum). x ∷ d) rest.to; had = rw (f.0, rest.had) }
 
-module _ (book : List ℕ) (accepted : BookAccepted book)
+module _ (book : List ℕ) (accepted : BookAccepted book) (sound : (q : ℕ) → q < rule_count book → RuleSound (head_of book) (rule_at book q))
     (r : ℕ) (l : r < rule_count book) (t : List RuleTable) (had covered : List ℕ)
     (tables : TableHolds book (rule_count book) t) (hads : HadHolds (head_of book) had)
     (covers : CoversHold book (rule_count book) covered)
@@ -172,18 +173,18 @@ module _ (book : List ℕ) (accepted : BookAccepted book)
     a_choice : is_choice (head_of book) (rule_at book r) (choice_at a y x) ≡ true
     unfolding is_choice
     a_choice =
-        places_choice (head_of book) (rule_at book r) (reference_count (rule_at book r)) (tables.sound r l).some (tables.sound r l).few
+        places_choice (head_of book) (rule_at book r) (reference_count (rule_at book r)) (sound r l).some (sound r l).few
         a y x stand
 
     of_cells : map datum_of (choice_at a y x) ≡ association_at (a / 16) (y / 16) (x / 16)
     of_cells =
-        choice_association (head_of book) (rule_at book r) a y x (reference_count (rule_at book r)) (tables.sound r l).some
-        (tables.sound r l).few stand
+        choice_association (head_of book) (rule_at book r) a y x (reference_count (rule_at book r)) (sound r l).some
+        (sound r l).few stand
 
     shape : Shape (reference_count (rule_at book r)) (a / 16) (y / 16) (x / 16)
     shape =
-        stand_shape (head_of book) (rule_at book r) a y x (reference_count (rule_at book r)) (tables.sound r l).some
-        (tables.sound r l).few stand
+        stand_shape (head_of book) (rule_at book r) a y x (reference_count (rule_at book r)) (sound r l).some
+        (sound r l).few stand
 
     closes_rule :
         (q : ℕ)
@@ -191,7 +192,7 @@ module _ (book : List ℕ) (accepted : BookAccepted book)
         → closes t q a y x ≡ some_choice_refused (head_of book) (rule_at book q) (members (choice_at a y x))
     closes_rule q k =
         let m = stands_most (head_of book) (rule_at book r) (reference_count (rule_at book r)) in
-        closes_broken book (rule_count book) t tables q k (tables.sound q k) (leaves_apart q k)
+        closes_broken book (rule_count book) t tables q k (sound q k) (leaves_apart q k)
         (holding q k).restrictions_most a y x (m 0 a stand.first) (m 1 y stand.second) (m 2 x stand.third)
 
     -- the rules that count and cover a user are broken by the places as by their accesses
@@ -283,7 +284,7 @@ module _ (book : List ℕ) (accepted : BookAccepted book)
           let same : association_at (a / 16) (y / 16) (x / 16) ≡ association_at b z w =
           sym (of_cells a y x s) ∙ ap (map datum_of) (sym e) ∙ to in
           let q =
-          shape_same (a / 16) (y / 16) (x / 16) b z w n (tables.sound r l).few (shape a y x s) cells_shape.0 same in
+          shape_same (a / 16) (y / 16) (x / 16) b z w n (sound r l).few (shape a y x s) cells_shape.0 same in
           let m = stands_most (head_of book) (rule_at book r) n in
           let la = m 0 a s.first in
           let ly = m 1 y s.second in
@@ -313,7 +314,7 @@ module _ (book : List ℕ) (accepted : BookAccepted book)
           (record { covered = user; association = cells_shape.1 }) found.1 in
           let p =
           choice_places (head_of book) (rule_at book r) (accepted_head book accepted) (reference_count (rule_at book r))
-          (tables.sound r l).some (tables.sound r l).few found.0 choice in
+          (sound r l).some (sound r l).few found.0 choice in
           choice_opens found.0 p.0 p.1 p.2 p.3 p.4 found.1.to found.2
 
   -- an association in scope has its cells
@@ -329,7 +330,7 @@ module _ (book : List ℕ) (accepted : BookAccepted book)
       let c = map (λ x. access_to x 0) p.association in
       let zeros = plain head rule n 0 p.association within.association in
       let at =
-      choice_places head rule (accepted_head book accepted) n (tables.sound r l).some (tables.sound r l).few c
+      choice_places head rule (accepted_head book accepted) n (sound r l).some (sound r l).few c
       (chooses_choice head rule p c within zeros) in
       let a = at.0 in
       let y = at.1 in
@@ -396,7 +397,7 @@ module _ (book : List ℕ) (accepted : BookAccepted book)
       let q = and_both (eqb p.user u) (association_before p.association (association_at b z w)) v in
       rw (eqb-true p.user u q.0)
       (denied.earliest c y x
-      (shape_before c y x b z w n (tables.sound r l).few (cells_shape c y x own).0 (cells_shape b z w cells).0
+      (shape_before c y x b z w n (sound r l).few (cells_shape c y x own).0 (cells_shape b z w cells).0
       (rw e at q.1))
       own))
       (or_either (ltb p.user u) (eqb p.user u && association_before p.association (association_at b z w)) before)
@@ -420,7 +421,7 @@ module _ (book : List ℕ) (accepted : BookAccepted book)
             pair_open p within
             (λ c y x small e own.
             earlier p d.user d.first d.second d.third c y x within h h.shut.cells small e own before)),
-        shape_standing d.first d.second d.third (reference_count (rule_at book r)) (tables.sound r l).few here.0,
+        shape_standing d.first d.second d.third (reference_count (rule_at book r)) (sound r l).few here.0,
       )
     where
       go :

@@ -29,15 +29,17 @@ fn dropped(tables: &Tables, row: Row, r: u8, q: u8, rules: u64, hint: &mut u8) -
     }
 }
 
-/// The rules that are left of those that count, but for r. Of the third places only those of the cell
-/// stay in the tables.
+/// The rules that are left of those that count, but for r. While they are tried only the third places
+/// of the cell stay in the tables.
 pub fn few(tables: &mut Tables, r: u8, rules: u64, denial: Denial) -> u64
-    ensures { (passes : (ℕ → Bool) → Bool)
+    ensures left { (passes : (ℕ → Bool) → Bool)
         → CellsBy tables.old denial rules → has rules r ≡ true
         → Told tables.old.rules tables.old.scope denial.first denial.second denial.third r rules passes
         → (q : ℕ) → has result q ≡ after_trials passes 32 (without (has rules) r) q }
+    ensures same { tables.new ≡ tables.old }
 {
-    tables.scope.thirds = only_cell(&tables.scope.thirds, denial.third);
+    let thirds = tables.scope.thirds;
+    tables.scope.thirds = only_cell(&thirds, denial.third);
     let row = Row {
         first: denial.first,
         second: denial.second,
@@ -47,5 +49,6 @@ pub fn few(tables: &mut Tables, r: u8, rules: u64, denial: Denial) -> u64
     for q in (0..32u8).rev() {
         left = dropped(tables, row, r, q, left, &mut hint);
     }
+    tables.scope.thirds = thirds;
     left & !single(usize::from(r))
 }

@@ -58,14 +58,14 @@ const ORDERS: [Order; 6] = [
 ];
 
 /// The rules whose reference i place p meets.
-fn met_by(t: &[RuleTable; 32], i: u8, p: usize) -> u64
+fn met_by(t: &[RuleTable], i: u8, p: usize) -> u64
     ensures { (q : ℕ) → has result q ≡ (ltb q 32 && meets t.now q i p) }
 {
     those_below(32, |q| meets(t, q, i, p))
 }
 
 /// Fills in, for each cell and reference, the rules whose reference its first place meets.
-pub fn fill_met(met: &mut [[u64; 3]; 132], t: &[RuleTable; 32])
+pub fn fill_met(met: &mut [[u64; 3]; 132], t: &[RuleTable])
     ensures { MetHolds t.now met.new }
 {
     // By index: the cell's number is what is asked about.
@@ -79,13 +79,7 @@ pub fn fill_met(met: &mut [[u64; 3]; 132], t: &[RuleTable; 32])
 }
 
 /// For each order the rules of a set that first place a and the places of cell m meet.
-pub fn row_masks(
-    t: &[RuleTable; 32],
-    met: &[[u64; 3]; 132],
-    rules: u64,
-    a: usize,
-    m: usize,
-) -> [u64; 6]
+pub fn row_masks(t: &[RuleTable], met: &[[u64; 3]; 132], rules: u64, a: usize, m: usize) -> [u64; 6]
     ensures { m < past_cells → MetHolds t.now met.now → MasksHold t.now rules a m result }
 {
     let mut masks = [0u64; 6];
@@ -103,7 +97,7 @@ pub fn row_masks(
 }
 
 /// The pairs that some restriction of rule q accepts in an order, beside first place a.
-fn accepted_words(t: &[RuleTable; 32], q: u8, order: Order, a: usize) -> [u64; 4]
+fn accepted_words(t: &[RuleTable], q: u8, order: Order, a: usize) -> [u64; 4]
     ensures { AcceptedWords t.now q order.third order.first order.second a result }
 {
     let mut found = [0u64; 4];
@@ -124,7 +118,7 @@ fn accepted_words(t: &[RuleTable; 32], q: u8, order: Order, a: usize) -> [u64; 4
 }
 
 /// Fills in the same for each rule of a mask.
-fn fill_order(slices: &mut [[u64; 4]; 32], t: &[RuleTable; 32], mask: u64, order: Order, a: usize)
+fn fill_order(slices: &mut [[u64; 4]; 32], t: &[RuleTable], mask: u64, order: Order, a: usize)
     ensures { OrderHolds t.now mask order.third order.first order.second a slices.new }
 {
     // By its lowest member, as an iterator over the members of a word has no proof yet. A member is an
@@ -138,7 +132,7 @@ fn fill_order(slices: &mut [[u64; 4]; 32], t: &[RuleTable; 32], mask: u64, order
 }
 
 /// The same for each order and its mask.
-pub fn fill_slices(s: &mut [[[u64; 4]; 32]; 6], t: &[RuleTable; 32], masks: &[u64; 6], a: usize)
+pub fn fill_slices(s: &mut [[[u64; 4]; 32]; 6], t: &[RuleTable], masks: &[u64; 6], a: usize)
     ensures { SlicesHold t.now masks.now a s.new }
 {
     // By index: masks, orders and slices go in step.

@@ -22,7 +22,7 @@ pub struct Scope {
 
 /// The rules as words; for each cell and reference the rules whose reference its first place meets;
 /// all rules of the book, and the users that each covers; the scope.
-#[derive(Drop)]
+#[derive(Clone, Copy)]
 pub struct Tables {
     pub rules: [RuleTable; 32],
     pub met: [[u64; 3]; 132],
@@ -61,10 +61,11 @@ impl Tables {
 pub fn fill(tables: &mut Tables, book: &Book, rule: u8)
     ensures { rule < rule_count book.now.bytes.now → Started book.now.bytes.now rule tables.new }
 {
-    fill_table(&mut tables.rules, book);
+    let n = book.rule_count();
+    fill_table(&mut tables.rules, book.bytes, &book.words, n);
     fill_met(&mut tables.met, &tables.rules);
-    tables.all = below(usize::from(book.rule_count()));
-    tables.covered = covered_by(book);
+    tables.all = below(usize::from(n));
+    tables.covered = covered_by(book.bytes, &book.words, n);
     // A byte of the rule, which its readers give as an index.
     let references = reference_count(book.rule(rule)) as u8;
     let had = obtainable(book.head());

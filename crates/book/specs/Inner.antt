@@ -1,3 +1,4 @@
 pub mod Reading
 pub mod Words
+pub mod Faults
 pub mod Testing

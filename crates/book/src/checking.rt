@@ -64,7 +64,7 @@ fn test_contents(head: &[u8], words: &Words, block: &[u8], i: u8) -> Result<(), 
         1 => test_data_block(head),
         2 => test_columns_block(head, words),
         3 => test_functions_block(head),
-        _ => test_rule_block(words, block, i),
+        _ => test_rule_block(words, block).map_err(|fault| fault.at(i)),
     }
 }
 

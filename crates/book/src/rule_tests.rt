@@ -1,12 +1,13 @@
 //! The tests 4 and 7 to 9 of a rule block. Where a test leans on what blocks 0 and 1 have passed, its
 //! promise says so.
-ghost use Rattle.std.specs.Prelude.{◌≡◌, ◌&&◌, ◌||◌, not, ◌+◌, ◌*◌, ◌^◌, ◌<◌, eqb};
+ghost use Rattle.std.specs.Prelude.{◌≡◌, ℕ, ◌&&◌, ◌||◌, not, ◌+◌, ◌*◌, ◌^◌, ◌<◌, eqb};
 ghost use Rattle.std.specs.Int.Bits.{bit_and};
 ghost use Rattle.book.specs.Lists.{all, up_to};
 ghost use Rattle.book.specs.Sets.{has};
 ghost use Rattle.book.specs.Rule.{restriction_mask};
 ghost use Rattle.book.specs.Refusals.{names_action, reference_end, rule_counts, rule_zeros, zeros};
 ghost use Rattle.book.specs.Inner.Testing.{AllowedTold, exclusion_counts_hold, MasksTold, NumbersTold, ReferenceTold, ReferredTo};
+ghost use Rattle.book.specs.Inner.Faults.{outcome_at, refusal_at};
 ghost use Rattle.book.specs.Inner.Testing.{RuleTested, UserNumbersTold};
 
 use crate::fields::{
@@ -15,7 +16,7 @@ use crate::fields::{
 };
 use crate::rules::covered_leaves;
 use crate::sets::contains;
-use crate::testing::{ensure, within, zeros};
+use crate::testing::{within, zeros};
 use crate::words::{Categories, Words};
 use crate::{Action, Refusal};
 
@@ -158,14 +159,43 @@ fn masks_hold(words: &Words, rule: &[u8]) -> bool
     })
 }
 
-/// The tests of rule block i. What the promise asks is what blocks 0 and 1 have passed.
-pub fn test_rule_block(words: &Words, rule: &[u8], i: u8) -> Result<(), Refusal>
-    ensures { RuleTested words.now rule.now i result }
+/// Which test of a rule block fails first: its refusal without the block's number.
+#[derive(Clone, Copy, Debug, PartialEq, Eq)]
+pub enum RuleFault {
+    CountOrZero,
+    RuleNumber,
+    SharedLeaf,
+    MaskOperation,
+}
+
+impl RuleFault {
+    /// The refusal, where the rule stands in that block of a book.
+    pub fn at(self, block: u8) -> Refusal
+        ensures { result ≡ refusal_at block self }
+    {
+        match self {
+            RuleFault::CountOrZero => Refusal::CountOrZero { block },
+            RuleFault::RuleNumber => Refusal::RuleNumber { block },
+            RuleFault::SharedLeaf => Refusal::SharedLeaf { block },
+            RuleFault::MaskOperation => Refusal::MaskOperation { block },
+        }
+    }
+}
+
+/// The tests of a rule block, whatever its number. What the promise asks is what blocks 0 and 1 have
+/// passed.
+pub fn test_rule_block(words: &Words, rule: &[u8]) -> Result<(), RuleFault>
+    ensures { (i : ℕ) → RuleTested words.now rule.now i (outcome_at i result) }
 {
-    let counted = rule_counts(rule) & rule_zeros(rule);
-    ensure(counted, Refusal::CountOrZero { block: i })?;
-    let number = Refusal::RuleNumber { block: i };
-    let [a, b, c] = read_references(words, rule).ok_or(number)?;
-    ensure(leaves_apart(a, b, c), Refusal::SharedLeaf { block: i })?;
-    ensure(masks_hold(words, rule), Refusal::MaskOperation { block: i })
+    if !(rule_counts(rule) & rule_zeros(rule)) {
+        return Err(RuleFault::CountOrZero);
+    }
+    let [a, b, c] = read_references(words, rule).ok_or(RuleFault::RuleNumber)?;
+    if !leaves_apart(a, b, c) {
+        return Err(RuleFault::SharedLeaf);
+    }
+    if !masks_hold(words, rule) {
+        return Err(RuleFault::MaskOperation);
+    }
+    Ok(())
 }

@@ -12,7 +12,7 @@ use crate::sets::{contains, single, word_if};
 
 /// One hierarchy of a head: for each category the set of those under it, itself among them; the leaves;
 /// how many categories there are.
-#[derive(Drop)]
+#[derive(Clone, Copy)]
 pub struct Categories {
     pub under: [u64; 64],
     pub leaves: u64,
@@ -21,7 +21,7 @@ pub struct Categories {
 
 // The head is no field: public functions take any words, and promise by `HeadWords`.
 /// Both hierarchies of a head, and for each data category the operations that it supports.
-#[derive(Drop)]
+#[derive(Clone, Copy)]
 pub struct Words {
     pub categories: Categories,
     pub users: Categories,

@@ -7,7 +7,7 @@ use mathlib.Core.Bool.{Bool, true, false, cond}
 use mathlib.Core.List.{List}
 use lib.Pow.{pow_pos}
 use Rattle.book.specs.Blocks.{head_of}
-use Rattle.std.specs.Prelude.{Option, Some, None, Result, Ok, Err}
+use Rattle.std.specs.Prelude.{Some, None, Result, Ok, Err}
 use Rattle.book.specs.Tests.{Outcome, first_failing, refused_or, answered}
 use Rattle.book.specs.declared.refusal.Refusal.{Refusal}
 use Rattle.ledger.specs.declared.Asked.TheVariants.{Held, Declined}
@@ -32,7 +32,7 @@ use Rattle.ledger.specs.declared.Holds.{Holds}
 use Rattle.ledger.proofs.WordLaws.{held_own, other_word}
 use Rattle.ledger.proofs.CallLaws.{ask_cases, ask_demand, ask_passes, given_few}
 use Rattle.ledger.proofs.CallLaws.{settle_cases, settle_passes, settler_low}
-use Rattle.search.specs.Answers.{Idleness, idle, idle_tests, idle_answer, idle_buffer, needed}
+use Rattle.search.specs.Answers.{Idleness, idle, idle_tests, idle_answer, idle_buffer}
 use Rattle.search.specs.Alone.{first_alone}
 use Rattle.search.specs.Demand.{IdleAccepted}
 use Rattle.search.proofs.DemandLaws.{demand, idle_answer_law}

@@ -7,7 +7,7 @@ use mathlib.Core.Bool.{Bool, true, false, cond, false≢true}
 use mathlib.Core.List.{List, [], ◌∷◌, ◌++◌}
 use lib.ListN.{length, length-append}
 use lib.Dec.{eqb}
-use Rattle.std.specs.Prelude.{Option, Some, None, Result, Ok, Err}
+use Rattle.std.specs.Prelude.{Some, Result, Ok, Err}
 use Rattle.book.specs.Sets.{has}
 use Rattle.book.specs.Blocks.{head_of, rule_at, rule_count}
 use Rattle.book.specs.Head.{data_count, user_count}
@@ -57,7 +57,6 @@ use Rattle.blocked.proofs.DemandLaws.{blocked_told, demand}
 use Rattle.blocked.proofs.ScopeLaws.{covers_user_law, datum_bounds}
 use Rattle.blocked.proofs.FewLaws.{culprits_mask}
 use Rattle.trees.specs.Answers.{tree_answer}
-use Rattle.trees.specs.declared.Written.{Written}
 use Rattle.trees.proofs.DemandLaws.{answer_draws}
 use Rattle.capi.specs.Packing.{packed, refusal_packed, check_packed, seal_packed, flows_packed, judge_packed, judge_value}
 use Rattle.capi.specs.Packing.{idle_packed, idle_value, blocked_packed, blocked_value, culprits_packed, culprits_value}
@@ -478,11 +477,18 @@ refusal_back RulesFull = refl
 abbrev pub read_refusal : ℕ → Refusal
 read_refusal answer = refusal_at (answer / 1099511627776) (answer / 4294967296 % 256)
 
-refusal_read :
-    {A : Type 0} (x : Refusal) → Small x → ◌≡◌ {A = Result A Refusal} (Err x) (Err (read_refusal (refusal_packed x)))
+-- an answer says a refusal: the one that is read, whose number and place are those that stand in the answer
+abbrev pub ReadRefused : {A : Type 0} (answer : ℕ) (said : Result A Refusal) → Type 0
+ReadRefused answer said =
+    (said ≡ Err (read_refusal answer))
+    × (number_of (read_refusal answer) ≡ answer / 1099511627776)
+    × (place_of (read_refusal answer) ≡ answer / 4294967296 % 256)
+
+refusal_read : {A : Type 0} (x : Refusal) → Small x → ReadRefused {A = A} (refusal_packed x) (Err x)
 refusal_read x s =
     let p = (refusal_parts x s).0 in
-    rw (p.number_part, p.place_part, refusal_back x)
+    let same : read_refusal (refusal_packed x) ≡ x = rw (p.number_part, p.place_part) (refusal_back x) in
+    (ap Err (sym same), ap number_of same ∙ sym p.number_part, ap place_of same ∙ sym p.place_part)
 
 -- the reply, as it is read from the number of pspec_ask
 pub record AskRead (answer : ℕ) (said : Result Asked Refusal) : Type 0 where
@@ -495,7 +501,7 @@ pub record AskRead (answer : ℕ) (said : Result Asked Refusal) : Type 0 where
       × (1 ≤ answer % 4294967296)
       × (answer % 4294967296 ≤ 1000000)
   -- from 2^40 on: refused
-  pub refused : 1099511627776 ≤ answer → said ≡ Err (read_refusal answer)
+  pub refused : 1099511627776 ≤ answer → ReadRefused answer said
   -- and there is no other number
   pub no_other : answer < 1099511627776 → answer / 4294967296 ≤ 1
 
@@ -545,7 +551,7 @@ pub record SettleRead (answer : ℕ) (said : Result ℕ Refusal) : Type 0 where
   -- below 2^32: done, with the number itself as the hold's
   pub settled : answer < 4294967296 → said ≡ Ok answer
   -- from there on: refused
-  pub refused : 4294967296 ≤ answer → said ≡ Err (read_refusal answer)
+  pub refused : 4294967296 ≤ answer → ReadRefused answer said
 
 module _ (book : List ℕ) (user number : ℕ) (ledger : List ℕ) (holds : Holds) (fits : number < 4294967296) where
   pub settled_parts :

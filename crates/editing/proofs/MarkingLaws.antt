@@ -43,14 +43,14 @@ module _ (book : List ℕ) (accepted : BookAccepted book) (r : ℕ) (l : r < rul
   unfolding idle_at is_none FirstNeeds found_of NeedsFirst
   found_idle n e None h true s =
       let first : first_alone book r ≡ none =
-      lifted book accepted r l t had covered of.tables of.hads of.covers None (rw e at h) in
+      lifted book accepted of.sound r l t had covered of.tables of.hads of.covers None (rw e at h) in
       rw first
   found_idle n e None h false s = absurd (false≢true s)
   found_idle n e (Some w) h true s = absurd (false≢true (sym s))
   found_idle n e (Some w) h false s =
       let by = rw e at h in
       go (first_alone book r) refl
-      (solved_some book accepted r l t had covered of.tables of.hads of.covers w.user w.places.first
+      (solved_some book accepted of.sound r l t had covered of.tables of.hads of.covers w.user w.places.first
       w.places.second w.places.third by.below by.found.solution)
     where
       go : (f : First Candidate) → first_alone book r ≡ f → (first_alone book r ≡ none → ⊥) → false ≡ is_none f

@@ -108,7 +108,7 @@ pub fn arrive(
     let mut next = [0; 18432];
     record.lay_with(&mut next, block)?;
     let book = Book::new(&next[..512 * (5 + n as usize)])?;
-    let mask = arrival_marks(&book, n, *record.marks);
+    let mask = arrival_marks(book.bytes, &book.words, n, *record.marks);
     record.blocks.copy_from_slice(&next);
     *record.rules = n + 1;
     *record.marks = mask;
@@ -146,7 +146,7 @@ pub fn depart(
         bytes: &next[..512 * (3 + n as usize)],
         words,
     };
-    let mask = departure_marks(&book, rule, *record.marks);
+    let mask = departure_marks(book.bytes, &book.words, rule, *record.marks);
     record.blocks.copy_from_slice(&next);
     *record.rules = n - 1;
     *record.marks = mask;

@@ -134,6 +134,14 @@ module _ (user : ℕ) (ledger : List ℕ) (tally : Tally) (holds : Holds) where
     unfolding place_tests
     place_answers there at = ok_or_answers PlacesFull _ found _ there (some_value found 8 _ at)
 
+  pub counts_pass :
+      (n : ℕ) (found : Option ℕ)
+      → Ok n ≡ ok_or found CountsFull
+      → is_some found ≡ ltb (asked_by user tally holds) 1000000
+      → IfSome found (λ n. n ≡ given_to user tally holds + 1)
+      → Passes (count_tests user tally holds)
+  counts_pass n found e there is = (was_passed _ _ n (e ∙ number_answers found there is)).0
+
   module _ (r : Refusal) (out : Result (ℕ × ℕ) Refusal) (is : out ≡ Err r) where
     pub room_no_ledger : first_failing (ledger_tests ledger) ≡ Err r → RoomAnswered out
     room_no_ledger h = is ∙ sym (first_refuses _ _ _ _ _ r h)
@@ -144,11 +152,10 @@ module _ (user : ℕ) (ledger : List ℕ) (tally : Tally) (holds : Holds) where
       room_no_number e = is ∙ sym (second_refuses _ _ _ _ _ r whole (was_refused _ _ r e))
 
       pub room_no_place :
-          (n : ℕ)
-          → Ok n ≡ answered (count_tests user tally holds) Err (Ok (given_to user tally holds + 1))
+          Passes (count_tests user tally holds)
           → Err r ≡ answered (place_tests holds) Err (Ok (empty_place holds))
           → RoomAnswered out
-      room_no_place n few e = is ∙ sym (third_refuses _ _ _ _ _ r whole (was_passed _ _ n few).0 (was_refused _ _ r e))
+      room_no_place few e = is ∙ sym (third_refuses _ _ _ _ _ r whole few (was_refused _ _ r e))
 
   pub room_found :
       (n p : ℕ)

@@ -4,7 +4,6 @@ use Prim.Native.Nat.{ℕ}
 use mathlib.Core.Path.{◌≡◌, refl}
 use mathlib.Core.List.{List, [], ◌∷◌, ◌++◌, map, reverse}
 use lib.ListN.{replicate}
-use Rattle.std.specs.Prelude.{Result, Ok, Err}
 use Rattle.book.specs.Lists.{flat, all, any, up_to, from, keep}
 use Rattle.book.specs.Sets.{has, less}
 use Rattle.book.specs.Hierarchies.{upward_in, upward, under, leaf, covers, proper_descendant, support_along, support}
@@ -23,6 +22,7 @@ use Rattle.book.specs.Tests.{first_failing, refused_or, answered}
 use Rattle.book.specs.declared.refusal.Refusal.{Refusal}
 use Rattle.book.specs.declared.refusal.Refusal.TheVariants.{NoUser, LedgerLength, CountsFull, PlacesFull, NotHeld}
 use Rattle.book.specs.Answers.{with_check, seal_bytes}
+use Rattle.book.specs.Numbers as numbers
 use Rattle.book.specs.Shop.{padded, block, users, categories, columns, functions, rule, rule0, rule1, rule2, shop}
 use Rattle.lineage.specs.Rows.{kind_of, kind_at, is_value, names, sound_as, row_holds}
 use Rattle.lineage.specs.Paths.{applied_as, through, paths_by, paths_in, paths, labels, takes, counting}
@@ -47,32 +47,46 @@ use Rattle.ledger.specs.Histories.{Call, Ask, Commit, Drop, Made, fresh, reply_o
 use Rattle.ledger.specs.Histories.{entry_of, log, Reply, Held, Declined, Settled, Refused, of_asking, of_settling}
 use Rattle.ledger.specs.declared.Tally.{Tally}
 use Rattle.ledger.specs.declared.Holds.{Holds}
-use Rattle.ledger.specs.declared.Asked.{Asked}
-use Rattle.ledger.specs.declared.Asked.TheVariants as asked
+
+-- a reply with the number and the place of its refusal; zeros where nothing refuses
+unfoldable pub refusal_of : Reply → ℕ × ℕ
+refusal_of (Held n) = (0, 0)
+refusal_of (Declined mask) = (0, 0)
+refusal_of (Settled n) = (0, 0)
+refusal_of (Refused refusal) = (numbers.number_of refusal, numbers.place_of refusal)
+
+abbrev numbered : Reply → Reply × (ℕ × ℕ)
+numbered reply = (reply, refusal_of reply)
+
+abbrev tells : Reply → Reply × (ℕ × ℕ)
+tells reply = (reply, (0, 0))
+
+abbrev refuses : Refusal → (number : ℕ) → Reply × (ℕ × ℕ)
+refuses refusal number = (Refused refusal, (number, 0))
 
 -- the user, his call, and the reply: day by day, from a fresh ledger, tally and hold record
-unfoldable pub days : List (ℕ × Call × Reply)
+unfoldable pub days : List (ℕ × Call × (Reply × (ℕ × ℕ)))
 days =
     -- "State on Monday" is held, and "Price on Tuesday" is declined beside it: with State it breaks all three rules
-    (1, Ask (plan (state ∷ output 0 ∷ [])), Held 1)
-    ∷ (1, Ask (plan (price ∷ output 0 ∷ [])), Declined 7)
+    (1, Ask (plan (state ∷ output 0 ∷ [])), tells (Held 1))
+    ∷ (1, Ask (plan (price ∷ output 0 ∷ [])), tells (Declined 7))
     -- another user's hold does not count: Price alone breaks rule 1
-    ∷ (2, Ask (plan (price ∷ output 0 ∷ [])), Declined 2)
+    ∷ (2, Ask (plan (price ∷ output 0 ∷ [])), tells (Declined 2))
     -- once State is dropped it does not count either
-    ∷ (1, Drop 1, Settled 1)
-    ∷ (1, Ask (plan (price ∷ output 0 ∷ [])), Declined 2)
+    ∷ (1, Drop 1, tells (Settled 1))
+    ∷ (1, Ask (plan (price ∷ output 0 ∷ [])), tells (Declined 2))
     -- a dropped number is not given again, and another user does not hold it
-    ∷ (1, Ask (plan (state ∷ output 0 ∷ [])), Held 2)
-    ∷ (2, Commit 2, Refused NotHeld)
+    ∷ (1, Ask (plan (state ∷ output 0 ∷ [])), tells (Held 2))
+    ∷ (2, Commit 2, refuses NotHeld 32)
     -- State is committed once; then it counts for good
-    ∷ (1, Commit 2, Settled 2)
-    ∷ (1, Commit 2, Refused NotHeld)
-    ∷ (1, Ask (plan (price ∷ output 0 ∷ [])), Declined 7)
+    ∷ (1, Commit 2, tells (Settled 2))
+    ∷ (1, Commit 2, refuses NotHeld 32)
+    ∷ (1, Ask (plan (price ∷ output 0 ∷ [])), tells (Declined 7))
     -- an average may stand beside State; user 0 is no leaf; nobody holds 0
-    ∷ (1, Ask (plan (price ∷ avg 0 ∷ output 1 ∷ [])), Held 3)
-    ∷ (0, Ask (plan (state ∷ output 0 ∷ [])), Refused NoUser)
-    ∷ (1, Commit 0, Refused NotHeld)
-    ∷ (2, Ask (plan (state ∷ output 0 ∷ [])), Held 1)
+    ∷ (1, Ask (plan (price ∷ avg 0 ∷ output 1 ∷ [])), tells (Held 3))
+    ∷ (0, Ask (plan (state ∷ output 0 ∷ [])), refuses NoUser 20)
+    ∷ (1, Commit 0, refuses NotHeld 32)
+    ∷ (2, Ask (plan (state ∷ output 0 ∷ [])), tells (Held 1))
     ∷ []
 
 -- the same as calls, the latest first
@@ -114,13 +128,9 @@ top =
 -- the first. Other records: eight holds of nobody refuse every ask, but the user's million comes first; of two places
 -- the lowest is meant, and a count at the top stays.
 pub shop_days :
-    ◌≡◌ {A =
-    (List Reply × List ℕ × List ℕ)
-    × (List (Result Asked Refusal) × List (Result ℕ Refusal))
-    × List ℕ
-    × List ℕ} (
+    ◌≡◌ {A = (List (Reply × (ℕ × ℕ)) × List ℕ × List ℕ) × List (Reply × (ℕ × ℕ)) × List ℕ × List ℕ} (
       (
-        map (λ e. e.reply) (log shop calls),
+        map (λ e. numbered e.reply) (log shop calls),
         (records_after shop calls).tally.admitted
             ++ (records_after shop calls).tally.declined
             ++ (records_after shop calls).tally.dropped
@@ -130,13 +140,12 @@ pub shop_days :
             ++ (records_after shop calls).holds.numbers
             ++ (records_after shop calls).holds.words,
       ),
-      (
-        ask_answer shop 1 (plan (price ∷ output 0 ∷ [])) fresh.ledger fresh.tally nobodys
-            ∷ ask_answer shop 1 (plan (state ∷ output 0 ∷ [])) fresh.ledger million nobodys
-            ∷ ask_answer shop 2 (plan (state ∷ output 0 ∷ [])) fresh.ledger million fresh.holds
-            ∷ [],
-        settle_answer shop 1 7 fresh.ledger twice ∷ settle_answer shop 1 7 (replicate 1023 0) twice ∷ [],
-      ),
+      numbered (of_asking (ask_answer shop 1 (plan (price ∷ output 0 ∷ [])) fresh.ledger fresh.tally nobodys))
+          ∷ numbered (of_asking (ask_answer shop 1 (plan (state ∷ output 0 ∷ [])) fresh.ledger million nobodys))
+          ∷ numbered (of_asking (ask_answer shop 2 (plan (state ∷ output 0 ∷ [])) fresh.ledger million fresh.holds))
+          ∷ numbered (of_settling (settle_answer shop 1 7 fresh.ledger twice))
+          ∷ numbered (of_settling (settle_answer shop 1 7 (replicate 1023 0) twice))
+          ∷ [],
       words_of (commit_ledger shop 1 7 fresh.ledger twice) 1
           ++ (commit_tally shop 1 7 fresh.ledger twice top).admitted
           ++ (drop_tally shop 1 7 fresh.ledger twice top).dropped,
@@ -157,14 +166,14 @@ pub shop_days :
             ++ (4 ∷ replicate 31 0)
             ++ replicate 192 0,
       ),
-      (Err PlacesFull ∷ Err CountsFull ∷ Ok (asked.Held 1) ∷ [], Ok 7 ∷ Err LedgerLength ∷ []),
+      refuses PlacesFull 31 ∷ refuses CountsFull 28 ∷ tells (Held 1) ∷ tells (Settled 7) ∷ refuses LedgerLength 27 ∷ [],
       (4 ∷ replicate 31 0) ++ (0 ∷ 4294967295 ∷ replicate 30 0) ++ (0 ∷ 4294967295 ∷ replicate 30 0),
       (1 ∷ 1 ∷ 0 ∷ replicate 5 1)
           ++ (0 ∷ 0 ∷ 0 ∷ 0 ∷ 0 ∷ 7 ∷ 0 ∷ 0 ∷ [])
           ++ replicate 160 0
           ++ (0 ∷ 16 ∷ replicate 94 0),
     )
-unfolding days calls nobodys twice million top plan all any up_to from has upward_in upward under leaf covers proper_descendant
+unfolding refusal_of numbers.number_of numbers.place_of days calls nobodys twice million top plan all any up_to from has upward_in upward under leaf covers proper_descendant
     support_along support less category_start withdrawn_operations parent_holds is_user is_data_leaf support_of supports
     covers_user in_leaf_set weighted check_sum check_holds between zeros length_holds kind_holds users_counted data_counted
     columns_counted functions_counted rule_counts reference_end rule_zeros rule_counted users_ordered own_holds data_ordered

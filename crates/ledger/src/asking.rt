@@ -63,7 +63,7 @@ fn mask_with(book: &Book, user: u32, ledger: &[u64], holds: &Holds, words: &[u64
     let held = holds.held_words(user);
     join(&mut all, &held);
     join(&mut all, words);
-    broken_by(book, user, &all)
+    broken_by(book.bytes, &book.words, user, &all)
 }
 
 // Ledger, tally and hold record are three arguments: the C interface has three pointers.
@@ -90,12 +90,12 @@ pub fn ask(
 {
     let book = test_judge(book, user, plan)?;
     let (number, place) = room(user, ledger, tally, holds)?;
-    let words = accesses(&book, plan);
+    let words = accesses(book.bytes, &book.words, plan);
     let mask = mask_with(&book, user, ledger, holds, &words);
     if mask != 0 {
         tally.count_declined(user);
         return Ok(Asked::Declined(mask));
     }
-    holds.put(place, user, number, &words);
+    holds.put(u32::from(place), user, number, &words);
     Ok(Asked::Held(number))
 }

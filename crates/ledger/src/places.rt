@@ -1,11 +1,33 @@
 //! The places of the hold record. A place is empty when its number is 0.
-ghost use Rattle.std.specs.Prelude.{◌≡◌, ◌<◌, IfSome, is_some, not, unwrap_or};
+ghost use Rattle.std.specs.Prelude.{◌≡◌, ℕ, ◌<◌, IfSome, List, is_some, not, unwrap_or};
 ghost use Rattle.ledger.specs.Places.{eight_held, empty_place, freed, held_at, held_count, holds_number, number_at, place_of, placed, taken};
-ghost use Rattle.ledger.specs.Inner.Steps.{HeldWords, lowest, passing};
+ghost use Rattle.ledger.specs.Inner.Steps.{HeldWords, lowest, passing, places_with};
 
 use crate::Holds;
 use crate::words::words_of;
 use book::sets::join;
+
+/// Whether a place is a user's, by users and numbers; none past the end is.
+#[tactic(auto, unfolding(crate::specs::Places::held_at, crate::specs::Places::taken))]
+fn held_at(users: &[u32; 8], numbers: &[u32; 8], user: u32, p: u8) -> bool
+    ensures { (words : List ℕ) → result ≡ held_at (places_with users.now numbers.now words) user p }
+{
+    numbers.get(usize::from(p)).is_some_and(|n| *n != 0) && users.get(usize::from(p)) == Some(&user)
+}
+
+/// The words of a user's held plans, joined, by the parts of a hold record. The words may be any number.
+#[tactic(auto, using(crate::proofs::PlaceLaws::gather_none, crate::proofs::PlaceLaws::gather_more, crate::proofs::PlaceLaws::gather_past, crate::proofs::PlaceLaws::gather_all))]
+pub fn held_words(users: &[u32; 8], numbers: &[u32; 8], words: &[u64], user: u32) -> [u64; 32]
+    ensures { HeldWords (places_with users.now numbers.now words.now) user result }
+{
+    let mut all = [0; 32];
+    for p in 0..8u8 {
+        if held_at(users, numbers, user, p) {
+            join(&mut all, &words_of(words, u32::from(p)));
+        }
+    }
+    all
+}
 
 impl Holds {
     /// Whether a place holds a plan; none past the end does.
@@ -17,11 +39,10 @@ impl Holds {
     }
 
     /// Whether a place holds a plan of a user.
-    #[tactic(auto, unfolding(crate::specs::Places::held_at, crate::specs::Places::taken))]
     fn is_held_by(&self, user: u32, p: u8) -> bool
         ensures { result ≡ held_at self.now user p }
     {
-        self.is_taken(p) && self.users.get(usize::from(p)) == Some(&user)
+        held_at(&self.users, &self.numbers, user, p)
     }
 
     /// Whether a place holds the plan of a user and a number.
@@ -77,26 +98,20 @@ impl Holds {
     }
 
     /// The words of a user's held plans, joined.
-    #[tactic(auto, using(crate::proofs::PlaceLaws::gather_none, crate::proofs::PlaceLaws::gather_more, crate::proofs::PlaceLaws::gather_past, crate::proofs::PlaceLaws::gather_all))]
     pub fn held_words(&self, user: u32) -> [u64; 32]
         ensures { HeldWords self.now user result }
     {
-        let mut all = [0; 32];
-        for p in 0..8u8 {
-            if self.is_held_by(user, p) {
-                join(&mut all, &words_of(&self.words, u32::from(p)));
-            }
-        }
-        all
+        held_words(&self.users, &self.numbers, &self.words, user)
     }
 
     /// A plan is put into a place: its user, its number and its words. Past the end nothing is.
     #[tactic(auto, using(crate::proofs::WordLaws::written_in_place), unfolding(crate::specs::Places::placed))]
-    pub fn put(&mut self, p: u8, user: u32, number: u32, words: &[u64; 32])
+    pub fn put(&mut self, p: u32, user: u32, number: u32, words: &[u64; 32])
         ensures { p < 8 → self.new ≡ placed self.old p user number words.now }
     {
         if p < 8 {
-            let at = usize::from(p);
+            // `as`: `usize` has no `From<u32>`.
+            let at = p as usize;
             self.users[at] = user;
             self.numbers[at] = number;
             self.words[32 * at..32 * at + 32].copy_from_slice(words);
@@ -105,7 +120,7 @@ impl Holds {
 
     /// A place is freed: all zero.
     #[tactic(auto, unfolding(crate::specs::Places::freed))]
-    pub fn free(&mut self, p: u8)
+    pub fn free(&mut self, p: u32)
         ensures { p < 8 → self.new ≡ freed self.old p }
     {
         self.put(p, 0, 0, &[0; 32]);

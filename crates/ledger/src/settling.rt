@@ -48,7 +48,7 @@ pub fn commit(
     let place = settle(book, user, number, ledger, holds)?;
     join_words(ledger, user, &words_of(&holds.words, u32::from(place)));
     tally.count_admitted(user);
-    holds.free(place);
+    holds.free(u32::from(place));
     Ok(number)
 }
 
@@ -72,6 +72,6 @@ pub fn drop_hold(
 {
     let place = settle(book, user, number, ledger, holds)?;
     tally.count_dropped(user);
-    holds.free(place);
+    holds.free(u32::from(place));
     Ok(number)
 }

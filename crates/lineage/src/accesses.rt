@@ -2,13 +2,15 @@
 ghost use Rattle.std.specs.Prelude.{◌≡◌, ℕ, ◌<◌, ◌+◌, ◌*◌, get_or};
 ghost use Rattle.book.specs.Blocks.{head_of};
 ghost use Rattle.lineage.specs.Accesses.{access_words};
-ghost use Rattle.lineage.specs.Answers.{PlanAccepted};
+ghost use Rattle.lineage.specs.Answers.{BothAccepted};
+ghost use Rattle.book.specs.Inner.Words.{HeadWords};
 ghost use Rattle.lineage.specs.Inner.Table.{GatheredAll, GatheredStep, word};
 
 use crate::reach::{by_operation, fill_reach};
 use crate::rows::given;
-use book::Book;
+use book::fields::head_of;
 use book::sets::join;
+use book::words::Words;
 
 /// What row i gives, joined to the words of its channel.
 fn give(words: &mut [[u64; 16]; 2], plan: &[u8], reach: &[[u64; 17]; 64], i: u8)
@@ -40,15 +42,16 @@ fn gathered(plan: &[u8], reach: &[[u64; 17]; 64], n: u8) -> [u64; 32]
     flat(&words)
 }
 
-/// The accesses of an accepted plan.
-pub fn accesses(book: &Book, plan: &[u8]) -> [u64; 32]
-    ensures { PlanAccepted (head_of book.now.bytes.now) plan.now
-        → result ≡ access_words (head_of book.now.bytes.now) plan.now }
+/// The accesses of an accepted plan for an accepted book, by the words of its head.
+pub fn accesses(book: &[u8], words: &Words, plan: &[u8]) -> [u64; 32]
+    ensures { HeadWords (head_of book.now) words.now
+        → BothAccepted book.now plan.now
+        → result ≡ access_words (head_of book.now) plan.now }
 {
     let Ok(n) = u8::try_from(plan.len() / 4) else {
         return [0u64; 32];
     };
     let mut reach = [[0u64; 17]; 64];
-    fill_reach(&mut reach, book.head(), &book.words, plan, n);
+    fill_reach(&mut reach, head_of(book), words, plan, n);
     gathered(plan, &reach, n)
 }

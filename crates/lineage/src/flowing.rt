@@ -17,6 +17,6 @@ pub fn flows(book: &[u8], plan: &[u8], words: &mut [u64]) -> Result<(), Refusal>
     let book = Book::new(book)?;
     test_plan(book.head(), plan)?;
     ensure(words.len() == 32, Refusal::WordCount)?;
-    words.copy_from_slice(&accesses(&book, plan));
+    words.copy_from_slice(&accesses(book.bytes, &book.words, plan));
     Ok(())
 }

@@ -113,7 +113,7 @@ fn row_reach(
 }
 
 /// The leaves that reach row r, by operation: word 0 has all that have none.
-pub fn by_operation(reach: &[[u64; 17]; 64], r: u8) -> [u64; 16]
+pub fn by_operation(reach: &[[u64; 17]], r: u8) -> [u64; 16]
     ensures { ByOperation reach.now r result }
 {
     let mut words = [0u64; 16];

@@ -5,11 +5,10 @@
 use book::{Refusal, check};
 use search::idle;
 use std::io::Read;
-use std::rt::Files;
 use std::{fs, io};
 
 /// One byte more than the longest book: a longer file is refused for its length.
-const LIMIT: u64 = 18433;
+const LIMIT: usize = 18433;
 
 // The first rows of a plan, eight hexadecimal digits each. Beside trial's `Rows`: see there.
 fn rows(rt: &impl Print, plan: &[u8], count: u32) -> io::Result<()> {
@@ -54,16 +53,27 @@ fn report(rt: &impl Print, book: &[u8]) -> io::Result<()> {
     }
 }
 
-// The file's bytes, up to the limit. One that can't be opened counts as empty. Beside trial's: see there.
-fn contents<R: Files + AllocGlobal>(rt: &R, name: &str) -> io::Result<Vec<u8>> {
-    let mut bytes = Vec::new(rt.alloc());
-    if let Ok(file) = fs::open(rt, name) {
-        file.take(LIMIT).read_to_end(&mut bytes)?;
+// Reads into the buffer until it is full or the input ends, and answers how many bytes that were. Beside
+// trial's: see there.
+fn fill(input: &mut impl Read, buffer: &mut [u8]) -> io::Result<usize> {
+    let mut filled = 0;
+    while filled < buffer.len() {
+        let count = input.read(&mut buffer[filled..])?;
+        if count == 0 {
+            break;
+        }
+        filled += count;
     }
-    Ok(bytes)
+    Ok(filled)
 }
 
 fn main(rt: HostRuntime) -> io::Result<()> {
-    let book = contents(&rt, "small.book")?;
-    report(&rt, book.as_slice())
+    // fixed memory: a program can't run out of it
+    let mut room = [0; LIMIT];
+    let length = match fs::open(&rt, "small.book") {
+        Ok(mut file) => fill(&mut file, &mut room)?,
+        // a file that can't be opened counts as empty
+        Err(_) => 0,
+    };
+    report(&rt, room.get(..length).unwrap_or(&room))
 }

@@ -16,6 +16,7 @@ use Rattle.book.specs.declared.refusal.Refusal.TheVariants.{NoRule, BufferLength
 use Rattle.book.proofs.Answers.{answered_refused, append_passed, append_refused, last_passed}
 use Rattle.book.proofs.Calls.{after_passed, passed_both}
 use Rattle.lineage.specs.Rows.{row_count}
+use Rattle.verdicts.specs.Inner.Words.{RuleSound}
 use Rattle.search.specs.Shown.{shown_plan}
 use Rattle.search.specs.Alone.{first_alone}
 use Rattle.search.specs.Answers.{rule_tests, buffer_tests, idle_tests, Idleness, idle, needed, idleness_of, idle_answer}
@@ -39,6 +40,7 @@ use Rattle.search.specs.declared.tables.RuleTable.{RuleTable}
 pub needs_first :
     (book : List ℕ)
     → BookAccepted book
+    → ((q : ℕ) → q < rule_count book → RuleSound (head_of book) (rule_at book q))
     → (r : ℕ)
     → r < rule_count book
     → (rule head : List ℕ)
@@ -53,9 +55,9 @@ pub needs_first :
     → (found : Option Witness)
     → NeedsFirst lighter_places t r references had covered found
     → FirstNeeds book r found
-needs_first book accepted r l rule head re he references ne t had covered tables hads covers found h =
+needs_first book accepted sound r l rule head re he references ne t had covered tables hads covers found h =
     let m : references ≡ reference_count (rule_at book r) = ne ∙ ap reference_count re in
-    lifted book accepted r l t had covered tables (rw he at hads) covers found (rw m at h)
+    lifted book accepted sound r l t had covered tables (rw he at hads) covers found (rw m at h)
 
 -- The whole answer
 

@@ -43,7 +43,8 @@ use Rattle.search.proofs.ChoicePlaces.{stands_most}
 use Rattle.search.proofs.ChoiceTables.{candidate_stands, refused_own, refuses_places}
 use Rattle.search.specs.declared.tables.RuleTable.{RuleTable}
 
-module _ (book : List ℕ) (accepted : BookAccepted book) (r : ℕ) (l : r < rule_count book) (t : List RuleTable) (had covered : List ℕ)
+module _ (book : List ℕ) (accepted : BookAccepted book) (sound : (q : ℕ) → q < rule_count book → RuleSound (head_of book) (rule_at book q))
+    (r : ℕ) (l : r < rule_count book) (t : List RuleTable) (had covered : List ℕ)
     (tables : TableHolds book (rule_count book) t) (hads : HadHolds (head_of book) had)
     (covers : CoversHold book (rule_count book) covered) where
   -- The rules of the book
@@ -55,9 +56,6 @@ module _ (book : List ℕ) (accepted : BookAccepted book) (r : ℕ) (l : r < rul
   leaves_apart : (q : ℕ) → q < rule_count book → Apart (head_of book) (rule_at book q)
   leaves_apart q k i j d li lj h =
       (holding q k).apart i j d li lj (leaf_set_below (head_of book) (rule_at book q) i d h) h
-
-  sound : (q : ℕ) → q < rule_count book → RuleSound (head_of book) (rule_at book q)
-  sound q k = tables.sound q k
 
   covers_rule : (u : ℕ) → u < 32 → has (get_or covered r 0) u ≡ covers_user (head_of book) (rule_at book r) u
   covers_rule u lu =

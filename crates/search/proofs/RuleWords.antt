@@ -19,7 +19,7 @@ use Rattle.book.proofs.Lists.{and_end}
 use Rattle.book.proofs.Members.{has_cond, has_below, has_low, has_zero}
 use Rattle.verdicts.specs.Actions.{channel_fits}
 use Rattle.verdicts.specs.Accesses.{fits}
-use Rattle.verdicts.specs.Inner.Words.{mask_takes, RuleSound}
+use Rattle.verdicts.specs.Inner.Words.{mask_takes}
 use Rattle.verdicts.proofs.Marks.{has_if}
 use Rattle.search.specs.Inner.Places.{access_at, nowhere}
 use Rattle.search.specs.Inner.Table.{meets, takes_at, meets_reference, takes_operation, TableHolds}
@@ -321,33 +321,24 @@ references_more head rule table i met taken old l new =
 -- the tables of the first rules
 pub record Rules (book : List ℕ) (t : List RuleTable) (q : ℕ) : Type 0 where
   pub size : length t ≡ 32
-  pub sound : (k : ℕ) → k < q → RuleSound (head_of book) (rule_at book k)
   pub at : (k : ℕ) → k < q → RuleHolds (head_of book) (rule_at book k) (get_or t k no_table)
 
 pub rules_none : (book : List ℕ) (t : List RuleTable) → length t ≡ 32 → Rules book t 0
 rules_none book t size =
-    record { size = size; sound = λ k l. absurd (omega arith); at = λ k l. absurd (omega arith) }
+    record { size = size; at = λ k l. absurd (omega arith) }
 
 pub rules_more :
     (book : List ℕ) (t : List RuleTable) (q : ℕ) (table : RuleTable)
     → q < 32
-    → RuleSound (head_of book) (rule_at book q)
     → RuleHolds (head_of book) (rule_at book q) table
     → Rules book t q
     → Rules book (set t q table) (q + 1)
-rules_more book t q table l fit new old =
+rules_more book t q table l new old =
     record {
       size = length-set t q table ∙ old.size;
-      sound = λ k m. whole k m (eqb k q) refl;
       at = λ k m. go k m (eqb k q) refl;
     }
   where
-    whole : (k : ℕ) → k < q + 1 → (b : Bool) → eqb k q ≡ b → RuleSound (head_of book) (rule_at book k)
-    whole k m true e = rw (eqb-true k q e) fit
-    whole k m false e =
-        let other : k ≡ q → ⊥ = eqb-false k q e in
-        old.sound k (omega (arith, other))
-
     go :
         (k : ℕ)
         → k < q + 1
@@ -359,11 +350,14 @@ rules_more book t q table l fit new old =
         let other : k ≡ q → ⊥ = eqb-false k q e in
         rw (get_or-set_other t q k table no_table other) (old.at k (omega (arith, other)))
 
-pub table_holds : (book : List ℕ) (n : ℕ) (t : List RuleTable) (q : ℕ) → Rules book t q → n ≤ q → TableHolds book n t
+pub table_holds :
+    (book : List ℕ) (n : ℕ) (t : List RuleTable) (q : ℕ)
+    → Rules book t q
+    → n ≤ q
+    → TableHolds book n t
 unfolding meets takes_at
 table_holds book n t q rules few =
     record {
-      sound = λ q l. rules.sound q (omega arith);
       references = λ q i p l s h. (rules.at q (omega arith) i s).meeting p h;
       restrictions = λ q i j p l s h. (rules.at q (omega arith) i s).taking j h p;
     }
@@ -413,3 +407,17 @@ covers_more book covered r word l new old =
     go k s false e u m =
         let other : k ≡ r → ⊥ = eqb-false k r e in
         rw (get_or-set_other covered r k word 0 other, not_next k r other) (old.at k s u m)
+
+-- the first r are those of the first n, where there is none more below 32
+pub covers_whole :
+    (book covered : List ℕ) (r n : ℕ)
+    → r ≤ n
+    → ((k : ℕ) → k < 32 → r ≤ k → n ≤ k)
+    → Covers book covered r
+    → CoversHold book n covered
+covers_whole book covered r n short past held k l u m =
+    held.at k l u m ∙ ap (λ (b : Bool). b && covers_user (head_of book) (rule_at book k) u) (go (ltb k r) refl)
+  where
+    go : (b : Bool) → ltb k r ≡ b → ltb k r ≡ ltb k n
+    go true e = let low = ltb-true k r e in e ∙ sym (lt-ltb k n (omega arith))
+    go false e = e ∙ sym (le-ltb k n (past k l (ltb-false k r e)))

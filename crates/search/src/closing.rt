@@ -12,14 +12,14 @@ use book::sets::{contains, word_at, word_if};
 
 /// Whether place p meets reference i of rule q.
 #[tactic(auto, unfolding(crate::specs::Inner::Table::meets))]
-pub fn meets(t: &[RuleTable; 32], q: u8, i: u8, p: usize) -> bool
+pub fn meets(t: &[RuleTable], q: u8, i: u8, p: usize) -> bool
     ensures { result ≡ meets t.now q i p }
 {
     contains(word_at(met_words(t, q, i), p / 64), p % 64)
 }
 
 /// The operations that restriction j of rule q takes at reference i.
-pub fn taken_word(t: &[RuleTable; 32], q: u8, i: u8, j: u8) -> u64
+pub fn taken_word(t: &[RuleTable], q: u8, i: u8, j: u8) -> u64
     ensures { result ≡ get_or (takes_words t.now q i) j 0 }
 {
     word_at(taken_words(t, q, i), usize::from(j))
@@ -27,7 +27,7 @@ pub fn taken_word(t: &[RuleTable; 32], q: u8, i: u8, j: u8) -> u64
 
 /// The operations that some restriction takes at reference i beside place b at k and place c at l:
 /// this is what the search does most.
-pub fn accepted_beside(t: &[RuleTable; 32], q: u8, i: u8, k: u8, l: u8, b: usize, c: usize) -> u64
+pub fn accepted_beside(t: &[RuleTable], q: u8, i: u8, k: u8, l: u8, b: usize, c: usize) -> u64
     ensures { (p : ℕ) → has result (p % 64) ≡ accepted_at t.now q i k l b c p }
 {
     let first = taken_words(t, q, k);
@@ -72,7 +72,7 @@ pub const ORDERS: [[u8; 3]; 6] = [
 
 /// For each reference of rule q the operations that break it there, beside b and c in either order
 /// of them.
-pub fn closing_masks(t: &[RuleTable; 32], q: u8, b: usize, c: usize) -> [u64; 3]
+pub fn closing_masks(t: &[RuleTable], q: u8, b: usize, c: usize) -> [u64; 3]
     ensures { Masked t.now q b c result }
 {
     let mut masks = [0u64; 3];
@@ -86,7 +86,7 @@ pub fn closing_masks(t: &[RuleTable; 32], q: u8, b: usize, c: usize) -> [u64; 3]
 
 /// Takes out of a set the places that meet a reference of rule q with one of the operations given
 /// for it, and says whether there were some.
-pub fn take_closing(t: &[RuleTable; 32], q: u8, masks: &[u64; 3], set: &mut [u64; 33]) -> bool
+pub fn take_closing(t: &[RuleTable], q: u8, masks: &[u64; 3], set: &mut [u64; 33]) -> bool
     ensures rest { PlacesOf (λ p. in_places set.old p && not (meets_with t.now q masks.now p)) set.new }
     ensures same { result ≡ false → set.new ≡ set.old }
 {

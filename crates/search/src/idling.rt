@@ -30,8 +30,9 @@ pub fn test_rule(book: &[u8], rule: u32) -> Result<(), Refusal>
 fn needs(book: &Book, rule: u8) -> Option<Witness>
     ensures { rule < rule_count book.now.bytes.now → FirstNeeds book.now.bytes.now rule result }
 {
+    let n = book.rule_count();
     let mut tables = [NO_TABLE; 32];
-    fill_table(&mut tables, book);
+    fill_table(&mut tables, book.bytes, &book.words, n);
     // A count is a byte: the check proves that `as u8` fits.
     let ask = Question {
         tables: &tables,
@@ -39,7 +40,7 @@ fn needs(book: &Book, rule: u8) -> Option<Witness>
         references: reference_count(book.rule(rule)) as u8,
     };
     let had = obtainable(book.head());
-    let covered = covered_by(book);
+    let covered = covered_by(book.bytes, &book.words, n);
     let found = first_user(&ask, had, &covered);
     fewest(&ask, had, &covered, found)
 }

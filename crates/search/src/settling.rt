@@ -15,7 +15,7 @@ pub const SETTLING: u8 = 16;
 
 /// Whether rule q takes every place of a set with none of r's own operations: each meets reference i
 /// of q, with none of the others. Only `true` is promised: after `false` nothing is settled.
-fn takes_all(t: &[RuleTable; 32], q: u8, i: u8, thirds: &[u64; 33], own: u64, other: u64) -> bool
+fn takes_all(t: &[RuleTable], q: u8, i: u8, thirds: &[u64; 33], own: u64, other: u64) -> bool
     ensures { result ≡ true → TakesAll t.now q i thirds.now own other }
 {
     let met = met_words(t, q, i);

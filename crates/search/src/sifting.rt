@@ -17,7 +17,7 @@ pub struct Takers {
 }
 
 /// Rule q takes out of a set what breaks it by its masks.
-fn turn(t: &[RuleTable; 32], q: u8, masks: &[u64; 3], set: &mut [u64; 33], takers: &mut Takers)
+fn turn(t: &[RuleTable], q: u8, masks: &[u64; 3], set: &mut [u64; 33], takers: &mut Takers)
     ensures { TurnedBy t.now q masks.now (remaining set.old takers.old) (remaining set.new takers.new) }
 {
     if take_closing(t, q, masks, set) {
@@ -39,14 +39,7 @@ fn next_after(rules: u64, last: u8) -> usize
 }
 
 /// The rule that took last has its turn first: it often takes all that is left.
-fn again(
-    t: &[RuleTable; 32],
-    rules: u64,
-    b: usize,
-    c: usize,
-    set: &mut [u64; 33],
-    takers: &mut Takers,
-)
+fn again(t: &[RuleTable], rules: u64, b: usize, c: usize, set: &mut [u64; 33], takers: &mut Takers)
     ensures { Sifted t.now rules (λ q. false) b c (remaining set.old takers.old) (remaining set.new takers.new) }
 {
     let q = takers.last;
@@ -57,7 +50,7 @@ fn again(
 
 /// Takes out of a set what breaks a rule of some beside b and c. It ends where nothing is left.
 pub fn sift(
-    t: &[RuleTable; 32],
+    t: &[RuleTable],
     rules: u64,
     b: usize,
     c: usize,

@@ -1,14 +1,15 @@
 //! The rules of a book as words, made once a call from the words of its head.
-ghost use Rattle.std.specs.Prelude.{◌≡◌, ℕ, List, [], IfSome, IfNone, ◌/◌, ◌<◌, get_or};
-ghost use Rattle.book.specs.Blocks.{rule_count};
+ghost use Rattle.std.specs.Prelude.{◌≡◌, ℕ, List, [], IfSome, IfNone, ◌/◌, ◌≤◌, ◌<◌, get_or, length};
+ghost use Rattle.book.specs.Blocks.{head_of, rule_at, rule_count};
+ghost use Rattle.book.specs.Refusals.{BookAccepted};
 ghost use Rattle.book.specs.Inner.Words.{HeadWords};
 ghost use Rattle.book.specs.Sets.{has};
+ghost use Rattle.verdicts.specs.Inner.Words.{RuleSound};
 ghost use Rattle.search.specs.Inner.Table.{ChannelWords, ReferenceWords, RestrictionWord, RuleHolds};
 ghost use Rattle.search.specs.Inner.Table.{meets_words, takes_words, TableHolds, CoversHold};
 
 use crate::obtaining::four;
-use book::Book;
-use book::fields::{action, reference_count, restriction_count, restriction_mask};
+use book::fields::{action, reference_count, restriction_count, restriction_mask, rule_at};
 use book::rules::{covered_users, leaf_set};
 use book::sets::word_if;
 use book::words::Words;
@@ -33,7 +34,7 @@ pub const NO_TABLE: RuleTable = RuleTable {
 /// last, absent ones before them.
 #[derive(Clone, Copy)]
 pub struct Question<'a> {
-    pub tables: &'a [RuleTable; 32],
+    pub tables: &'a [RuleTable],
     pub rule: u8,
     pub references: u8,
 }
@@ -41,7 +42,7 @@ pub struct Question<'a> {
 // Two functions: one for both would take the width as a const and the field as a closure.
 
 /// The words of the places that meet reference i of rule q: none past the last.
-pub fn met_words(t: &[RuleTable; 32], q: u8, i: u8) -> &[u64; 33]
+pub fn met_words(t: &[RuleTable], q: u8, i: u8) -> &[u64; 33]
     ensures { (w : ℕ) → get_or result.now w 0 ≡ get_or (meets_words t.now q i) w 0 }
 {
     match t.get(usize::from(q)) {
@@ -54,7 +55,7 @@ pub fn met_words(t: &[RuleTable; 32], q: u8, i: u8) -> &[u64; 33]
 }
 
 /// The operations that each restriction of rule q takes at reference i: none past the last.
-pub fn taken_words(t: &[RuleTable; 32], q: u8, i: u8) -> &[u64; 8]
+pub fn taken_words(t: &[RuleTable], q: u8, i: u8) -> &[u64; 8]
     ensures { (j : ℕ) → get_or result.now j 0 ≡ get_or (takes_words t.now q i) j 0 }
 {
     match t.get(usize::from(q)) {
@@ -138,24 +139,30 @@ fn rule_table(words: &Words, rule: &[u8]) -> RuleTable
     table
 }
 
-/// The tables of a book's rules, written where the caller keeps them.
-pub fn fill_table(tables: &mut [RuleTable; 32], book: &Book)
-    ensures { TableHolds book.now.bytes.now (rule_count book.now.bytes.now) tables.new }
+// Bytes and words and no `Book`, here and below: they speak of a book that is refused, too.
+/// The tables of the first n rules, written where the caller keeps them.
+pub fn fill_table(tables: &mut [RuleTable], book: &[u8], words: &Words, n: u8)
+    ensures tables { HeadWords (head_of book.now) words.now
+        → n ≤ 32 → length tables.old ≡ 32 → TableHolds book.now n tables.new }
+    ensures sound { BookAccepted book.now
+        → (q : ℕ) → q < rule_count book.now → RuleSound (head_of book.now) (rule_at book.now q) }
 {
-    for q in 0..book.rule_count() {
-        let rule = book.rule(q);
-        tables[usize::from(q)] = rule_table(&book.words, rule);
+    if tables.len() < usize::from(n) {
+        return;
+    }
+    for q in 0..n {
+        tables[usize::from(q)] = rule_table(words, rule_at(book, q));
     }
 }
 
 // Beside the tables and not in them: a search and its promises read the tables alone.
-/// For each rule of a book the users that it covers; past the last rule none.
-pub fn covered_by(book: &Book) -> [u64; 32]
-    ensures { CoversHold book.now.bytes.now (rule_count book.now.bytes.now) result }
+/// For each of the first n rules the users that it covers; past the last rule none.
+pub fn covered_by(book: &[u8], words: &Words, n: u8) -> [u64; 32]
+    ensures { HeadWords (head_of book.now) words.now → CoversHold book.now n result }
 {
     let mut covered = [0u64; 32];
-    for r in 0..book.rule_count() {
-        covered[usize::from(r)] = covered_users(&book.words, book.rule(r));
+    for r in 0..n.min(32) {
+        covered[usize::from(r)] = covered_users(words, rule_at(book, r));
     }
     covered
 }

@@ -5,10 +5,9 @@ use mathlib.Core.Path.{◌≡◌, refl}
 use mathlib.Core.List.{List, [], ◌∷◌, ◌++◌, map}
 use lib.ListN.{replicate}
 use Rattle.book.specs.Lists.{flat, keep}
-use Rattle.std.specs.Prelude.{Ok, Err}
+use Rattle.std.specs.Prelude.{Result, Ok, Err}
 use Rattle.book.specs.Tests.{Outcome, first_failing}
-use Rattle.book.specs.declared.refusal.Refusal.{Refusal}
-use Rattle.book.specs.declared.refusal.Refusal.TheVariants.{NoValueRow, TreeSize}
+use Rattle.book.specs.Numbers.{number_of, place_of}
 use Rattle.lineage.specs.Rows.{kind_of, kind_at, is_value, names}
 use Rattle.lineage.proofs.Vectors.{plan, column, apply, apply_both, choose, output, condition}
 use Rattle.lineage.proofs.Vectors.{state, city, price, avg, sum, concat_both}
@@ -120,23 +119,28 @@ doubled_counts = refl
 
 -- Refusals
 
-abbrev passed : Outcome
+-- the outcome of a list of tests, a refusal by its number and its place
+unfoldable pub numbered : Outcome → Result (Unit {0}) (ℕ × ℕ)
+numbered (Ok done) = Ok done
+numbered (Err refusal) = Err (number_of refusal, place_of refusal)
+
+abbrev passed : Result (Unit {0}) (ℕ × ℕ)
 passed = Ok tt
 
-abbrev refused : Refusal → Outcome
-refused r = Err r
+abbrev refused : ℕ → Result (Unit {0}) (ℕ × ℕ)
+refused n = Err (n, 0)
 
 -- 29: value rows; an Output row and a Condition row; a row that is absent, near and far
 pub shown_rows :
-    map (λ i. first_failing (value_tests (shown ++ condition 2) i)) (0 ∷ 3 ∷ 4 ∷ 6 ∷ 7 ∷ 8 ∷ 4294967295 ∷ [])
-    ≡ passed ∷ passed ∷ passed ∷ refused NoValueRow ∷ refused NoValueRow ∷ refused NoValueRow ∷ refused NoValueRow ∷ []
-unfolding plan kind_of kind_at is_value is_value_row value_tests first_failing
+    map (λ i. numbered (first_failing (value_tests (shown ++ condition 2) i))) (0 ∷ 3 ∷ 4 ∷ 6 ∷ 7 ∷ 8 ∷ 4294967295 ∷ [])
+    ≡ passed ∷ passed ∷ passed ∷ refused 29 ∷ refused 29 ∷ refused 29 ∷ refused 29 ∷ []
+unfolding plan kind_of kind_at is_value is_value_row value_tests first_failing numbered number_of place_of
 shown_rows = refl
 
 -- 30: a buffer as long as the text, and one byte shorter
 pub shown_room :
-    map (λ n. first_failing (room_tests shown 5 (replicate n 7))) (84 ∷ 83 ∷ 82 ∷ 0 ∷ [])
-    ≡ passed ∷ passed ∷ refused TreeSize ∷ refused TreeSize ∷ []
+    map (λ n. numbered (first_failing (room_tests shown 5 (replicate n 7)))) (84 ∷ 83 ∷ 82 ∷ 0 ∷ [])
+    ≡ passed ∷ passed ∷ refused 30 ∷ refused 30 ∷ []
 unfolding plan kind_of kind_at is_value names flat keep row_bytes children nodes_in nodes_from tree_nodes node_count decimal kind_word
-    row_text line_text text_of tree_text tree_fits room_tests first_failing
+    row_text line_text text_of tree_text tree_fits room_tests first_failing numbered number_of place_of
 shown_room = refl

@@ -5,16 +5,17 @@ use native.Mathlib.Omega.{arith}
 use mathlib.Core.Path.{◌≡◌, refl, sym, ap, subst, ◌∙◌}
 use mathlib.Core.Bool.{true}
 use mathlib.Core.List.{List, [], ◌∷◌, ◌++◌, append_assoc, append-nil}
-use lib.ListN.{length, length-append, get_or, take}
+use lib.ListN.{length, length-append, get_or, take, drop}
 use lib.Seq.{take_all}
 use borrow.Author.Tests.{lt-ltb, le-ltb, ne_eqb}
+use Rattle.std.proofs.lemmas.List.{take-append-le}
 use Rattle.std.specs.Prelude.{Result, Ok, Err}
 use Rattle.book.specs.Lists.{flat}
 use Rattle.lineage.specs.Rows.{kind_at, is_value}
 use Rattle.trees.specs.declared.walking.Node.{Node}
 use Rattle.trees.specs.declared.walking.TooMany.{TooMany}
 use Rattle.trees.specs.Trees.{tree_nodes}
-use Rattle.trees.specs.Inner.Walks.{is_row, rank, apply_nodes, choose_nodes, Listed}
+use Rattle.trees.specs.Inner.Walks.{is_row, rank, apply_nodes, choose_nodes, Full, Listed}
 use Rattle.trees.proofs.Nodes.{passed, top, value_parts}
 
 -- The row number falls
@@ -23,17 +24,23 @@ pub rank_row : (r : ℕ) → (r ≡ 255 → ⊥) → rank r ≡ suc r
 unfolding rank is_row
 rank_row r h = rw (ne_eqb r 255 h)
 
--- at each call the row is lower
-pub row_falls : (t r lower : ℕ) → (r ≡ 255 → ⊥) → rank r ≡ t → rank lower ≤ r → rank lower < t
-row_falls t r lower n e l =
-    let k = rank_row r n in
-    omega arith
+-- at each call the row is lower: its number falls, and so does the number counted from 1, with 0 for none
+pub row_falls :
+    (t r lower : ℕ)
+    → (r ≡ t → lower < r → lower < t)
+    × ((r ≡ 255 → ⊥) → rank r ≡ t → rank lower ≤ r → rank lower < t)
+row_falls t r lower = (
+  λ e l. omega arith,
+  λ n e l.
+      let k = rank_row r n in
+      omega arith,
+)
 
 -- of a row that a walk passes on
 pub passed_falls : (r x : ℕ) → r < 255 → x < r → rank x < rank r
 passed_falls r x low l =
     let k = rank_row x (λ e. omega arith) in
-    row_falls (rank r) r x (λ e. omega arith) refl (omega arith)
+    (row_falls (rank r) r x).1 (λ e. omega arith) refl (omega arith)
 
 -- The lists that a function gives for the members of a list
 
@@ -46,18 +53,28 @@ module _ {A : Type 0} (f : ℕ → List A) where
   flat_more (x ∷ xs) (suc k) h =
       rw (flat_more xs k (omega arith)) (sym (append_assoc (f x) (flat f (take k xs)) (f (get_or xs k 0))))
 
-  flat_within : (xs : List ℕ) (k : ℕ) → length (flat f (take k xs)) ≤ length (flat f xs)
+  flat_parts : (xs : List ℕ) (k : ℕ) → flat f (take k xs) ++ flat f (drop k xs) ≡ flat f xs
   unfolding flat
-  flat_within [] zero = omega arith
-  flat_within [] (suc k) = omega arith
-  flat_within (x ∷ xs) zero = omega arith
-  flat_within (x ∷ xs) (suc k) =
-      let e = length-append (f x) (flat f (take k xs)) in
-      let g = length-append (f x) (flat f xs) in
-      let h = flat_within xs k in
-      omega arith
+  flat_parts [] zero = refl
+  flat_parts [] (suc k) = refl
+  flat_parts (x ∷ xs) zero = refl
+  flat_parts (x ∷ xs) (suc k) =
+      append_assoc (f x) (flat f (take k xs)) (flat f (drop k xs)) ∙ ap (λ ys. f x ++ ys) (flat_parts xs k)
 
--- Result (Unit {0}) TooManys
+-- What is listed, and a full list
+
+-- what is behind the first 4,096 is of no matter
+full_more : (ns ms after : List Node) → Full ns after → Full (ns ++ ms) after
+full_more ns ms after h =
+    let l : 4096 < length ns = h.0 in
+    let e = length-append ns ms in
+    (omega arith, h.1 ∙ sym (take-append-le 4096 ns ms (omega arith)))
+
+pub full_top : (before : List Node) (n : Node) → length before ≡ 4096 → Full (before ++ n ∷ []) before
+full_top before n h =
+    let e = length-append before (n ∷ []) in
+    let t = take-append-le 4096 before (n ∷ []) (omega arith) in
+    (omega arith, sym (t ∙ take_all 4096 before (omega arith)))
 
 pub listed_none : (ns before : List Node) → ns ≡ [] → Listed ns before before (Ok tt)
 listed_none ns before e = rw e (sym (append-nil before))
@@ -65,7 +82,7 @@ listed_none ns before e = rw e (sym (append-nil before))
 pub listed_over :
     (ns before after : List Node) (r : Result (Unit {0}) TooMany) (x : TooMany)
     → r ≡ Err x
-    → 4096 < length (before ++ ns)
+    → Full (before ++ ns) after
     → Listed ns before after r
 listed_over ns before after r x e h = rw e h
 
@@ -77,14 +94,11 @@ pub listed_then :
     → Listed (ns ++ ms) before after r
 listed_then ns ms before between after (Ok u) e h = h ∙ ap (λ xs. xs ++ ms) e ∙ append_assoc before ns ms
 listed_then ns ms before between after (Err x) e h =
-    subst (λ xs. 4096 < length xs) (ap (λ xs. xs ++ ms) e ∙ append_assoc before ns ms) h
+    subst (λ xs. Full xs after) (ap (λ xs. xs ++ ms) e ∙ append_assoc before ns ms) h
 
-over_front : (ns ms before : List Node) → 4096 < length (before ++ ns) → 4096 < length (before ++ (ns ++ ms))
-over_front ns ms before h =
-    let e = length-append before ns in
-    let f = length-append before (ns ++ ms) in
-    let g = length-append ns ms in
-    omega arith
+over_front : (ns ms before after : List Node) → Full (before ++ ns) after → Full (before ++ (ns ++ ms)) after
+over_front ns ms before after h =
+    subst (λ xs. Full xs after) (append_assoc before ns ms) (full_more (before ++ ns) ms after h)
 
 -- A tree is a value row's
 
@@ -102,13 +116,13 @@ pub tree_over :
     (plan : List ℕ) (r : ℕ) (before after : List Node) (told : Result (Unit {0}) TooMany) (x : TooMany)
     → is_value (kind_at plan r) ≡ true
     → told ≡ Err x
-    → 4096 < length (before ++ apply_nodes plan 0 r)
+    → Full (before ++ apply_nodes plan 0 r) after
     → Listed (tree_nodes plan r) before after told
 unfolding tree_nodes
 tree_over plan r before after told x v e h =
     rw (value_parts plan 0 r v)
     (listed_over (apply_nodes plan 0 r ++ choose_nodes plan 0 r) before after told x e
-    (over_front (apply_nodes plan 0 r) (choose_nodes plan 0 r) before h))
+    (over_front (apply_nodes plan 0 r) (choose_nodes plan 0 r) before after h))
 
 -- what is listed in an empty list
 pub listed_whole :
@@ -121,7 +135,7 @@ pub listed_many :
     → before ≡ []
     → r ≡ Err x
     → 4096 < length ns
-listed_many ns before after r x h e err = rw (err, e) at h
+listed_many ns before after r x h e err = (rw (err, e) at h).0
 
 -- The loop of a walk
 
@@ -140,20 +154,19 @@ module _
     pub walked_all : (now : List Node) (k : ℕ) → length rs ≤ k → now ≡ walked k → now ≡ before ++ ns
     walked_all now k h e = rw (take_all k rs h, ← parts) at e
 
-    -- what is listed is part of the whole
-    within : (k : ℕ) → length (walked k) ≤ length (before ++ ns)
+    -- what is listed is the front of the whole
+    within : (k : ℕ) → walked k ++ flat (passed plan (level + 1) r) (drop k rs) ≡ before ++ ns
     within k =
         let P = passed plan (level + 1) r in
-        let e = length-append before (top plan level r ∷ flat P (take k rs)) in
-        let f = length-append before (top plan level r ∷ flat P rs) in
-        let g = flat_within P rs k in
-        rw parts (omega arith)
+        append_assoc before (top plan level r ∷ flat P (take k rs)) (flat P (drop k rs))
+        ∙ ap (λ ms. before ++ top plan level r ∷ ms) (flat_parts P rs k)
+        ∙ ap (λ ms. before ++ ms) (sym parts)
 
     module _ (after : List Node) (told : Result (Unit {0}) TooMany) (x : TooMany) (err : told ≡ Err x) where
-      pub over_top : 4096 < length (before ++ top plan level r ∷ []) → Listed ns before after told
+      pub over_top : Full (before ++ top plan level r ∷ []) after → Listed ns before after told
       over_top h =
           listed_over ns before after told x err
-          (rw parts (over_front (top plan level r ∷ []) (flat (passed plan (level + 1) r) rs) before h))
+          (rw parts (over_front (top plan level r ∷ []) (flat (passed plan (level + 1) r) rs) before after h))
 
     module _ (k : ℕ) (h : k < length rs) (now : List Node) (e : now ≡ walked k) where
       abbrev x : ℕ
@@ -185,24 +198,23 @@ module _
             ∙ both
 
         module _ (after : List Node) (told : Result (Unit {0}) TooMany) (y : TooMany) (err : told ≡ Err y) where
-          over_both :
-              4096 < length (now ++ (apply_nodes plan s x ++ choose_nodes plan s x))
-              → Listed ns before after told
+          over_both : Full (now ++ (apply_nodes plan s x ++ choose_nodes plan s x)) after → Listed ns before after told
           over_both m =
-              let f = ap length both in
-              let g = within (k + 1) in
-              listed_over ns before after told y err (omega arith)
+              listed_over ns before after told y err
+              (subst (λ ms. Full ms after) (within (k + 1))
+              (full_more (walked (k + 1)) (flat (passed plan (level + 1) r) (drop (k + 1) rs)) after
+              (subst (λ ms. Full ms after) both m)))
 
-          pub over_apply : 4096 < length (now ++ apply_nodes plan s x) → Listed ns before after told
-          over_apply m = over_both (over_front (apply_nodes plan s x) (choose_nodes plan s x) now m)
+          pub over_apply : Full (now ++ apply_nodes plan s x) after → Listed ns before after told
+          over_apply m = over_both (over_front (apply_nodes plan s x) (choose_nodes plan s x) now after m)
 
           pub over_choose :
               (between : List Node)
               → between ≡ now ++ apply_nodes plan s x
-              → 4096 < length (between ++ choose_nodes plan s x)
+              → Full (between ++ choose_nodes plan s x) after
               → Listed ns before after told
           over_choose between f m =
               over_both
-              (subst (λ ms. 4096 < length ms)
+              (subst (λ ms. Full ms after)
               (ap (λ ms. ms ++ choose_nodes plan s x) f ∙ append_assoc now (apply_nodes plan s x) (choose_nodes plan s x))
               m)

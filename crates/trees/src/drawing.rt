@@ -25,11 +25,11 @@ fn write_tree(plan: &[u8], row: u8, buffer: &mut [u8]) -> Result<Written, Refusa
 {
     let mut nodes = Nodes::new();
     list_tree(plan, row, &mut nodes).map_err(|_| Refusal::TreeSize)?;
-    let length = text_length(plan, &nodes);
+    let length = text_length(plan, nodes.as_slice());
     if buffer.len() < length {
         return Err(Refusal::TreeSize);
     }
-    write_lines(plan, &nodes, buffer);
+    write_lines(plan, nodes.as_slice(), buffer);
     // 4096 nodes and 2129920 bytes at most: the check proves that both casts fit.
     Ok(Written {
         nodes: nodes.len() as u32,

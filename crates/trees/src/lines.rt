@@ -4,7 +4,7 @@ ghost use Rattle.lineage.specs.Rows.{kind_at};
 ghost use Rattle.trees.specs.Text.{decimal, kind_word, line_text, text_of};
 ghost use Rattle.trees.specs.Answers.{written};
 
-use crate::walking::{Node, Nodes};
+use crate::walking::{MOST_NODES, Node};
 use lineage::rows::Row;
 
 fn digits(row: u8) -> usize
@@ -35,13 +35,14 @@ fn line_length(plan: &[u8], node: Node) -> usize
     2 * usize::from(node.level) + (digits(node.row) + word(plan, node.row).len())
 }
 
-/// The bytes of a text.
-pub fn text_length(plan: &[u8], nodes: &Nodes) -> usize
-    ensures length { result ≡ length (text_of plan.now nodes.now.items) }
+/// The bytes of a text of at most 4,096 lines.
+pub fn text_length(plan: &[u8], nodes: &[Node]) -> usize
+    ensures length { length nodes.now ≤ 4096 → result ≡ length (text_of plan.now nodes.now) }
     ensures few { result ≤ 2129920 }
 {
+    let first = &nodes[..nodes.len().min(MOST_NODES)];
     let mut sum = 0usize;
-    for node in nodes.as_slice() {
+    for node in first {
         sum += line_length(plan, *node);
     }
     sum
@@ -71,12 +72,12 @@ fn write_line(plan: &[u8], node: Node, text: &mut [u8]) -> usize
 }
 
 /// The lines of all nodes at the buffer's front, where they fit.
-pub fn write_lines(plan: &[u8], nodes: &Nodes, buffer: &mut [u8])
-    ensures { length (text_of plan.now nodes.now.items) ≤ length buffer.old
-        → buffer.new ≡ written (text_of plan.now nodes.now.items) buffer.old }
+pub fn write_lines(plan: &[u8], nodes: &[Node], buffer: &mut [u8])
+    ensures { length (text_of plan.now nodes.now) ≤ length buffer.old
+        → buffer.new ≡ written (text_of plan.now nodes.now) buffer.old }
 {
     let mut at = 0usize;
-    for node in nodes.as_slice() {
+    for node in nodes {
         at += write_line(plan, *node, &mut buffer[at..]);
     }
 }

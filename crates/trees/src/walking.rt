@@ -30,6 +30,7 @@ pub type Nodes = ArrayVec<Node, MOST_NODES>;
 #[derive(Clone, Copy)]
 pub struct TooMany;
 
+#[tactic(auto, using(crate::proofs::Walked::full_top))]
 fn list(nodes: &mut Nodes, level: u8, row: u8) -> Result<(), TooMany>
     ensures { Listed (record { level = level; row = row } ∷ []) nodes.old.items nodes.new.items result }
 {
@@ -80,7 +81,7 @@ fn list_choose(plan: &[u8], level: u8, row: u8, nodes: &mut Nodes) -> Result<(),
     Ok(())
 }
 
-/// The nodes of a value row's tree, listed.
+/// The nodes of a value row's tree, listed. Of too many, the first are, as far as the list has places.
 pub fn list_tree(plan: &[u8], row: u8, nodes: &mut Nodes) -> Result<(), TooMany>
     ensures { row < 64
         → is_value (kind_at plan.now row) ≡ true

@@ -1,24 +1,54 @@
 //! Answers as text, and what there is in place of one.
+use arrayvec::ArrayVec;
 use book::Refusal;
-use std::alloc::AllocError;
 use std::fmt;
+use std::fmt::Write;
 
-/// Why a case has no answer.
+/// A text that takes so many bytes is cut.
+const ROOM: usize = 512;
+
+// Fixed memory: a program can't run out of it.
+/// A text, cut where its room ends, which is no error.
 #[derive(Drop)]
-pub enum Fault {
-    /// It is not written as it should be.
-    Malformed,
-    NoMemory(AllocError),
-}
+pub struct Text(ArrayVec<u8, ROOM>);
 
-impl From<AllocError> for Fault {
-    fn from(error: AllocError) -> Fault {
-        Fault::NoMemory(error)
+impl Text {
+    pub fn of<D: fmt::Display + Drop>(shown: D) -> Text {
+        let mut text = Text(ArrayVec::new());
+        // no writing to a text fails
+        let _ = text.write(shown);
+        text
+    }
+
+    pub fn add(&mut self, bytes: &[u8]) {
+        for byte in bytes {
+            let _ = self.0.try_push(*byte);
+        }
+    }
+
+    pub fn bytes(&self) -> &[u8] {
+        self.0.as_slice()
+    }
+
+    /// Whether it is what a case expects. One that fills its room may have been cut, and is not.
+    pub fn is(&self, expected: &[u8]) -> bool {
+        !self.0.is_full() && self.bytes() == expected
     }
 }
 
+impl fmt::Write for Text {
+    fn write_str(&mut self, s: &str) -> fmt::Result {
+        self.add(s.as_bytes());
+        Ok(())
+    }
+}
+
+/// A case that is not written as it should be has no answer.
+#[derive(Clone, Copy)]
+pub struct Malformed;
+
 /// An answer starts with a space.
-pub type Answer = Result<String, Fault>;
+pub type Answer = Result<Text, Malformed>;
 
 /// A refusal as text. Its place is a block for the book, a row for a faulty one.
 #[derive(Clone, Copy)]

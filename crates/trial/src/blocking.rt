@@ -1,6 +1,6 @@
 //! Blocked. A case has the rule, and the book's length in bytes where that is not seven blocks. An
 //! answer is a refusal, or open, or the user with an action and a leaf for each reference.
-use crate::answers::{Answer, Refused};
+use crate::answers::{Answer, Refused, Text};
 use crate::calls::{Call, Case};
 use crate::records::Records;
 use blocked::blocked;
@@ -38,15 +38,15 @@ impl Call for Block {
 
     fn answered(case: &Case<'_>, _: &mut Records) -> Answer {
         Ok(match blocked(case.book(1), case.numbers.number(0)) {
-            Ok(None) => format!(in case.alloc; " open")?,
+            Ok(None) => Text::of(" open"),
             Ok(Some(closed)) => {
                 let user = closed.user;
                 let first = Datum(closed.first);
                 let second = Datum(closed.second);
                 let third = Datum(closed.third);
-                format!(in case.alloc; " user {user}{first}{second}{third}")?
+                Text::of(format_args!(" user {user}{first}{second}{third}"))
             }
-            Err(refusal) => format!(in case.alloc; "{}", Refused(refusal))?,
+            Err(refusal) => Text::of(Refused(refusal)),
         })
     }
 }

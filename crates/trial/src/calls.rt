@@ -1,11 +1,10 @@
 //! What the cases of a file try: a call on a book and a plan, or one that each case names.
-use crate::answers::{Answer, Fault};
+use crate::answers::{Answer, Malformed};
 use crate::books::build;
 use crate::numbers;
 use crate::numbers::Numbers;
 use crate::plans::plan_of;
 use crate::text::{cut, front};
-use std::alloc::Global;
 
 /// What a case finds as the one before it left it, and a line that starts with @ sets.
 pub trait Kept: Drop {
@@ -20,7 +19,6 @@ pub trait Kept: Drop {
 pub struct Line<'a> {
     pub common: &'a [u8],
     pub parts: &'a [u8],
-    pub alloc: Global,
 }
 
 /// What a call is tried on.
@@ -29,7 +27,6 @@ pub struct Case<'a> {
     pub numbers: Numbers,
     pub book: &'a [u8],
     pub plan: &'a [u8],
-    pub alloc: Global,
 }
 
 impl Case<'_> {
@@ -72,10 +69,10 @@ impl<C: Call> Table for C {
     fn tried(line: &Line<'_>, kept: &mut Self::Kept) -> Answer {
         let (numbers, texts) = cut(line.parts, b'|');
         let Some(numbers) = numbers::read(numbers) else {
-            return Err(Fault::Malformed);
+            return Err(Malformed);
         };
         if !numbers.within(C::LEAST, C::MOST) {
-            return Err(Fault::Malformed);
+            return Err(Malformed);
         }
         let (rows, edits) = if C::ROWS {
             cut(texts, b'|')
@@ -83,18 +80,17 @@ impl<C: Call> Table for C {
             (b"".as_slice(), texts)
         };
         let (blocks, sound) = build(line.common, edits);
-        let plan = plan_of(line.alloc, rows)?;
+        let plan = plan_of(rows);
         let case = Case {
             numbers,
             book: blocks.as_flattened(),
             plan: plan.rows.as_slice().as_flattened(),
-            alloc: line.alloc,
         };
         let answer = C::answered(&case, kept)?;
         if sound && plan.sound {
             Ok(answer)
         } else {
-            Err(Fault::Malformed)
+            Err(Malformed)
         }
     }
 }

@@ -2,7 +2,7 @@
 //! has edits for every case below it, up to the next such line; one that starts with @ sets the ledger,
 //! the tally and the hold record, or the record to edit. What stands before = in a case is a label and what
 //! is tried, with bars between the parts; what stands after it is the answer expected.
-use crate::answers::Fault;
+use crate::answers::{Malformed, Text};
 use crate::calls::{Kept, Line, Table};
 use crate::text::{cut, front};
 use std::io::Read;
@@ -11,9 +11,6 @@ use std::{fs, io};
 
 /// A file that takes so many bytes may go on.
 const FILE_ROOM: usize = 65536;
-
-/// An answer that takes so many bytes is cut, and is none that a case expects.
-const ANSWER_ROOM: usize = 512;
 
 #[derive(Clone, Copy)]
 struct Count {
@@ -28,40 +25,24 @@ impl Count {
     }
 }
 
-fn report<R: Print + AllocGlobal>(
-    rt: &R,
-    label: &[u8],
-    expected: &[u8],
-    answer: &str,
-) -> io::Result<()> {
-    let mut said = Vec::new(rt.alloc());
-    said.extend_from_slice(label)?;
-    said.extend_from_slice(b"- expected")?;
-    said.extend_from_slice(expected)?;
-    said.extend_from_slice(b", answered")?;
-    rt.write_all(front(said.as_slice(), ANSWER_ROOM))?;
-    rt.write_all(front(answer.as_bytes(), ANSWER_ROOM))?;
-    if answer.len() < ANSWER_ROOM {
-        println!(rt)?;
-    }
-    Ok(())
+fn report(rt: &impl Print, label: &[u8], expected: &[u8], mut answer: Text) -> io::Result<()> {
+    let mut said = Text::of("");
+    said.add(label);
+    said.add(b"- expected");
+    said.add(expected);
+    said.add(b", answered");
+    rt.write_all(said.bytes())?;
+    answer.add(b"\n");
+    rt.write_all(answer.bytes())
 }
 
 /// A line end, which no line of a file can expect.
-fn report_malformed<R: Print + AllocGlobal>(
-    rt: &R,
-    label: &[u8],
-    expected: &[u8],
-) -> io::Result<()> {
-    report(rt, label, expected, " malformed\n")
-}
-
-fn is_expected(answer: &str, expected: &[u8]) -> bool {
-    answer.len() < ANSWER_ROOM && answer.as_bytes() == expected
+fn report_malformed(rt: &impl Print, label: &[u8], expected: &[u8]) -> io::Result<()> {
+    report(rt, label, expected, Text::of(" malformed\n"))
 }
 
 /// Whether the case answers what it expects.
-fn holds<T: Table, R: Print + AllocGlobal>(
+fn holds<T: Table, R: Print>(
     rt: &R,
     common: &[u8],
     line: &[u8],
@@ -69,26 +50,20 @@ fn holds<T: Table, R: Print + AllocGlobal>(
 ) -> io::Result<bool> {
     let (case, expected) = cut(line, b'=');
     let (label, parts) = cut(case, b'|');
-    let line = Line {
-        common,
-        parts,
-        alloc: rt.alloc(),
-    };
-    match T::tried(&line, kept) {
+    match T::tried(&Line { common, parts }, kept) {
         Ok(answer) => {
-            if is_expected(answer.as_str(), expected) {
+            if answer.is(expected) {
                 return Ok(true);
             }
-            report(rt, label, expected, answer.as_str())?;
+            report(rt, label, expected, answer)?;
         }
-        Err(Fault::Malformed) => report_malformed(rt, label, expected)?,
-        Err(Fault::NoMemory(error)) => return Err(error.into()),
+        Err(Malformed) => report_malformed(rt, label, expected)?,
     }
     Ok(false)
 }
 
 /// A line of records that is malformed counts as a case that fails.
-fn counted<T: Table, R: Print + AllocGlobal>(rt: &R, file: &[u8]) -> io::Result<Count> {
+fn counted<T: Table, R: Print>(rt: &R, file: &[u8]) -> io::Result<Count> {
     let mut count = Count { cases: 0, right: 0 };
     let mut kept = T::Kept::fresh();
     let mut common = file.get(..0).unwrap_or(file);
@@ -108,22 +83,32 @@ fn counted<T: Table, R: Print + AllocGlobal>(rt: &R, file: &[u8]) -> io::Result<
     Ok(count)
 }
 
-// A file that can't be opened counts as empty. policyreport has the same lines: no crate below both reads files.
-fn contents<R: Files + AllocGlobal>(rt: &R, name: &str) -> io::Result<Vec<u8>> {
-    let mut bytes = Vec::new(rt.alloc());
-    if let Ok(file) = fs::open(rt, name) {
-        // `as`: `u64` has no `From<usize>`
-        file.take(FILE_ROOM as u64).read_to_end(&mut bytes)?;
+// Reads into the buffer until it is full or the input ends, and answers how many bytes that were. By hand, as
+// std's `read_to_end` allocates. policyreport has the same lines: no crate below both reads files.
+fn fill(input: &mut impl Read, buffer: &mut [u8]) -> io::Result<usize> {
+    let mut filled = 0;
+    while filled < buffer.len() {
+        let count = input.read(&mut buffer[filled..])?;
+        if count == 0 {
+            break;
+        }
+        filled += count;
     }
-    Ok(bytes)
+    Ok(filled)
 }
 
 /// Tries the cases of a file, and prints a line with its counts.
-pub fn try_file<T: Table, R: Files + Print + AllocGlobal>(rt: &R, name: &str) -> io::Result<()> {
-    let file = contents(rt, name)?;
-    if file.len() >= FILE_ROOM {
+pub fn try_file<T: Table, R: Files + Print>(rt: &R, name: &str) -> io::Result<()> {
+    // fixed memory: a program can't run out of it
+    let mut room = [0; FILE_ROOM];
+    let length = match fs::open(rt, name) {
+        Ok(mut file) => fill(&mut file, &mut room)?,
+        // a file that can't be opened counts as empty
+        Err(_) => 0,
+    };
+    if length >= FILE_ROOM {
         return println!(rt; "{name}: too long");
     }
-    let Count { cases, right } = counted::<T, R>(rt, file.as_slice())?;
+    let Count { cases, right } = counted::<T, R>(rt, front(&room, length))?;
     println!(rt; "{name}: {cases} cases, {right} as expected")
 }

@@ -1,6 +1,6 @@
 //! Culprits. A case has the rule, and the book's length in bytes where that is not seven blocks. An
 //! answer is a refusal, or unblocked, or the other rules.
-use crate::answers::{Answer, Refused};
+use crate::answers::{Answer, Refused, Text};
 use crate::calls::{Call, Case};
 use crate::records::Records;
 use blocked::culprits;
@@ -39,9 +39,9 @@ impl Call for Culprits {
 
     fn answered(case: &Case<'_>, _: &mut Records) -> Answer {
         Ok(match culprits(case.book(1), case.numbers.number(0)) {
-            Ok(None) => format!(in case.alloc; " unblocked")?,
-            Ok(Some(mask)) => format!(in case.alloc; " others{}", Rules(mask))?,
-            Err(refusal) => format!(in case.alloc; "{}", Refused(refusal))?,
+            Ok(None) => Text::of(" unblocked"),
+            Ok(Some(mask)) => Text::of(format_args!(" others{}", Rules(mask))),
+            Err(refusal) => Text::of(Refused(refusal)),
         })
     }
 }

@@ -1,5 +1,5 @@
 //! Book check. A case has the book's length in bytes where that is not seven blocks.
-use crate::answers::{Answer, Refused};
+use crate::answers::{Answer, Refused, Text};
 use crate::calls::{Call, Case};
 use crate::records::Records;
 use book::check;
@@ -18,8 +18,8 @@ impl Call for Check {
 
     fn answered(case: &Case<'_>, _: &mut Records) -> Answer {
         Ok(match check(case.book(0)) {
-            Ok(rules) => format!(in case.alloc; " accepted {rules}")?,
-            Err(refusal) => format!(in case.alloc; "{}", Refused(refusal))?,
+            Ok(rules) => Text::of(format_args!(" accepted {rules}")),
+            Err(refusal) => Text::of(Refused(refusal)),
         })
     }
 }

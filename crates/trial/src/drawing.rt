@@ -3,7 +3,7 @@
 //! answer is a refusal, or the nodes, the text's length and the text with / for each line feed: of a
 //! text above 400 bytes the first 200 and the last 40. Then whether the buffer's other bytes, which are
 //! 255 before the call, and 16 bytes or more after it, are kept.
-use crate::answers::{Answer, Fault, Refused, either};
+use crate::answers::{Answer, Malformed, Refused, Text, either};
 use crate::calls::{Call, Case};
 use crate::records::Records;
 use crate::text::{front, rest};
@@ -41,20 +41,20 @@ fn kept(buffer: &[u8], start: usize) -> &'static str {
     either(same, " kept", " changed")
 }
 
-fn said(case: &Case<'_>, drawn: Result<Written, Refusal>, buffer: &[u8]) -> Answer {
-    Ok(match drawn {
+fn said(drawn: Result<Written, Refusal>, buffer: &[u8]) -> Text {
+    match drawn {
         Err(refusal) => {
             let kept = kept(buffer, 0);
-            format!(in case.alloc; "{}{kept}", Refused(refusal))?
+            Text::of(format_args!("{}{kept}", Refused(refusal)))
         }
         Ok(Written { nodes, length }) => {
             // `as`: `usize` has no `From<u32>`
             let length = length as usize;
             let lines = Lines(front(buffer, length));
             let kept = kept(buffer, length);
-            format!(in case.alloc; " nodes {nodes} bytes {length}: {lines}{kept}")?
+            Text::of(format_args!(" nodes {nodes} bytes {length}: {lines}{kept}"))
         }
-    })
+    }
 }
 
 /// The cases of Tree.
@@ -72,13 +72,14 @@ impl Call for Draw {
     fn answered(case: &Case<'_>, _: &mut Records) -> Answer {
         let length = case.numbers.length(1, 2000);
         if 130_000 < length {
-            return Err(Fault::Malformed);
+            return Err(Malformed);
         }
-        let mut buffer = vec![in case.alloc; 255; length + 16]?;
-        let Some(lent) = buffer.as_mut_slice().get_mut(..length) else {
-            return Err(Fault::Malformed);
+        // fixed memory: a program can't run out of it
+        let mut buffer = [255; 130_016];
+        let Some(lent) = buffer.get_mut(..length) else {
+            return Err(Malformed);
         };
         let drawn = tree(case.book(3), case.plan(2), case.numbers.number(0), lent);
-        said(case, drawn, buffer.as_slice())
+        Ok(said(drawn, &buffer))
     }
 }

@@ -3,7 +3,7 @@
 //! and whether all of the record is kept; or what is replied, the number of rules and the mask that stand
 //! beside the blocks, and the blocks up to the last that is not zero: each by the number of the lowest block
 //! of the book with the same bytes, a question mark where there is none.
-use crate::answers::{Answer, Fault, Refused, either};
+use crate::answers::{Answer, Malformed, Refused, Text, either};
 use crate::blocks::Record;
 use crate::calls::{Call, Case, Line, Table};
 use crate::text::{cut, front, rest};
@@ -37,8 +37,8 @@ impl fmt::Display for Laid<'_> {
     }
 }
 
-fn said(case: &Case<'_>, edited: Result<u32, Refusal>, first: &Record, record: &Record) -> Answer {
-    Ok(match edited {
+fn said(case: &Case<'_>, edited: Result<u32, Refusal>, first: &Record, record: &Record) -> Text {
+    match edited {
         Ok(mask) => {
             let rules = record.rules;
             let marks = record.marks;
@@ -46,13 +46,13 @@ fn said(case: &Case<'_>, edited: Result<u32, Refusal>, first: &Record, record: &
                 blocks: &record.blocks,
                 book: case.book,
             };
-            format!(in case.alloc; " replied {mask}, rules {rules}, marks {marks}, blocks{laid}")?
+            Text::of(format_args!(" replied {mask}, rules {rules}, marks {marks}, blocks{laid}"))
         }
         Err(refusal) => {
             let kept = either(first == record, "all kept", "not all kept");
-            format!(in case.alloc; "{}, {kept}", Refused(refusal))?
+            Text::of(format_args!("{}, {kept}", Refused(refusal)))
         }
-    })
+    }
 }
 
 struct Arrive;
@@ -70,7 +70,7 @@ impl Call for Arrive {
         let length = case.numbers.length(1, 512);
         let block = front(rest(case.book, 512 * case.numbers.length(0, 0)), length);
         if block.len() != length {
-            return Err(Fault::Malformed);
+            return Err(Malformed);
         }
         let first = *record;
         let edited = arrive(
@@ -79,7 +79,7 @@ impl Call for Arrive {
             &mut record.marks,
             block,
         );
-        said(case, edited, &first, record)
+        Ok(said(case, edited, &first, record))
     }
 }
 
@@ -103,7 +103,7 @@ impl Call for Depart {
             &mut record.marks,
             rule,
         );
-        said(case, edited, &first, record)
+        Ok(said(case, edited, &first, record))
     }
 }
 
@@ -120,7 +120,7 @@ impl Table for Edit {
         match name {
             b" arrive " => Arrive::tried(&line, record),
             b" depart " => Depart::tried(&line, record),
-            _ => Err(Fault::Malformed),
+            _ => Err(Malformed),
         }
     }
 }

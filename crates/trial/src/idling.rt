@@ -2,7 +2,7 @@
 //! buffer's length and the byte that fills it (0 or 255) where those are not 36 and 255. An answer is a
 //! refusal, or idle, or the user and the plan with the mask that Judge gives for both; then whether
 //! the buffer's other bytes, and 16 bytes or more after it, are kept.
-use crate::answers::{Answer, Fault, Refused, either};
+use crate::answers::{Answer, Malformed, Refused, Text, either};
 use crate::calls::{Call, Case};
 use crate::records::Records;
 use crate::text::{front, rest};
@@ -25,15 +25,15 @@ impl fmt::Display for Rows<'_> {
     }
 }
 
-fn needed(case: &Case<'_>, user: u32, plan: &[u8], kept: &str) -> Answer {
+fn needed(case: &Case<'_>, user: u32, plan: &[u8], kept: &str) -> Text {
     let rows = Rows(plan);
-    Ok(match judge(case.book(1), user, plan) {
+    match judge(case.book(1), user, plan) {
         Ok(broken) => {
             let mask = broken.mask;
-            format!(in case.alloc; " user {user} plan{rows} judged {mask}{kept}")?
+            Text::of(format_args!(" user {user} plan{rows} judged {mask}{kept}"))
         }
-        Err(_) => format!(in case.alloc; " user {user} plan{rows} judged refused{kept}")?,
-    })
+        Err(_) => Text::of(format_args!(" user {user} plan{rows} judged refused{kept}")),
+    }
 }
 
 /// The cases of Idle.
@@ -52,7 +52,7 @@ impl Call for Idle {
         let [fill, ..] = case.numbers.or(3, 255).to_le_bytes();
         let mut buffer = [fill; 80];
         let Some(lent) = buffer.get_mut(..case.numbers.length(2, 36)) else {
-            return Err(Fault::Malformed);
+            return Err(Malformed);
         };
         let found = idle(case.book(1), case.numbers.number(0), lent);
         let length = match found {
@@ -62,10 +62,10 @@ impl Call for Idle {
         };
         let same = rest(&buffer, length).iter().all(|byte| *byte == fill);
         let kept = either(same, " kept", " changed");
-        match found {
-            Ok(None) => Ok(format!(in case.alloc; " idle{kept}")?),
+        Ok(match found {
+            Ok(None) => Text::of(format_args!(" idle{kept}")),
             Ok(Some(shown)) => needed(case, shown.user, front(&buffer, length), kept),
-            Err(refusal) => Ok(format!(in case.alloc; "{}{kept}", Refused(refusal))?),
-        }
+            Err(refusal) => Text::of(format_args!("{}{kept}", Refused(refusal))),
+        })
     }
 }

@@ -5,7 +5,7 @@
 use crate::numbers;
 use crate::numbers::Numbers;
 use crate::text::cut;
-use std::alloc::{AllocError, Global};
+use arrayvec::ArrayVec;
 
 /// As many rows as fit in the blocks of a book to try.
 const ROOM: usize = 4736;
@@ -14,7 +14,8 @@ const ROOM: usize = 4736;
 /// A plan, and whether its rows are well formed.
 #[derive(Drop)]
 pub struct Plan {
-    pub rows: Vec<[u8; 4]>,
+    /// Fixed memory: a program can't run out of it.
+    pub rows: ArrayVec<[u8; 4], ROOM>,
     pub sound: bool,
 }
 
@@ -28,51 +29,46 @@ impl Plan {
     }
 
     /// Adds a row, and those that repeat it. One without room is malformed.
-    fn add(&mut self, row: &Numbers, more: &Numbers) -> Result<(), AllocError> {
+    fn add(&mut self, row: &Numbers, more: &Numbers) {
         let mut values = [row.number(1), row.number(2), row.number(3)];
         // so many times, and each row is made from the one before
         for _ in 0..more.or(0, 1) {
-            if ROOM <= self.rows.len() {
-                self.sound = false;
-                break;
-            }
             let [a, b, c] = values;
             let kind = self.byte(row.number(0));
             let bytes = [kind, self.byte(a), self.byte(b), self.byte(c)];
-            self.rows.push(bytes)?;
+            if self.rows.try_push(bytes).is_err() {
+                self.sound = false;
+                break;
+            }
             values = [
                 a.wrapping_add(more.number(1)),
                 b.wrapping_add(more.number(2)),
                 c.wrapping_add(more.number(3)),
             ];
         }
-        Ok(())
     }
 
     /// Adds what stands between two commas; where nothing is written there is no row.
-    fn read(&mut self, text: &[u8]) -> Result<(), AllocError> {
+    fn read(&mut self, text: &[u8]) {
         let (row, more) = cut(text, b'*');
         match (numbers::read(row), numbers::read(more)) {
-            (Some(row), Some(more)) if row.within(0, 0) && more.within(0, 0) => Ok(()),
+            (Some(row), Some(more)) if row.within(0, 0) && more.within(0, 0) => {}
             (Some(row), Some(more)) if row.within(4, 4) && more.within(0, 4) => {
                 self.add(&row, &more)
             }
-            _ => {
-                self.sound = false;
-                Ok(())
-            }
+            _ => self.sound = false,
         }
     }
 }
 
 /// The plan of a text.
-pub fn plan_of(alloc: Global, text: &[u8]) -> Result<Plan, AllocError> {
+pub fn plan_of(text: &[u8]) -> Plan {
     let mut plan = Plan {
-        rows: Vec::new(alloc),
+        rows: ArrayVec::new(),
         sound: true,
     };
     for part in text.split(|byte| *byte == b',') {
-        plan.read(part)?;
+        plan.read(part);
     }
-    Ok(plan)
+    plan
 }

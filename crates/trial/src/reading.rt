@@ -1,7 +1,7 @@
 //! What the crates above read in a book. A case has the reader's number, what it asks for, the block
 //! of the rule, and the book's length where that is not seven blocks. A set is written as its word:
 //! the sum of 2 to the power i over its members i.
-use crate::answers::{Answer, Fault};
+use crate::answers::{Answer, Malformed, Text};
 use crate::calls::{Call, Case};
 use crate::records::Records;
 use crate::text::{front, rest};
@@ -36,8 +36,8 @@ impl Call for Reader {
             4 => words.supporters()[usize::from(i % 16)],
             5 => covered_users(&words, rule),
             6 => leaf_set(&words, rule, i),
-            _ => return Err(Fault::Malformed),
+            _ => return Err(Malformed),
         };
-        Ok(format!(in case.alloc; " {read}")?)
+        Ok(Text::of(format_args!(" {read}")))
     }
 }

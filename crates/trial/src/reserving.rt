@@ -5,7 +5,7 @@
 //! what it was. At the end it says whether all else is kept: the words, also behind the ledger, and the
 //! counts of others.
 use crate::accesses::Accesses;
-use crate::answers::{Answer, Fault, Refused, either};
+use crate::answers::{Answer, Malformed, Refused, Text, either};
 use crate::calls::{Call, Case, Line, Table};
 use crate::records::Records;
 use crate::text::{cut, front, rest};
@@ -150,20 +150,20 @@ fn said<R: fmt::Display + Drop>(
     replied: Result<R, Refusal>,
     first: &Records,
     records: &Records,
-) -> Answer {
+) -> Text {
     let change = Change {
         user: case.numbers.length(0, 0),
         commits,
         first,
         now: records,
     };
-    Ok(match replied {
-        Ok(reply) => format!(in case.alloc; " {reply}{change}")?,
+    match replied {
+        Ok(reply) => Text::of(format_args!(" {reply}{change}")),
         Err(refusal) => {
             let kept = either(change.all_kept(), "all kept", "not all kept");
-            format!(in case.alloc; "{}, {kept}", Refused(refusal))?
+            Text::of(format_args!("{}, {kept}", Refused(refusal)))
         }
-    })
+    }
 }
 
 struct Ask;
@@ -181,7 +181,7 @@ impl Call for Ask {
         let user = case.numbers.number(0);
         let first = *records;
         let Some(words) = records.words.get(..case.numbers.length(2, 1024)) else {
-            return Err(Fault::Malformed);
+            return Err(Malformed);
         };
         let asked = ask(
             case.book(1),
@@ -192,7 +192,7 @@ impl Call for Ask {
             &mut records.holds,
         );
         let replied = asked.map(|asked| Replied(asked));
-        said(case, false, replied, &first, records)
+        Ok(said(case, false, replied, &first, records))
     }
 }
 
@@ -212,7 +212,7 @@ impl Call for Commit {
         let number = case.numbers.number(1);
         let first = *records;
         let Some(words) = records.words.get_mut(..case.numbers.length(3, 1024)) else {
-            return Err(Fault::Malformed);
+            return Err(Malformed);
         };
         let settled = commit(
             case.book(2),
@@ -223,7 +223,7 @@ impl Call for Commit {
             &mut records.holds,
         );
         let replied = settled.map(|number| Settled(number));
-        said(case, true, replied, &first, records)
+        Ok(said(case, true, replied, &first, records))
     }
 }
 
@@ -244,7 +244,7 @@ impl Call for DropHold {
         let number = case.numbers.number(1);
         let first = *records;
         let Some(words) = records.words.get(..case.numbers.length(3, 1024)) else {
-            return Err(Fault::Malformed);
+            return Err(Malformed);
         };
         let settled = drop_hold(
             case.book(2),
@@ -255,7 +255,7 @@ impl Call for DropHold {
             &mut records.holds,
         );
         let replied = settled.map(|number| Settled(number));
-        said(case, false, replied, &first, records)
+        Ok(said(case, false, replied, &first, records))
     }
 }
 
@@ -273,7 +273,7 @@ impl Table for Reserve {
             b" ask " => Ask::tried(&line, records),
             b" commit " => Commit::tried(&line, records),
             b" drop " => DropHold::tried(&line, records),
-            _ => Err(Fault::Malformed),
+            _ => Err(Malformed),
         }
     }
 }

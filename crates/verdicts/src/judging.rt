@@ -1,16 +1,15 @@
 //! Judge: the refusals in their order, then the mask of the rules that a user and a plan break. For
 //! the crates above, the same mask for a set of accesses.
-ghost use Rattle.std.specs.Prelude.{◌≡◌, ◌<◌, Err, IfErr, IfOk, OnOk};
-ghost use Rattle.book.specs.Blocks.{head_of, rule_at, rule_count};
+ghost use Rattle.std.specs.Prelude.{◌≡◌, Err, IfErr, IfOk, OnOk};
 ghost use Rattle.book.specs.Tests.{first_failing, Passes};
 ghost use Rattle.verdicts.specs.Accesses.{held_by};
 ghost use Rattle.verdicts.specs.Answers.{judge_answer, judge_tests};
-ghost use Rattle.verdicts.specs.Breaking.{breaks, broken_mask};
 ghost use Rattle.verdicts.specs.Demand.{JudgeAccepted, Judges};
-ghost use Rattle.verdicts.specs.Inner.Masks.{UserTested};
+ghost use Rattle.verdicts.specs.Inner.Masks.{BrokenIfAccepted, BrokenIfSound, UserTested};
 
 use crate::Broken;
 use crate::breaking::breaks;
+use book::fields::{rule_at, rule_count};
 use book::rules::covered_users;
 use book::sets::{contains, those_below};
 use book::testing::ensure;
@@ -19,23 +18,23 @@ use book::{Book, Refusal};
 use lineage::accesses::accesses;
 use lineage::rows::test_plan;
 
-/// Whether a user and a set of accesses break rule r.
-fn user_breaks(book: &Book, r: u8, user: u32, accesses: &[u64; 32]) -> bool
-    ensures { r < rule_count book.now.bytes.now
-        → result ≡ breaks (head_of book.now.bytes.now) (rule_at book.now.bytes.now r) user
-        (held_by accesses.now) }
+/// Whether a user and a set of accesses break a rule.
+fn user_breaks(words: &Words, rule: &[u8], user: u32, accesses: &[u64; 32]) -> bool
+    ensures { BrokenIfSound words.now rule.now user (held_by accesses.now) result }
 {
-    let rule = book.rule(r);
-    let covered = covered_users(&book.words, rule);
+    let covered = covered_users(words, rule);
     // `as`, here and below: `usize` has no `From<u32>`.
-    contains(covered, user as usize) && breaks(&book.words, rule, accesses)
+    contains(covered, user as usize) && breaks(words, rule, accesses)
 }
 
-/// The mask of the rules that a user and a set of accesses break.
-pub fn broken_by(book: &Book, user: u32, accesses: &[u64; 32]) -> u32
-    ensures { result ≡ broken_mask book.now.bytes.now user (held_by accesses.now) }
+/// The mask of the rules of an accepted book that a user and a set of accesses break, by the words of
+/// its head.
+pub fn broken_by(book: &[u8], words: &Words, user: u32, accesses: &[u64; 32]) -> u32
+    ensures { BrokenIfAccepted book.now words.now user (held_by accesses.now) result }
 {
-    let broken = those_below(book.rule_count(), |r| user_breaks(book, r, user, accesses));
+    let broken = those_below(rule_count(book), |r| {
+        user_breaks(words, rule_at(book, r), user, accesses)
+    });
     // Members are below 32: the remainder shows that the cast fits, `try_from` would be a branch.
     (broken % 4294967296) as u32
 }
@@ -65,6 +64,7 @@ pub fn judge(book: &[u8], user: u32, plan: &[u8]) -> Result<Broken, Refusal>
     ensures judges { JudgeAccepted book.now user plan.now → Judges book.now user plan.now result }
 {
     let book = test_judge(book, user, plan)?;
-    let mask = broken_by(&book, user, &accesses(&book, plan));
+    let given = accesses(book.bytes, &book.words, plan);
+    let mask = broken_by(book.bytes, &book.words, user, &given);
     Ok(Broken { mask })
 }

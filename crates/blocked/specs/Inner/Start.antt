@@ -1,8 +1,9 @@
 -- What a search starts from: the tables hold what the book says. No call's promise leans on this file. Assumes nothing.
-use Rattle.std.specs.Prelude.{ℕ, ◌≡◌, List, ltb, replicate}
+use Rattle.std.specs.Prelude.{ℕ, ◌≡◌, ◌<◌, List, ltb, replicate}
 use Rattle.book.specs.Sets.{WordOf}
 use Rattle.book.specs.Blocks.{Book, head_of, rule_at, rule_count}
 use Rattle.book.specs.Rule.{reference_count}
+use Rattle.verdicts.specs.Inner.Words.{RuleSound}
 use Rattle.search.specs.Inner.Places.{PlacesOf}
 use Rattle.search.specs.Inner.Table.{CoversHold, HadHolds, TableHolds}
 use Rattle.search.specs.Inner.Search.{candidate}
@@ -18,6 +19,7 @@ pub record Blank (s : Tables) : Type 0 where
   pub third : s.scope.thirds ≡ replicate 33 0
 
 pub record Started (book : Book) (r : ℕ) (s : Tables) : Type 0 where
+  pub sound : (q : ℕ) → q < rule_count book → RuleSound (head_of book) (rule_at book q)
   pub tables : TableHolds book (rule_count book) s.rules
   pub met_holds : MetHolds s.rules s.met
   pub all_rules : WordOf (λ q. ltb q (rule_count book)) s.all

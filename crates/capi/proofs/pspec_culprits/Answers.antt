@@ -1,5 +1,5 @@
 -- The number is the mask with the asking rule (`few_said`), and says what N6 asks. Assumes nothing.
-use Rattle.std.proofs.Common.{rules, ◌≡◌, ◌∙◌}
+use Rattle.std.proofs.Common.{rules, ◌∙◌}
 use Rattle.capi.proofs.PackedLaws.{few_said}
 use Rattle.capi.proofs.Headline.{culprits_says}
 use Rattle.capi.proofs.pspec_culprits.Goals as goal

@@ -25,6 +25,10 @@ lowest f = find f (range_with_len 0 8)
 abbrev pub passing : (ℕ → Bool) → ℕ
 passing f = count_by f (range_with_len 0 8)
 
+-- a hold record by its parts
+abbrev pub places_with : (users numbers words : List ℕ) → Holds
+places_with users numbers words = record { users = users; numbers = numbers; words = words }
+
 -- the words of a user's held plans
 abbrev pub HeldWords : Holds → (user : ℕ) (words : List ℕ) → Type 0
 HeldWords holds user words = (x : Access) → held_by words x ≡ held_accesses holds user x

@@ -8,7 +8,7 @@ use Rattle.book.specs.Head.{function_count, operation}
 use Rattle.book.specs.Rule.{action, reference_count, restriction_count, restriction_mask, covers_user}
 use Rattle.verdicts.specs.Actions.{channel_fits}
 use Rattle.verdicts.specs.Accesses.{fits}
-use Rattle.verdicts.specs.Inner.Words.{mask_takes, RuleSound}
+use Rattle.verdicts.specs.Inner.Words.{mask_takes}
 use Rattle.search.specs.Obtainable.{labelled, operated, can_be_had}
 use Rattle.search.specs.Inner.Places.{access_at, nowhere}
 use Rattle.search.specs.declared.tables.RuleTable.{RuleTable}
@@ -93,7 +93,6 @@ RuleHolds head rule table =
 
 -- the tables of the first n rules of a book
 pub record TableHolds (book : List ℕ) (n : ℕ) (t : List RuleTable) : Type 0 where
-  pub sound : (q : ℕ) → q < n → RuleSound (head_of book) (rule_at book q)
   pub references :
       (q i p : ℕ)
       → q < n

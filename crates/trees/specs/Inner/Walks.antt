@@ -1,6 +1,6 @@
 -- What the two walks promise each other: the nodes of a row, in two parts by the row's kind. No call's promise leans on
 -- this file. Assumes nothing.
-use Rattle.std.specs.Prelude.{ℕ, suc, ◌≡◌, ◌<◌, Bool, true, false, not, cond, List, [], ◌++◌, length, eqb, Result, Ok, Err}
+use Rattle.std.specs.Prelude.{ℕ, suc, ◌≡◌, ◌<◌, Bool, true, false, not, cond, List, [], ◌++◌, length, take, eqb, Result, Ok, Err}
 use Rattle.lineage.specs.Rows.{Plan, Kind, Column, Apply, Choose, Output, Condition, Unknown, kind_at}
 use Rattle.trees.specs.Trees.{nodes_from}
 use Rattle.trees.specs.declared.walking.Node.{Node}
@@ -38,7 +38,11 @@ apply_nodes plan level r = cond (of_apply (kind_at plan r)) (nodes_from plan lev
 unfoldable pub choose_nodes : Plan → (level row : ℕ) → List Node
 choose_nodes plan level r = cond (of_choose (kind_at plan r)) (nodes_from plan level r) []
 
--- nodes that are listed behind others, or are too many
+-- nodes that are too many, and the list that is full of the first of them
+abbrev pub Full : (nodes after : List Node) → Type 0
+Full nodes after = (4096 < length nodes) × (after ≡ take 4096 nodes)
+
+-- nodes that are listed behind others, all of them, or as far as the list has places
 abbrev pub Listed : (nodes before after : List Node) → Result (Unit {0}) TooMany → Type 0
 Listed nodes before after (Ok _) = after ≡ before ++ nodes
-Listed nodes before after (Err _) = 4096 < length (before ++ nodes)
+Listed nodes before after (Err _) = Full (before ++ nodes) after

@@ -23,8 +23,8 @@ loop-q-preserved c =
     turns_more t.rules t.met _ d.first d.second d.third a.r a.rules (loop.q - 1) loop.q loop.left c.dropped-left.result
     (omega arith) (omega arith) loop.invariant c.dropped-left.ensures
 
-pub returns : goal.returns
-returns c passes given asking told q =
+pub returns-clause-left : goal.returns-clause-left
+returns-clause-left c passes given asking told q =
     let a = c.args in
     let t = a.tables.now in
     let d = a.denial in

@@ -1,6 +1,7 @@
 -- From block 4 on the tests are a rule's (`rule_tests_law`). Assumes nothing.
-use Rattle.std.proofs.Common.{arith}
+use Rattle.std.proofs.Common.{arith, rules, ◌≡◌, ◌∙◌}
 use Rattle.book.specs.Refusals.{block_tests}
+use Rattle.book.specs.Inner.Faults.{outcome_at}
 use Rattle.book.proofs.Tests.{rule_tests_law}
 use Rattle.book.proofs.checking.test_contents.Goals as goal
 
@@ -23,9 +24,10 @@ returns-in-3 c = record { told = λ w h. rw c.in-3.is c.test_functions_block.ens
 pub returns-in_default : goal.returns-in_default
 returns-in_default c =
     let a = c.args in
+    let placed : c.map_err.result ≡ outcome_at a.i c.test_rule_block.result = search rules in
     record {
       told =
           λ w h.
           rw (rule_tests_law a.head.now a.block.now a.i (omega arith))
-          (c.test_rule_block.ensures a.head.now (record { told = w; counts = h (omega arith) }));
+          (placed ∙ c.test_rule_block.ensures a.i a.head.now (record { told = w; counts = h (omega arith) }));
     }

@@ -102,7 +102,7 @@ passed c =
     late_passed a.blocks.now a.rules.now a.marks.now a.block.now (search rules) early _ lies (rw book.ensures.bytes at book.book.accepted) in
     let mask =
     arrive_marked a.blocks.now a.rules.now a.marks.now a.block.now (search rules) early _ lies _
-    (rw book.ensures.bytes at c.arrival_marks-mask.ensures) in
+    (rw book.ensures.bytes at (c.arrival_marks-mask.ensures book.book.told book.book.accepted)) in
     let e = arrive_passed a.blocks.now a.rules.now a.marks.now a.block.now passes in
     (rw mask e.0, lies ∙ e.1, e.2, rw mask e.3)
 

@@ -90,8 +90,11 @@ passed c =
     let passes = c.in_ok-words.ensures.passed in
     let there = depart_there a.blocks.now a.rules.now a.marks.now a.rule (search rules) passes in
     let lies = c.lay_without.ensures there.0 there.1 in
+    let size : length a.blocks.now ≡ 18432 = search rules in
+    let told = departure_told a.blocks.now a.rules.now a.marks.now a.rule size passes _ lies _ c.in_ok-words.ensures.words in
+    let accepted = departure_accepted a.blocks.now a.rules.now a.marks.now a.rule size passes _ lies in
     let mask =
-    depart_marked a.blocks.now a.rules.now a.marks.now a.rule (search rules) passes _ lies _ c.departure_marks-mask.ensures in
+    depart_marked a.blocks.now a.rules.now a.marks.now a.rule size passes _ lies _ (c.departure_marks-mask.ensures told accepted) in
     let e = depart_passed a.blocks.now a.rules.now a.marks.now a.rule passes in
     (rw mask e.0, lies ∙ e.1, e.2, rw mask e.3)
 

@@ -6,10 +6,9 @@ use Rattle.editing.proofs.MarkingLaws.{departure_word}
 use Rattle.editing.proofs.marking.departure_marks.Goals as goal
 
 pub returns : goal.returns
-returns c =
+returns c held accepted =
     let a = c.args in
-    let book = a.book.now in
     let before = c.below-before in
-    departure_word book.bytes.now book.accepted c.from-word.result a.r before.result c.idle_among.result
-    (omega arith) before.ensures c.idle_among.ensures
-    ∙ ap (departure_marks book.bytes.now a.r) c.from-word.ensures
+    departure_word a.book.now accepted c.from-word.result a.r before.result c.idle_among.result
+    (omega arith) before.ensures (c.idle_among.ensures held accepted)
+    ∙ ap (departure_marks a.book.now a.r) c.from-word.ensures

@@ -26,6 +26,7 @@ held : (c : After-put) → AskPromised c.args.book.now c.args.user c.args.plan.n
 held c =
     let a = c.args in
     let same = c.in_ok-book.ensures.bytes in
+    let told = rw same at c.in_ok-book.book.told in
     let found = c.in_ok-number in
     let ready = ask_ready a.book.now a.user a.plan.now a.ledger.now a.tally.now a.holds.now (found.number, found.place) c.in_ok-book.ensures.passed found.ensures.room in
     let k = ready.0 in
@@ -33,18 +34,19 @@ held c =
     let place = ready.2 in
     let within = (empty_place_law a.holds.now k.place_empty).1 in
     ask_held a.book.now a.user a.plan.now a.ledger.now a.tally.now a.holds.now k c.accesses-words.result c.mask_with-mask.result
-    ((rw same at c.accesses-words.ensures) k.judge_accepted.plan_accepted) (rw same at c.mask_with-mask.ensures) _ _ _
+    ((rw same at c.accesses-words.ensures) told (k.judge_accepted.book_accepted, k.judge_accepted.plan_accepted)) (rw same at c.mask_with-mask.ensures) _ _ _
     c.if-mask-ne0.false (ap (λ n. Ok (Held n)) number) refl
-    (rw (place, number) at (c.put.ensures (omega (arith, place, within))))
+    (rw (c.from.ensures, place, number) at (c.put.ensures (omega (arith, c.from.ensures, place, within))))
 
 declined : (c : goal.After-count_declined) → AskPromised c.args.book.now c.args.user c.args.plan.now c.args.ledger.now c.args.tally.now c.args.holds.now (Ok (Declined c.mask_with-mask.result)) c.count_declined.new.self c.args.holds.now
 declined c =
     let a = c.args in
     let same = c.in_ok-book.ensures.bytes in
+    let told = rw same at c.in_ok-book.book.told in
     let found = c.in_ok-number in
     let k = (ask_ready a.book.now a.user a.plan.now a.ledger.now a.tally.now a.holds.now (found.number, found.place) c.in_ok-book.ensures.passed found.ensures.room).0 in
     ask_declined a.book.now a.user a.plan.now a.ledger.now a.tally.now a.holds.now k c.accesses-words.result c.mask_with-mask.result
-    ((rw same at c.accesses-words.ensures) k.judge_accepted.plan_accepted) (rw same at c.mask_with-mask.ensures) _ _ _
+    ((rw same at c.accesses-words.ensures) told (k.judge_accepted.book_accepted, k.judge_accepted.plan_accepted)) (rw same at c.mask_with-mask.ensures) _ _ _
     c.if-mask-ne0.true refl c.count_declined.ensures refl
 
 pub returns-in_err-book-clause-answer : goal.returns-in_err-book-clause-answer

@@ -1,5 +1,5 @@
 -- Refused: nothing changes. Otherwise the number has its lowest place, which is freed.
-use Rattle.std.proofs.Common.{rules, refl, ◌∙◌}
+use Rattle.std.proofs.Common.{rules, arith, refl, ◌∙◌}
 use Rattle.std.specs.Prelude.{Ok}
 use Rattle.ledger.proofs.CallLaws.{was_refused, was_passed, settle_accepted}
 use Rattle.ledger.proofs.Promises.{CommitPromised, commit_refused, commit_settled}
@@ -17,7 +17,7 @@ settled c =
     let found = was_passed _ _ _ c.in_ok-place.ensures.place in
     let k = settle_accepted a.book.now a.user a.number a.ledger.now a.holds.now found.0 in
     commit_settled a.book.now a.user a.number a.ledger.now a.tally.now a.holds.now k _ _ _ _ refl c.count_admitted.ensures
-    (rw found.1 at (c.free.ensures c.in_ok-place.ensures.within)) (c.join_words.ensures ∙ rw (c.words_of.ensures, c.from.ensures, found.1))
+    (rw (c.from-2.ensures, found.1) at (c.free.ensures (omega (arith, c.from-2.ensures, c.in_ok-place.ensures.within)))) (c.join_words.ensures ∙ rw (c.words_of.ensures, c.from.ensures, found.1))
 
 pub returns-in_err-place-clause-answer : goal.returns-in_err-place-clause-answer
 returns-in_err-place-clause-answer c = (refused c).0

@@ -1,5 +1,5 @@
 -- Refused: nothing changes. Otherwise the number has its lowest place, which is freed.
-use Rattle.std.proofs.Common.{rules, refl}
+use Rattle.std.proofs.Common.{rules, arith, refl}
 use Rattle.std.specs.Prelude.{Ok}
 use Rattle.ledger.proofs.CallLaws.{was_refused, was_passed, settle_accepted}
 use Rattle.ledger.proofs.Promises.{DropPromised, drop_refused, drop_settled}
@@ -17,7 +17,7 @@ settled c =
     let found = was_passed _ _ _ c.in_ok-place.ensures.place in
     let k = settle_accepted a.book.now a.user a.number a.ledger.now a.holds.now found.0 in
     drop_settled a.book.now a.user a.number a.ledger.now a.tally.now a.holds.now k _ _ _ refl c.count_dropped.ensures
-    (rw found.1 at (c.free.ensures c.in_ok-place.ensures.within))
+    (rw (c.from.ensures, found.1) at (c.free.ensures (omega (arith, c.from.ensures, c.in_ok-place.ensures.within))))
 
 pub returns-in_err-place-clause-answer : goal.returns-in_err-place-clause-answer
 returns-in_err-place-clause-answer c = (refused c).0

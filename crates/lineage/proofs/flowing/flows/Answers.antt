@@ -80,7 +80,8 @@ returns-clause-words c =
     let book = c.in_ok-book in
     let sound =
     rw (c.head.ensures, book.ensures.bytes) at (sym c.test_plan.ensures ∙ c.in_ok-test_plan.was) in
+    let accepted = rw book.ensures.bytes at book.book.accepted in
     c.copy_from_slice.ensures.after
-    ∙ (rw book.ensures.bytes at c.accesses.ensures) sound
-    ∙ (flows_done a.book.now a.plan.now a.words.now (rw book.ensures.bytes at book.book.accepted) sound
+    ∙ (rw book.ensures.bytes at c.accesses.ensures) (rw book.ensures.bytes at book.book.told) (accepted, sound)
+    ∙ (flows_done a.book.now a.plan.now a.words.now accepted sound
     (sym c.ensure.ensures ∙ c.in_ok-ensure.was)).1

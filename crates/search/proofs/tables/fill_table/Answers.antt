@@ -1,30 +1,36 @@
--- One rule a turn: an accepted book has at most 32. Assumes nothing.
+-- One rule a turn; a caller's tables have room for the first 32. The rules of an accepted book are sound, as its bytes are
+-- bytes (`rules_sound`). Assumes nothing.
 use native.Mathlib.Omega.{arith}
-use Rattle.std.proofs.Common.{rules, Fits, w8, get_or, ◌<◌}
-use Rattle.book.specs.Blocks.{head_of, rule_count}
-use Rattle.verdicts.proofs.Sound.{few_rules_law, sound_there}
-use Rattle.search.proofs.RuleWords.{rules_more, table_holds}
+use Rattle.std.proofs.Common.{Fits, w8, get_or}
+use borrow.Author.Rules.{rules}
+use Rattle.book.specs.Blocks.{head_of}
+use Rattle.verdicts.proofs.Sound.{rules_sound}
+use Rattle.search.proofs.RuleWords.{rules_none, rules_more, table_holds}
 use Rattle.search.proofs.tables.fill_table.Goals as goal
 
-pub bounds-tables-from : goal.bounds-tables-from
-bounds-tables-from c =
-    let few = few_rules_law c.args.book.now.bytes.now c.args.book.now.accepted in
-    omega (arith, few, c.rule_count-q-end.ensures, c.loop-q-test.true, c.from.ensures)
+pub loop-q-init : goal.loop-q-init
+loop-q-init c held few size = rules_none c.args.book.now c.args.tables.now size
 
 pub loop-q-preserved : goal.loop-q-preserved
-loop-q-preserved c =
+loop-q-preserved c held few size =
     let book = c.args.book.now in
     let loop = c.loop-q in
-    let few = few_rules_law book.bytes.now book.accepted in
-    let there : loop.q < rule_count book.bytes.now = omega (arith, c.rule_count-q-end.ensures, c.loop-q-test.true) in
-    rw c.from.ensures
-    (rules_more book.bytes.now loop.tables loop.q c.rule_table.result (omega (arith, few, there))
-    (sound_there book.bytes.now book.accepted loop.q there
-    (λ i. let f : Fits w8 (get_or c.rule-rule.result.now i 0) = search rules in rw c.rule-rule.ensures at f.fits))
-    (rw c.rule-rule.ensures at (c.rule_table.ensures (head_of book.bytes.now) book.told)) loop.invariant)
+    rw c.from-in-loop-q.ensures
+    (rules_more book loop.tables loop.q c.rule_table.result (omega (arith, c.loop-q-test.true))
+    (rw c.rule_at.ensures at (c.rule_table.ensures (head_of book) held)) (loop.invariant held few size))
 
-pub returns : goal.returns
-returns c =
+pub returns-clause-tables : goal.returns-clause-tables
+returns-clause-tables c held few size =
+    let a = c.args in
     let loop = c.loop-q in
-    table_holds c.args.book.now.bytes.now (rule_count c.args.book.now.bytes.now) loop.tables loop.q loop.invariant
-    (omega (arith, c.rule_count-q-end.ensures, c.loop-q-test.false))
+    table_holds a.book.now a.n loop.tables loop.q (loop.invariant held few size) (omega (arith, c.loop-q-test.false))
+
+pub returns-clause-sound : goal.returns-clause-sound
+returns-clause-sound c accepted q l =
+    let book = c.args.book.now in
+    rules_sound book accepted (λ i. let f : Fits w8 (get_or book i 0) = search rules in f.fits) q l
+
+pub returns-then-tables-from-clause-sound : goal.returns-then-tables-from-clause-sound
+returns-then-tables-from-clause-sound c accepted q l =
+    let book = c.args.book.now in
+    rules_sound book accepted (λ i. let f : Fits w8 (get_or book i 0) = search rules in f.fits) q l

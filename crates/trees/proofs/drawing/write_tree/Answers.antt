@@ -25,11 +25,16 @@ returns-in_err-map_err c low value =
 pub returns-then-buffer-length : goal.returns-then-buffer-length
 returns-then-buffer-length c low value =
     let whole = listed_whole _ _ _ _ (c.list_tree.ensures low value) c.new-nodes.ensures (search rules) in
-    told_long c.args.plan.now c.args.row c.args.buffer.now _ _ whole c.text_length-length.ensures.length c.if-buffer-length.true
+    let listed = c.as_slice.ensures in
+    told_long c.args.plan.now c.args.row c.args.buffer.now _ _ whole
+    (rw listed.value at (c.text_length-length.ensures.length listed.fits)) c.if-buffer-length.true
 
 pub returns : goal.returns
 returns c low value =
     let whole = listed_whole _ _ _ _ (c.list_tree.ensures low value) c.new-nodes.ensures (search rules) in
+    let listed = c.as_slice.ensures in
     rw c.len.ensures.value
-    (told_written c.args.plan.now c.args.row c.args.buffer.now _ _ whole c.text_length-length.ensures.length _
-    (rw c.len.ensures.value at c.len.ensures.fits) c.if-buffer-length.false c.write_lines.ensures)
+    (told_written c.args.plan.now c.args.row c.args.buffer.now _ _ whole
+    (rw listed.value at (c.text_length-length.ensures.length listed.fits)) _
+    (rw c.len.ensures.value at c.len.ensures.fits) c.if-buffer-length.false
+    (rw c.as_slice-2.ensures.value at c.write_lines.ensures))

@@ -3,6 +3,7 @@ use native.Mathlib.Omega.{arith}
 use mathlib.Core.Path.{sym, ap, ◌∙◌}
 use lib.ListN.{length}
 use lib.Seq.{take_all}
+use Rattle.std.proofs.Common.{length-take-le}
 use Rattle.trees.specs.Text.{text_of}
 use Rattle.trees.proofs.TextLaws.{lines_length, text_none}
 use Rattle.trees.proofs.lines.text_length.Goals as goal
@@ -12,7 +13,8 @@ loop-node-init c = (omega arith, sym (ap length (text_none _)))
 
 pub overflow_add-sum : goal.overflow_add-sum
 overflow_add-sum c =
-    let few = c.as_slice-node-items.ensures.fits in
+    let most = c.min.ensures in
+    let few = length-take-le c.min.result c.args.nodes.now (omega arith) in
     let sum = c.loop-node.invariant.0 in
     let line = c.line_length-sum.ensures.few in
     omega arith
@@ -23,14 +25,16 @@ loop-node-preserved c =
     let line = c.line_length-sum.ensures.few in
     (omega arith, lines_length _ _ l.node-index _ (omega arith) _ _ l.invariant.1 c.line_length-sum.ensures.length)
 
-pub returns : goal.returns
-returns c =
+pub returns-clause-length : goal.returns-clause-length
+returns-clause-length c few =
     let l = c.loop-node in
-    let items = c.as_slice-node-items.ensures in
-    let fits = items.fits in
-    record {
-      length =
-          l.invariant.1
-          ∙ ap (λ ns. length (text_of c.args.plan.now ns)) (take_all l.node-index _ c.loop-node-test.false ∙ items.value);
-      few = omega arith;
-    }
+    let most = c.min.ensures in
+    l.invariant.1
+    ∙ ap (λ ns. length (text_of c.args.plan.now ns))
+    (take_all l.node-index _ c.loop-node-test.false ∙ take_all c.min.result c.args.nodes.now (omega arith))
+
+pub returns-clause-few : goal.returns-clause-few
+returns-clause-few c =
+    let most = c.min.ensures in
+    let few = length-take-le c.min.result c.args.nodes.now (omega arith) in
+    omega (arith, c.loop-node.auto.node-index-end, c.loop-node.invariant.0)

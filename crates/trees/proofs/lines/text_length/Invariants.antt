@@ -7,4 +7,4 @@ use Rattle.trees.proofs.lines.text_length.Given as goal
 
 abbrev pub invariant-loop-node : goal.invariant-loop-node
 invariant-loop-node l =
-    (l.sum ≤ 520 * l.node-index) × (l.sum ≡ length (text_of l.plan (take l.node-index l.node-items)))
+    (l.sum ≤ 520 * l.node-index) × (l.sum ≡ length (text_of l.plan (take l.node-index l.first)))

@@ -29,6 +29,5 @@ loop-node-preserved c =
 pub returns : goal.returns
 returns c room =
     let l = c.loop-node in
-    let v = c.as_slice-node-items.ensures.value in
     let all = take_all l.node-index _ c.loop-node-test.false in
-    (l.invariant.1 (rw v room)).0 ∙ ap (λ ns. written (text_of c.args.plan.now ns) c.args.buffer.now) (all ∙ v)
+    (l.invariant.1 room).0 ∙ ap (λ ns. written (text_of c.args.plan.now ns) c.args.buffer.now) all

@@ -9,6 +9,6 @@ use Rattle.trees.proofs.lines.write_lines.Given as goal
 abbrev pub invariant-loop-node : goal.invariant-loop-node
 invariant-loop-node l =
     (l.at ≤ length l.buffer)
-    × (length (text_of l.plan l.node-items) ≤ length l.fn.buffer
-    → (l.buffer ≡ written (text_of l.plan (take l.node-index l.node-items)) l.fn.buffer)
-    × (l.at ≡ length (text_of l.plan (take l.node-index l.node-items))))
+    × (length (text_of l.plan l.nodes) ≤ length l.fn.buffer
+    → (l.buffer ≡ written (text_of l.plan (take l.node-index l.nodes)) l.fn.buffer)
+    × (l.at ≡ length (text_of l.plan (take l.node-index l.nodes))))

@@ -1,4 +1,4 @@
--- The row number falls at each call; the laws of `Walked` chain what the calls list. Assumes nothing.
+-- The row number falls at each call (`row_falls`); the laws of `Walked` chain what the calls list. Assumes nothing.
 use native.Mathlib.Omega.{arith}
 use mathlib.Core.Path.{◌≡◌, refl, sym, ◌∙◌}
 use Rattle.std.proofs.Common.{rules}
@@ -6,7 +6,7 @@ use Rattle.std.specs.Prelude.{Err}
 use mathlib.Core.List.{[], ◌∷◌}
 use Rattle.book.specs.Lists.{flat}
 use Rattle.trees.proofs.Nodes.{apply_other, choose_other, column_nodes, apply_nodes_law, choose_nodes_law}
-use Rattle.trees.proofs.Walked.{listed_none, deeper, walked_all, walked_past, walked_more, over_top, over_apply, over_choose}
+use Rattle.trees.proofs.Walked.{row_falls, listed_none, deeper, walked_all, walked_past, walked_more, over_top, over_apply, over_choose}
 use Rattle.trees.proofs.walking.+walks.Goals.{list_apply-then-named-row+in_ok-list_apply+in_ok-list_choose, list_apply-else-named-row}
 use Rattle.trees.proofs.walking.+walks.Goals.{list_choose-then-child-row+in_ok-list_apply+in_ok-list_choose, list_choose-else-child-row}
 use Rattle.trees.proofs.walking.+walks.Goals as goal
@@ -31,6 +31,12 @@ list_apply-returns-in_err-list t c deep =
     over_top a.plan.now a.level a.row a.nodes.now.items _ _
     (apply_nodes_law a.plan.now a.level a.row _ _ (sym c.kind-kind.ensures.0 ∙ c.if-kind-ne2.false) refl refl) _ _
     _ out c.in_err-list.ensures
+
+pub list_apply-list_apply-requires : goal.list_apply-list_apply-requires
+list_apply-list_apply-requires t c = ((row_falls _ _ _).0 c.decreases (search rules), tt)
+
+pub list_apply-list_choose-requires : goal.list_apply-list_choose-requires
+list_apply-list_choose-requires t c = ((row_falls _ _ _).0 c.decreases (search rules), tt)
 
 pub list_apply-loop-named-init : goal.list_apply-loop-named-init
 unfolding flat
@@ -108,6 +114,12 @@ list_choose-returns-in_err-list t c deep =
     over_top a.plan.now a.level a.row a.nodes.now.items _ _
     (choose_nodes_law a.plan.now a.level a.row _ _ _ (sym c.kind.ensures.0 ∙ c.if-kind-ne3.false) refl refl refl) _ _
     _ out c.in_err-list.ensures
+
+pub list_choose-list_apply-requires : goal.list_choose-list_apply-requires
+list_choose-list_apply-requires t c = ((row_falls _ _ _).0 c.decreases (search rules), tt)
+
+pub list_choose-list_choose-requires : goal.list_choose-list_choose-requires
+list_choose-list_choose-requires t c = ((row_falls _ _ _).0 c.decreases (search rules), tt)
 
 pub list_choose-loop-child-init : goal.list_choose-loop-child-init
 unfolding flat

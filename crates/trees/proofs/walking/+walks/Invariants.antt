@@ -1,4 +1,4 @@
--- The row number falls at each call. After k rows the row's own node and theirs are listed. Assumes nothing.
+-- The row number falls at each call (`row_falls`). After k rows the row's own node and theirs are listed. Assumes nothing.
 use Prim.Native.Nat.{◌+◌, ◌≤◌}
 use mathlib.Core.Path.{◌≡◌}
 use mathlib.Core.List.{◌∷◌, ◌++◌}

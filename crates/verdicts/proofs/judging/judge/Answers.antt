@@ -23,8 +23,9 @@ returns-clause-answer c =
     let passed = c.in_ok-book.ensures.passed in
     let given = judge_accepted a.book.now a.user a.plan.now passed in
     let same = c.in_ok-book.ensures.bytes in
-    let words = (rw same at c.accesses.ensures) given.plan_accepted in
-    let mask = rw (words, same) at c.broken_by-mask.ensures in
+    let told = rw same at c.in_ok-book.book.told in
+    let words = (rw same at c.accesses-given.ensures) told (given.book_accepted, given.plan_accepted) in
+    let mask = (rw (words, same) at c.broken_by-mask.ensures) told given.book_accepted in
     ap broken (mask ∙ mask_held a.book.now given.book_accepted a.user a.plan.now)
     ∙ sym (judge_answer_law a.book.now a.user a.plan.now passed)
 
