@@ -18,6 +18,7 @@ use Rattle.search.specs.declared.tables.RuleTable.{RuleTable}
 use Rattle.blocked.specs.Few.{after_trials, with_asking, without}
 use Rattle.blocked.specs.Inner.Cells.{in_cell}
 use Rattle.blocked.specs.Inner.Rows.{Given, OpensOf, RowThere, ThirdOf}
+use Rattle.blocked.specs.Inner.Tables.{with_thirds}
 use Rattle.blocked.specs.Inner.Few.{CellsGiven, Dropped, Keeps, OneGiven, ShutOf, Told}
 use Rattle.blocked.specs.declared.tables.Scope.{Scope}
 use Rattle.blocked.proofs.CellLaws.{cell_member, cell_place}
@@ -31,7 +32,7 @@ module _ (t : List RuleTable) (met : List (List ℕ)) (s : Scope) (thirds : List
     (alone : PlacesOf (λ p. in_places s.thirds p && eqb (p / 16) n) thirds)
     (given : CellsGiven t met counts s l m n) where
   abbrev cut : Scope
-  cut = record { firsts = s.firsts; seconds = s.seconds; thirds = thirds }
+  cut = with_thirds s thirds
 
   small : n < 132
   small = given.cells.below.2
@@ -175,10 +176,15 @@ less_one word one q j fits small single =
     go true e h = refl
     go false e h = absurd (false≢true (sym (has_above 64 word j fits (ltb-false j 64 e)) ∙ h))
 
-module _ (t : List RuleTable) (met : List (List ℕ)) (s : Scope) (l m n r counts q before fewer : ℕ) (passes : (ℕ → Bool) → Bool)
-    (given : OneGiven t met counts s l m n) (told : Told t s l m n r counts passes) (keeps : Keeps r counts before)
+module _ (t : List RuleTable) (met : List (List ℕ)) (s : Scope) (thirds : List ℕ)
+    (l m n r counts q before fewer : ℕ) (passes : (ℕ → Bool) → Bool)
+    (given : OneGiven t met counts (with_thirds s thirds) l m n)
+    (told : Told t (with_thirds s thirds) l m n r counts passes) (keeps : Keeps r counts before)
     (bits : (j : ℕ) → has fewer j ≡ (has before j && not (eqb j q))) (other : q ≡ r → ⊥) (cell : Option ℕ)
-    (row : Given t met fewer s → RowThere s l m → ThirdOf t (has fewer) s l m cell) where
+    (row : Given t met fewer (with_thirds s thirds) → RowThere s l m → ThirdOf t (has fewer) (with_thirds s thirds) l m cell) where
+  abbrev beside : Scope
+  beside = with_thirds s thirds
+
   fewer_keeps : Keeps r counts fewer
   fewer_keeps =
       record {
@@ -192,11 +198,11 @@ module _ (t : List RuleTable) (met : List (List ℕ)) (s : Scope) (l m n r count
   unfolding without
   tried = fun_ext (λ j. rw (bits j) (and_exchange (has before j) (not (eqb j r)) (not (eqb j q))))
 
-  third : ThirdOf t (has fewer) s l m cell
+  third : ThirdOf t (has fewer) beside l m cell
   third =
       let cells = given.cells_given.cells in
       row
-      (fewer_prepared t met s (has fewer) (has counts) (λ j k. fewer_keeps.within j) given.cells_given.prepared)
+      (fewer_prepared t met beside (has fewer) (has counts) (λ j k. fewer_keeps.within j) given.cells_given.prepared)
       (record { below = (cells.below.0, cells.below.1); first = cells.first; second = cells.second })
 
   pub tried_shut : (w : ℕ) → cell ≡ Some w → Dropped passes r counts q before fewer
@@ -206,7 +212,7 @@ module _ (t : List RuleTable) (met : List (List ℕ)) (s : Scope) (l m n r count
       let passed : passes (without (without (has before) r) q) ≡ true =
       rw tried
       (told.shut (without (has fewer) r)
-      (subst (λ (rules : ℕ → Bool). ShutOf t rules s l m n) (sym (counted r counts fewer fewer_keeps)) (rw here at shut))) in
+      (subst (λ (rules : ℕ → Bool). ShutOf t rules beside l m n) (sym (counted r counts fewer fewer_keeps)) (rw here at shut))) in
       record {
         keeps = fewer_keeps;
         trial = trial_gone passes q (without (has before) r) passed ∙ ap (after_trials passes q) tried;
@@ -218,7 +224,7 @@ module _ (t : List RuleTable) (met : List (List ℕ)) (s : Scope) (l m n r count
       let failed : passes (without (without (has before) r) q) ≡ false =
       rw tried
       (told.opens (without (has fewer) r)
-      (subst (λ (rules : ℕ → Bool). OpensOf t rules s l m n) (sym (counted r counts fewer fewer_keeps))
+      (subst (λ (rules : ℕ → Bool). OpensOf t rules beside l m n) (sym (counted r counts fewer fewer_keeps))
       ((rw e at third) n cells))) in
       record { keeps = keeps; trial = trial_kept passes q (without (has before) r) failed }
 

@@ -70,7 +70,7 @@ fn causes(book: &Book, rule: u8) -> Option<u32>
     let mut tables = Tables::empty();
     let denial = denied(&mut tables, book, rule)?;
     let rules = covering(&tables.covered, denial.user);
-    let found = few(&mut tables, rule, rules, denial);
+    let found = few(&tables, rule, rules, denial);
     // Sets are words of 64 bits, and a book has 32 rules: the cut takes nothing away.
     Some((found % 4294967296) as u32)
 }

@@ -68,14 +68,21 @@ fn tried(tables: &Tables, row: Row, rules: u64, k: u8, places: &mut [u64; 33]) -
     remove_open(places, &slices, &tables.met, &masks, &pairs)
 }
 
-/// The third places that are left, by whole cells, when every place of the row's first cell has been
-/// tried: these stay closed. The first to open something is tried first the next time.
-pub fn closed_row(tables: &Tables, row: Row, rules: u64, hint: &mut u8) -> [u64; 33]
+/// Of some third places those that are left, by whole cells, when every place of the row's first cell
+/// has been tried: these stay closed. The first to open something is tried first the next time.
+pub fn closed_row(
+    tables: &Tables,
+    row: Row,
+    rules: u64,
+    thirds: &[u64; 33],
+    hint: &mut u8,
+) -> [u64; 33]
     ensures { row.first < past_cells → row.second < past_cells
-        → PreparedBy tables.now (has rules) → LeftBy tables.now row rules result }
+        → PreparedBy tables.now (has rules) thirds.now
+        → LeftBy tables.now row rules thirds.now result }
 {
     let from = *hint % 16;
-    let mut places = tables.scope.thirds;
+    let mut places = *thirds;
     let mut opener: Option<u8> = None;
     for j in 0..16u8 {
         if is_empty(&places) {

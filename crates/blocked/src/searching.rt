@@ -7,13 +7,19 @@ use crate::rows::closed_row;
 use crate::tables::{Row, Tables};
 use search::places::first_from;
 
-/// The first third cell that some rules close in a row. The search begins where the hint says, and
-/// leaves there where to begin the next one; no promise speaks of it.
-pub fn closed_third(tables: &Tables, row: Row, rules: u64, hint: &mut u8) -> Option<usize>
-    ensures { PreparedBy tables.now (has rules) → ThereBy tables.now row
-        → ThirdBy tables.now row (has rules) result }
+/// The first cell of some third places that some rules close in a row. The search begins where the
+/// hint says, and leaves there where to begin the next one; no promise speaks of it.
+pub fn closed_third(
+    tables: &Tables,
+    row: Row,
+    rules: u64,
+    thirds: &[u64; 33],
+    hint: &mut u8,
+) -> Option<usize>
+    ensures { PreparedBy tables.now (has rules) thirds.now → ThereBy tables.now row
+        → ThirdBy tables.now row (has rules) thirds.now result }
 {
-    let rest = closed_row(tables, row, rules, hint);
+    let rest = closed_row(tables, row, rules, thirds, hint);
     let x = first_from(&rest, 0)?;
     Some(x / 16)
 }

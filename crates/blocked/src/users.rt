@@ -84,7 +84,7 @@ fn open_under(tables: &Tables, row: Row, rules: u64, hint: &mut u8) -> Option<u6
         → IfSome result (λ some. OpenBy tables.now row some) }
 {
     let some = tables.all & rules;
-    match closed_third(tables, row, some, hint) {
+    match closed_third(tables, row, some, &tables.scope.thirds, hint) {
         Some(_) => None,
         None => Some(some),
     }
@@ -143,7 +143,7 @@ fn closed_to(tables: &Tables, row: Row, u: u8, rules: u64, trials: &mut Trials) 
     if settled(&trials.opened, own) {
         return None;
     }
-    match closed_third(tables, row, own, &mut trials.hint) {
+    match closed_third(tables, row, own, &tables.scope.thirds, &mut trials.hint) {
         Some(third) => Some(third),
         None => {
             add_rules(tables, row, u, own, trials);

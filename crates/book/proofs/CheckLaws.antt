@@ -2,7 +2,7 @@
 -- Assumes nothing.
 use Prim.Native.Nat.{ℕ}
 use native.Mathlib.Omega.{arith}
-use mathlib.Core.Path.{◌≡◌, refl, sym}
+use mathlib.Core.Path.{◌≡◌, refl, sym, ◌∙◌}
 use mathlib.Core.Bool.{true}
 use mathlib.Core.List.{List, [], ◌∷◌, ◌++◌}
 use lib.ListN.{length}
@@ -51,28 +51,32 @@ module _ (book : List ℕ) (r : Refusal) (outcome : Outcome) where
       (append_refused (length_tests book ++ checks) kinds r (append_refused (length_tests book) checks r h))
 
   pub checks_stopped :
-      outcome ≡ Err r
+      (found : Outcome)
+      → outcome ≡ Err r
+      → found ≡ Err r
+      → found ≡ first_failing (flat (check_tests book) (up_to (block_count book)))
       → length_holds (length book) ≡ true
-      → first_failing (flat (check_tests book) (up_to (block_count book))) ≡ Err r
       → outcome ≡ first_failing (book_tests book)
   unfolding book_tests length_tests block_by_block first_failing
-  checks_stopped e long h =
+  checks_stopped found e is h long =
       list_stopped (length_tests book ++ checks ++ kinds) contents r outcome e
       (append_refused (length_tests book ++ checks) kinds r
-      (sym (list_went_on (length_tests book) checks (Err r) (rw long) (sym h))))
+      (sym (list_went_on (length_tests book) checks (Err r) (rw long) (sym is ∙ h))))
 
   pub kinds_stopped :
-      outcome ≡ Err r
-      → length_holds (length book) ≡ true
+      (found : Outcome)
+      → outcome ≡ Err r
+      → found ≡ Err r
+      → found ≡ first_failing (flat (kind_tests book) (up_to (block_count book)))
       → Passes (flat (check_tests book) (up_to (block_count book)))
-      → first_failing (flat (kind_tests book) (up_to (block_count book))) ≡ Err r
+      → length_holds (length book) ≡ true
       → outcome ≡ first_failing (book_tests book)
   unfolding book_tests length_tests block_by_block first_failing
-  kinds_stopped e long p h =
+  kinds_stopped found e is h p long =
       list_stopped (length_tests book ++ checks ++ kinds) contents r outcome e
       (sym
       (list_went_on (length_tests book ++ checks) kinds (Err r)
-      (sym (list_went_on (length_tests book) checks (Ok tt) (rw long) (sym p))) (sym h)))
+      (sym (list_went_on (length_tests book) checks (Ok tt) (rw long) (sym p))) (sym is ∙ h)))
 
 pub contents_left :
     (book : List ℕ) (outcome : Outcome)

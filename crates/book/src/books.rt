@@ -1,4 +1,4 @@
-//! An accepted book: bytes that Book check has passed, with the words of its head.
+//! An accepted book: bytes that Book check refuses nothing of, with the words of its head.
 ghost use Rattle.std.specs.Prelude.{◌≡◌, Err, IfErr, IfOk};
 ghost use Rattle.book.specs.Blocks.{head_of, rule_at, rule_count};
 ghost use Rattle.book.specs.Tests.{first_failing};

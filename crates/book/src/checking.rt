@@ -99,6 +99,7 @@ fn test_blocks(book: &[u8], words: &Words, n: u8) -> Result<(), Refusal>
     first_refusal(n, |i| test_block(book, words, i))
 }
 
+#[tactic(auto, using(crate::proofs::CheckLaws::checks_stopped, crate::proofs::CheckLaws::kinds_stopped, crate::proofs::CheckLaws::contents_left, crate::proofs::Answers::last_passed))]
 /// The tests 1 to 9, by the words of the book's head: over all blocks the checks, then the kinds, then
 /// what the blocks hold.
 pub fn test_book(book: &[u8], words: &Words) -> Result<(), Refusal>

@@ -281,8 +281,15 @@ pub extern "C" fn pspec_drop(
     pack(drop_hold(book, user, number, ledger, tally, holds))
 }
 
-/// Arrive.
+/// What Arrive and Depart answer, as one number: the new mask whole, or the refusal.
 #[tactic(auto, unfolding(crate::specs::Packing::edit_packed))]
+fn pack_edit(edited: Result<u32, Refusal>) -> u64
+    ensures { result ≡ edit_packed edited }
+{
+    pack(edited.map(|mask| u64::from(mask)))
+}
+
+/// Arrive.
 #[unsafe(no_mangle)]
 pub extern "C" fn pspec_arrive(
     blocks: &mut [u8; 18432],
@@ -299,11 +306,10 @@ pub extern "C" fn pspec_arrive(
         (record { blocks = blocks.new; rules = rules.new; marks = marks.new })
         block.now result }
 {
-    pack(arrive(blocks, rules, marks, block))
+    pack_edit(arrive(blocks, rules, marks, block))
 }
 
 /// Depart.
-#[tactic(auto, unfolding(crate::specs::Packing::edit_packed))]
 #[unsafe(no_mangle)]
 pub extern "C" fn pspec_depart(
     blocks: &mut [u8; 18432],
@@ -320,7 +326,7 @@ pub extern "C" fn pspec_depart(
         (record { blocks = blocks.new; rules = rules.new; marks = marks.new })
         rule result }
 {
-    pack(depart(blocks, rules, marks, rule))
+    pack_edit(depart(blocks, rules, marks, rule))
 }
 
 /// Tree.

@@ -42,6 +42,7 @@ fn gathered(plan: &[u8], reach: &[[u64; 17]; 64], n: u8) -> [u64; 32]
     flat(&words)
 }
 
+// Bytes and words and no `Book`: a type asks more of callers than a premise does.
 /// The accesses of an accepted plan for an accepted book, by the words of its head.
 pub fn accesses(book: &[u8], words: &Words, plan: &[u8]) -> [u64; 32]
     ensures { HeadWords (head_of book.now) words.now

@@ -90,7 +90,8 @@ pub fn shown_plan(head: &[u8], places: Places) -> [u8; 36]
 pub fn write_plan(buffer: &mut [u8], plan: &[u8; 36], count: usize)
     ensures { PlanCopied plan.now count buffer.old buffer.new }
 {
-    if count <= 36 && count <= buffer.len() {
+    let count = count.min(plan.len());
+    if count <= buffer.len() {
         buffer[..count].copy_from_slice(&plan[..count]);
     }
 }

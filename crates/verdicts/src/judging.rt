@@ -27,6 +27,7 @@ fn user_breaks(words: &Words, rule: &[u8], user: u32, accesses: &[u64; 32]) -> b
     contains(covered, user as usize) && breaks(words, rule, accesses)
 }
 
+// Bytes and words and no `Book`: a type asks more of callers than a premise does.
 /// The mask of the rules of an accepted book that a user and a set of accesses break, by the words of
 /// its head.
 pub fn broken_by(book: &[u8], words: &Words, user: u32, accesses: &[u64; 32]) -> u32

@@ -8,12 +8,17 @@ use Rattle.blocked.specs.Inner.Rows.{AllOpen, AskedUser, DeniedIn, Given, RowGiv
 use Rattle.blocked.specs.Inner.Users.{DeniedFirst, RowsUpTo}
 use Rattle.blocked.specs.Inner.Few.{CellsGiven, OneGiven, Told}
 use Rattle.blocked.specs.declared.tables.Row.{Row}
+use Rattle.blocked.specs.declared.tables.Scope.{Scope}
 use Rattle.blocked.specs.declared.tables.Tables.{Tables}
 use Rattle.blocked.specs.declared.users.Denial.{Denial}
 
--- what a search is given: for some rules, for all of them, in a row
-abbrev pub PreparedBy : Tables → (rules : ℕ → Bool) → Type 0
-PreparedBy t rules = Prepared t.rules t.met rules t.scope.seconds t.scope.thirds
+-- a scope with other third places: those of one cell, where its rules are dropped by trial
+abbrev pub with_thirds : Scope → (thirds : List ℕ) → Scope
+with_thirds s thirds = record { firsts = s.firsts; seconds = s.seconds; thirds = thirds }
+
+-- what a search is given: for some rules and third places, for all of them, in a row
+abbrev pub PreparedBy : Tables → (rules : ℕ → Bool) → (thirds : List ℕ) → Type 0
+PreparedBy t rules thirds = Prepared t.rules t.met rules t.scope.seconds thirds
 
 abbrev pub ReadyBy : Tables → Type 0
 ReadyBy t = Ready t.rules t.met t.all t.scope.seconds t.scope.thirds t.covered
@@ -27,17 +32,17 @@ RowBy t row = RowGiven t.rules t.met t.all t.scope row.first row.second
 abbrev pub ThereBy : Tables → Row → Type 0
 ThereBy t row = RowThere t.scope row.first row.second
 
--- the third places of a row
+-- some third places of a row
 abbrev pub TriedBy : Tables → Row → (rules k : ℕ) → (before after : List ℕ) → Type 0
 TriedBy t row rules k before after =
     Tried t.rules rules t.scope.firsts t.scope.seconds row.first row.second k before after
 
-abbrev pub LeftBy : Tables → Row → (rules : ℕ) → List ℕ → Type 0
-LeftBy t row rules rest =
-    Left t.rules rules t.scope.firsts t.scope.seconds t.scope.thirds row.first row.second 16 rest
+abbrev pub LeftBy : Tables → Row → (rules : ℕ) → (thirds rest : List ℕ) → Type 0
+LeftBy t row rules thirds rest =
+    Left t.rules rules t.scope.firsts t.scope.seconds thirds row.first row.second 16 rest
 
-abbrev pub ThirdBy : Tables → Row → (rules : ℕ → Bool) → Option ℕ → Type 0
-ThirdBy t row rules third = ThirdOf t.rules rules t.scope row.first row.second third
+abbrev pub ThirdBy : Tables → Row → (rules : ℕ → Bool) → (thirds : List ℕ) → Option ℕ → Type 0
+ThirdBy t row rules thirds third = ThirdOf t.rules rules (with_thirds t.scope thirds) row.first row.second third
 
 -- sets of rules that leave a row open
 abbrev pub OpenBy : Tables → Row → (rules : ℕ) → Type 0
@@ -63,8 +68,9 @@ FirstBy t r found = DeniedFirst t.rules r t.scope.firsts t.scope.seconds t.scope
 abbrev pub CellsBy : Tables → Denial → (counts : ℕ) → Type 0
 CellsBy t d counts = CellsGiven t.rules t.met counts t.scope d.first d.second d.third
 
-abbrev pub ToldBy : Tables → Row → (n r counts : ℕ) → ((ℕ → Bool) → Bool) → Type 0
-ToldBy t row n r counts passes = Told t.rules t.scope row.first row.second n r counts passes
+abbrev pub ToldBy : Tables → Row → (thirds : List ℕ) → (n r counts : ℕ) → ((ℕ → Bool) → Bool) → Type 0
+ToldBy t row thirds n r counts passes =
+    Told t.rules (with_thirds t.scope thirds) row.first row.second n r counts passes
 
-abbrev pub OneBy : Tables → Row → (n counts : ℕ) → Type 0
-OneBy t row n counts = OneGiven t.rules t.met counts t.scope row.first row.second n
+abbrev pub OneBy : Tables → Row → (thirds : List ℕ) → (n counts : ℕ) → Type 0
+OneBy t row thirds n counts = OneGiven t.rules t.met counts (with_thirds t.scope thirds) row.first row.second n

@@ -1,13 +1,12 @@
 -- The number says what N11 asks (`arrive_promised`). Assumes nothing.
-use Rattle.capi.specs.Packing.{edit_packed, number_value}
-use Rattle.capi.proofs.PackedLaws.{packs}
+use mathlib.Core.Path.{ap, ◌∙◌}
+use Rattle.capi.specs.Packing.{edit_packed}
 use Rattle.capi.proofs.Edits.{arrive_promised}
 use Rattle.capi.proofs.pspec_arrive.Goals as goal
 
 pub returns-clause-says : goal.returns-clause-says
-unfolding edit_packed
 returns-clause-says c =
     let a = c.args in
     let said = c.arrive.ensures in
     arrive_promised a.blocks.now a.rules.now a.marks.now a.block.now _ _ _ _
-    (packs number_value c.arrive.result _ c.pack.result c.pack.ensures said.answer) said.blocks said.rules said.marks said.says said.continues
+    (c.pack_edit.ensures ∙ ap edit_packed said.answer) said.blocks said.rules said.marks said.says said.continues

@@ -19,4 +19,4 @@ returns c l =
     let rules = c.covering-rules in
     user_found book.bytes.now book.accepted a.rule l found.new.tables (found.ensures.filled l) c.in_ok-denial.denial
     found.result c.in_ok-denial.was (found.ensures.first l) rules.result rules.ensures c.few-found.result
-    c.few-found.ensures.left
+    c.few-found.ensures

@@ -19,7 +19,7 @@ returns-in-Some c passes n counts low given told keeps =
     let t = a.tables.now in
     let one = c.single in
     let fewer = bit_and a.rules ((2 ^ 64 - 1) - one.result) in
-    tried_shut t.rules t.met t.scope a.row.first a.row.second n a.r counts a.q a.rules fewer passes given told keeps
+    tried_shut t.rules t.met t.scope a.thirds.now a.row.first a.row.second n a.r counts a.q a.rules fewer passes given told keeps
     (λ j. less_one a.rules one.result a.q j (search rules) (search rules) (rw c.from-2.ensures at one.ensures))
     (tried_other a.r a.q c.contains.result c.if-q-r.false)
     c.closed_third.result c.closed_third.ensures _ c.in-Some.is
@@ -30,7 +30,7 @@ returns-in-None c passes n counts low given told keeps =
     let t = a.tables.now in
     let one = c.single in
     let fewer = bit_and a.rules ((2 ^ 64 - 1) - one.result) in
-    tried_open t.rules t.met t.scope a.row.first a.row.second n a.r counts a.q a.rules fewer passes given told keeps
+    tried_open t.rules t.met t.scope a.thirds.now a.row.first a.row.second n a.r counts a.q a.rules fewer passes given told keeps
     (λ j. less_one a.rules one.result a.q j (search rules) (search rules) (rw c.from-2.ensures at one.ensures))
     (tried_other a.r a.q c.contains.result c.if-q-r.false)
     c.closed_third.result c.closed_third.ensures c.in-None.is

@@ -23,15 +23,15 @@ loop-q-preserved c =
     turns_more t.rules t.met _ d.first d.second d.third a.r a.rules (loop.q - 1) loop.q loop.left c.dropped-left.result
     (omega arith) (omega arith) loop.invariant c.dropped-left.ensures
 
-pub returns-clause-left : goal.returns-clause-left
-returns-clause-left c passes given asking told q =
+pub returns : goal.returns
+returns c passes given asking told q =
     let a = c.args in
     let t = a.tables.now in
     let d = a.denial in
     let one = c.single in
     let loop = c.loop-q in
     let past = c.loop-q-test.false in
-    let thirds = c.only_cell-tables in
+    let thirds = c.only_cell-thirds in
     let alone = thirds.ensures given.cells.below.2 in
     let turned =
     loop.invariant passes

@@ -12,7 +12,7 @@ loop-j-init c =
     let t = a.tables.now in (
       search rules,
       λ ll lm given.
-          left_start t.rules a.rules t.scope.firsts t.scope.seconds t.scope.thirds a.row.first a.row.second _,
+          left_start t.rules a.rules t.scope.firsts t.scope.seconds a.thirds.now a.row.first a.row.second _,
     )
 
 pub loop-j-preserved : goal.loop-j-preserved
@@ -23,10 +23,10 @@ loop-j-preserved c =
       omega arith,
       λ ll lm given.
           let old = loop.invariant.1 ll lm given in
-          left_more t.rules a.rules t.scope.firsts t.scope.seconds t.scope.thirds a.row.first a.row.second _
+          left_more t.rules a.rules t.scope.firsts t.scope.seconds a.thirds.now a.row.first a.row.second _
           loop.j loop.places old c.tried-opens.new.places
           (c.tried-opens.ensures ll lm (omega arith)
-          (prepared_places t.rules t.met (has a.rules) t.scope.seconds t.scope.thirds
+          (prepared_places t.rules t.met (has a.rules) t.scope.seconds a.thirds.now
           loop.places old.left.fewer given)),
     )
 
@@ -37,8 +37,8 @@ returns c ll lm given =
     let loop = c.loop-j in
     let old = loop.invariant.1 ll lm given in
     elim c.loop-j-test.branch [
-      | else-loop-j-test w ↦ left_end t.rules a.rules t.scope.firsts t.scope.seconds t.scope.thirds a.row.first a.row.second _
+      | else-loop-j-test w ↦ left_end t.rules a.rules t.scope.firsts t.scope.seconds a.thirds.now a.row.first a.row.second _
           loop.j loop.places old w.loop-j-test.false
-      | then-loop-j-test+then-is_empty w ↦ left_empty t.rules a.rules t.scope.firsts t.scope.seconds t.scope.thirds a.row.first a.row.second _
+      | then-loop-j-test+then-is_empty w ↦ left_empty t.rules a.rules t.scope.firsts t.scope.seconds a.thirds.now a.row.first a.row.second _
           loop.j loop.places old (w.is_empty.ensures w.if-is_empty.true)
     ]

@@ -10,6 +10,6 @@ invariant-loop-j l =
     (l.j ≤ 16)
     × (l.row.first < 132
     → l.row.second < 132
-    → PreparedBy l.tables (has l.rules)
+    → PreparedBy l.tables (has l.rules) l.thirds
     → LeftFrom l.tables.rules l.rules l.tables.scope.firsts l.tables.scope.seconds
-    l.tables.scope.thirds l.row.first l.row.second l.from l.j l.places)
+    l.thirds l.row.first l.row.second l.from l.j l.places)

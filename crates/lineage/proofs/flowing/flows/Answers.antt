@@ -62,7 +62,8 @@ returns-in_err-ensure-clause-words c =
 
 pub copy_from_slice-requires : goal.copy_from_slice-requires
 copy_from_slice-requires c =
-    eqb-true (length c.args.words.now) 32 (last_passed _ _ (sym c.ensure.ensures ∙ c.in_ok-ensure.was)) ∙ search rules
+    let long = eqb-true (length c.args.words.now) 32 (last_passed _ _ (sym c.ensure.ensures ∙ c.in_ok-ensure.was)) in
+    search rules
 
 pub returns-clause-answer : goal.returns-clause-answer
 unfolding words_tests
